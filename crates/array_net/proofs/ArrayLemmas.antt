@@ -13,6 +13,7 @@ use Rattle.net_core.specs.Ports.{port_list}
 use Rattle.net_core.specs.Value.{word, bit, Env, value, apply, conditional, part_select}
 use Rattle.net_core.specs.Clock.{Stored, done, edge}
 use Rattle.net_core.specs.Width.{Scope, width_of, statement_typed}
+use Rattle.net_core.proofs.BitLaws.{and_bits}
 use Rattle.block_core.specs.design_rules.FormedSyntax.{right_spelled, tree_spelled, statement_spelled, statements_depth, depth}
 use Rattle.block_core.specs.ProductBlocks.Alone.{wire_flat}
 use Rattle.block_core.specs.declared.name.Name.{Name}
@@ -21,6 +22,8 @@ use Rattle.block_core.specs.Blocks.{BlockTree, BlockWireTree, Whole, Among, firs
 use Rattle.block_core.specs.Parts.{Solve, Within}
 use Rattle.block_core.specs.Order.{IsBefore, InOrder}
 use Rattle.block_core.specs.Formed.{names_scope, name_width, block_memories, block_wires, block_wires_typed, IsTypedBlock, StatementReads, IsThere}
+use Rattle.block_core.proofs.list_laws_laws.BoolLaws.{and_is}
+use Rattle.block_core.proofs.OrderLaws.{still_before}
 use Rattle.xdp_maps.specs.declared.decl.MapDecl.{MapDecl}
 use Rattle.xdp_maps.specs.declared.decl.MapKind.TheVariants.{Array}
 use Rattle.xdp_maps.specs.Contents.{IsWithinLimits}
@@ -33,7 +36,7 @@ use Rattle.hazard_core.specs.Commits.{word_count, word_at as byte_word, word_as,
 use Rattle.frame_net.specs.Frames.{word_at}
 use Rattle.frame_net.specs.GatherNets.{net, constant}
 use Rattle.frame_net.specs.Stores.{Store, widths_memory, store_statements}
-use Rattle.frame_net.proofs.FormLaws.{and_is, wire_is, still_before}
+use Rattle.frame_net.proofs.FormLaws.{wire_is}
 use Rattle.frame_net.proofs.StoreLaws.{in_turn, none_stored, registers_stay, lengths_stay, widths_are, AreStoresTyped, stores_typed, stores_read, stores_within, stores_deep, stores_placed, stores_pass}
 use Rattle.array_net.specs.declared.words.WordNets.{WordNets}
 use Rattle.array_net.specs.declared.block.MapNets.{MapNets}
@@ -43,7 +46,7 @@ use Rattle.array_net.specs.Hosts.{SeesHost, SeesMemories, named_word, written_ta
 use Rattle.array_net.specs.Array.{StoresArray, IsZeroed, with_value, AsksArray, IsArray}
 use Rattle.array_net.specs.ArrayNets.{names_slot, has_word, chosen_index, array_wires, array_statement, array_block}
 use Rattle.array_net.proofs.WordLaws.{word_there, word_zero, length_stays}
-use Rattle.array_net.proofs.WordStoreLaws.{select_is, choice_is, low_part, and_bits, shut, count_stores, store_of, words_typed, words_there, words_spelled, stores_flat, words_flat, words_off, words_unnamed, IsTaken, operation_takes, host_takes, words_after, asked_at}
+use Rattle.array_net.proofs.WordStoreLaws.{select_is, choice_is, low_part, shut, count_stores, store_of, words_typed, words_there, words_spelled, stores_flat, words_flat, words_off, words_unnamed, IsTaken, operation_takes, host_takes, words_after, asked_at}
 use Rattle.array_net.proofs.WordMemoryLaws.{memory_at, count_memories, memories_are_fit, first_sizes, first_at}
 use Rattle.array_net.proofs.HostLaws.{slot_named}
 use Rattle.array_net.proofs.WordReadLaws.{shown_value, read_width, read_reads, read_depth, read_apart, read_flat, read_other, read_here}
@@ -175,23 +178,23 @@ module _ {P : Type 0} (p : P) (map : ℕ) (d : MapDecl) (bits : ℕ) (nets : Map
   word_is : (a : Access) (t u : Bool) → (a.map == map && nat_lt a.index d.cap) ≡ t → nat_lt a.word (word_count d.value) ≡ u → named_word map d a ≡ (if t then (if u then Value a.word else Nothing) else Nothing)
   word_is a t u e f = (λ i. if e i then word_as (kind i) d a.word else Nothing) ∙ ap (λ b. if t then (if b then Value a.word else Nothing) else Nothing) f
 
-  either : (calm : Bool) → (calm || true) ≡ true
+  either : (idle : Bool) → (idle || true) ≡ true
   either true = refl
   either false = refl
 
-  word_allowed : (v : Env (Name P)) (s : Stored) (slots : List Slot) (a : Access) (number : ℕ) (calm : Bool) → StoresArray d bits slots s → SeesHost v a number → value v (has_word map d) ≡ bit (may_write calm (slot_at slots a.index) (named_word map d a))
-  word_allowed v s slots a number calm t sees =
+  word_allowed : (v : Env (Name P)) (s : Stored) (slots : List Slot) (a : Access) (number : ℕ) (idle : Bool) → StoresArray d bits slots s → SeesHost v a number → value v (has_word map d) ≡ bit (may_write idle (slot_at slots a.index) (named_word map d a))
+  word_allowed v s slots a number idle t sees =
       (λ i. apply And (slot_named v map d.cap a number limits.cap_some sees i) (apply Less (sees.number_of_word i) (word 4 (word_count d.value)))) ∙ and_bits (a.map == map && nat_lt a.index d.cap) (nat_lt a.word (word_count d.value))
       ∙ by_test (a.map == map && nat_lt a.index d.cap) (nat_lt a.word (word_count d.value)) refl refl
     where
-      of_word : (w : HostWord) → named_word map d a ≡ w → bit (may_write calm (slot_at slots a.index) w) ≡ bit (may_write calm (slot_at slots a.index) (named_word map d a))
-      of_word w e = ap (λ x. bit (may_write calm (slot_at slots a.index) x)) (sym e)
+      of_word : (w : HostWord) → named_word map d a ≡ w → bit (may_write idle (slot_at slots a.index) w) ≡ bit (may_write idle (slot_at slots a.index) (named_word map d a))
+      of_word w e = ap (λ x. bit (may_write idle (slot_at slots a.index) x)) (sym e)
 
-      by_test : (x u : Bool) → (a.map == map && nat_lt a.index d.cap) ≡ x → nat_lt a.word (word_count d.value) ≡ u → bit (x && u) ≡ bit (may_write calm (slot_at slots a.index) (named_word map d a))
+      by_test : (x u : Bool) → (a.map == map && nat_lt a.index d.cap) ≡ x → nat_lt a.word (word_count d.value) ≡ u → bit (x && u) ≡ bit (may_write idle (slot_at slots a.index) (named_word map d a))
       by_test true true e f =
           let g = is_slot (a.map == map) (nat_lt a.index d.cap) e in
           let l : a.index < d.cap = grind (arith, nat_tests) in
-          ap bit (sym (ap (λ b. calm || b) (t.used a.index l) ∙ either calm)) ∙ of_word (Value a.word) (word_is a true true e f)
+          ap bit (sym (ap (λ b. idle || b) (t.used a.index l) ∙ either idle)) ∙ of_word (Value a.word) (word_is a true true e f)
       by_test true false e f = of_word Nothing (word_is a true false e f)
       by_test false u e f = of_word Nothing (word_is a false u e f)
 
@@ -302,21 +305,21 @@ module _ {P : Type 0} (p : P) (map : ℕ) (d : MapDecl) (bits : ℕ) (nets : Map
                 Past (word_is a true false e f) (named ∙ ap bit e) l m
             by_test false e u f = Elsewhere (word_is a false u e f) (named ∙ ap bit e)
 
-        host_stores : (calm : Bool) → v.net nets.commits ≡ bit false → v.net nets.writes ≡ bit true → StoresArray d bits (written_table calm (named_word map d a) slots a.index number) (done v (array_statement p d nets words) s)
-        host_stores calm c g = by naming
+        host_stores : (idle : Bool) → v.net nets.commits ≡ bit false → v.net nets.writes ≡ bit true → StoresArray d bits (written_table idle (named_word map d a) slots a.index number) (done v (array_statement p d nets words) s)
+        host_stores idle c g = by naming
           where
-            as_word : (w : HostWord) → named_word map d a ≡ w → StoresArray d bits (written_table calm w slots a.index number) (done v (array_statement p d nets words) s)
-                → StoresArray d bits (written_table calm (named_word map d a) slots a.index number) (done v (array_statement p d nets words) s)
-            as_word w e h = subst (λ x. StoresArray d bits (written_table calm x slots a.index number) (done v (array_statement p d nets words) s)) (sym e) h
+            as_word : (w : HostWord) → named_word map d a ≡ w → StoresArray d bits (written_table idle w slots a.index number) (done v (array_statement p d nets words) s)
+                → StoresArray d bits (written_table idle (named_word map d a) slots a.index number) (done v (array_statement p d nets words) s)
+            as_word w e h = subst (λ x. StoresArray d bits (written_table idle x slots a.index number) (done v (array_statement p d nets words) s)) (sym e) h
 
-            by : Naming → StoresArray d bits (written_table calm (named_word map d a) slots a.index number) (done v (array_statement p d nets words) s)
+            by : Naming → StoresArray d bits (written_table idle (named_word map d a) slots a.index number) (done v (array_statement p d nets words) s)
             by (Elsewhere e n) = as_word Nothing e (subst (StoresArray d bits slots) (sym (unchanged c (gate_is true false g n))) t)
             by (Past e n l m) =
                 as_word Nothing e (subst (StoresArray d bits slots)
                 (sym (after_is ∙ none_stored v stores 0 s (words_unnamed nets.commits (name.Wire p 2) (name.Wire p 1) 0 d.value v a.word true 0 words c (gate_is true true g n) sees.number_of_word (λ k o. omega (arith, count))))) t)
             by (Names e n l m) =
                 let x : Slot = written_word (slot_at slots a.index) (Value a.word) number in
-                let may : (calm || (slot_at slots a.index).used) ≡ true = ap (λ b. calm || b) (t.used a.index l) ∙ either calm in
+                let may : (idle || (slot_at slots a.index).used) ≡ true = ap (λ b. idle || b) (t.used a.index l) ∙ either idle in
                 let inside : 8 * a.word < length (slot_at slots a.index).value = omega (arith, t.lengths a.index l, word_there d.value a.word m) in
                 let small : a.index < 2 ^ bits = omega arith in
                 let index : v.net (name.Wire p 1) ≡ word bits a.index =
@@ -361,7 +364,7 @@ module _ {P : Type 0} (p : P) (map : ℕ) (d : MapDecl) (bits : ℕ) (nets : Map
     first = first_stores;
     stays = λ v s solved c g. unchanged v s solved c (gate_off v s solved g);
     commits = λ v s slots n new solved t a. operation_stores v s solved slots t n new a;
-    written = λ v s slots a number calm solved t sees c g. host_stores v s solved slots t a number sees calm c g;
+    written = λ v s slots a number idle solved t sees c g. host_stores v s solved slots t a number sees idle c g;
     allows = word_allowed;
     loads = λ v s slots index n j t sees e l m. shown_value p bits 0 d.value some most v s d.cap (λ k. (slot_at slots k).value) j n index sees t.words (omega (arith, memory_count s slots t)) m l e;
     shows = λ v s slots a number solved t sees memories. host_shown v s solved slots t a number sees memories;

@@ -5,11 +5,11 @@ use Rattle.std.proofs.lemmas.Bool.{le-leb}
 use Rattle.std.proofs.lemmas.Bool.Decides.{nat_tests}
 use Rattle.net_core.specs.declared.tree.Op.TheVariants.{And, LessEqual}
 use Rattle.net_core.specs.Value.{word, bit, Env, value, apply}
+use Rattle.net_core.proofs.BitLaws.{and_bits}
 use Rattle.block_core.specs.declared.name.Name.{Name}
 use Rattle.hazard_core.specs.declared.access.Access.{Access}
 use Rattle.array_net.specs.Hosts.{SeesHost}
 use Rattle.array_net.specs.ArrayNets.{names_slot}
-use Rattle.array_net.proofs.WordStoreLaws.{and_bits}
 
 below_cap : (n cap : ℕ) → 1 ≤ cap → nat_le n (cap - 1) ≡ nat_lt n cap
 below_cap n cap some = by_test (nat_lt n cap) refl

@@ -1,36 +1,21 @@
 -- Words of bytes, and bytes in which one is written.
-use Rattle.std.specs.Prelude.{◌≡◌, ◌≢◌, ℕ, zero, suc, ◌+◌, ◌-◌, ◌*◌, ◌/◌, ◌%◌, ◌^◌, ◌<◌, ◌≤◌, nat_le, min, Bool, true, false, List, ◌++◌, length, take, drop, replicate, slice_index}
-use Rattle.std.proofs.Common.{refl, sym, ap, ◌∙◌, arith, ◌⊎◌, inl, inr, div-one, append_assoc}
+use Rattle.std.specs.Prelude.{◌≡◌, ◌≢◌, ℕ, ◌+◌, ◌-◌, ◌*◌, ◌%◌, ◌^◌, ◌<◌, ◌≤◌, nat_le, min, Bool, true, false, List, ◌++◌, length, take, drop, replicate, slice_index}
+use Rattle.std.proofs.Common.{refl, sym, ap, ◌∙◌, arith, ◌⊎◌, inl, inr, append_assoc}
 use Rattle.std.proofs.lemmas.Bool.Decides.{nat_tests}
-use Rattle.std.proofs.lemmas.List.{get_or-take, get_or-drop, get_or_past, get_or_append_left, get_or-append_right, length-take-le, length-append, length-drop, take_all}
+use Rattle.std.proofs.lemmas.List.{get_or-take, get_or-drop, get_or_append_left, get_or-append_right, length-take-le, length-append, length-drop, take_all}
 use Rattle.std.proofs.Math.Seq.{drop-append_seam}
+use Rattle.block_core.proofs.list_laws_laws.PositionLaws.{zeros}
 use Rattle.byteorder.specs.Endian.{little_from, little_bytes}
 use Rattle.byteorder.specs.Numbers.{little_from-take, little_from-bytes, length-bytes_low_first}
-use Rattle.byteorder.proofs.Bytes.{take-bytes_low_first, pow256}
+use Rattle.byteorder.proofs.Bytes.{take-bytes_low_first}
 use Rattle.xdp_maps.proofs.ByteLaws.{length-patched}
+use Rattle.xdp_maps.proofs.LittleLaws.{no_bytes, same_bytes, beyond, low_is}
 use Rattle.hazard_core.specs.Commits.{word_count, word_at as byte_word, with_word}
 use Rattle.array_net.specs.Words.{word_width}
 
 -- ---- numbers in bytes
--- past the end stand zeros
-beyond : (n i m : ℕ) (xs : List ℕ) → m ≤ n → length xs ≤ i + m → little_from i n xs ≡ little_from i m xs
-beyond zero i zero xs l h = refl
-beyond zero i (suc m) xs l h = absurd (omega arith)
-beyond (suc n) i zero xs l h =
-    let past : slice_index xs i ≡ 0 = get_or_past xs i 0 (omega arith) in
-    ap (λ x. x + 256 * little_from (suc i) n xs) past ∙ ap (λ x. 0 + 256 * x) (beyond n (suc i) zero xs (omega arith) (omega arith))
-beyond (suc n) i (suc m) xs l h = ap (λ x. slice_index xs i + 256 * x) (beyond n (suc i) m xs (omega arith) (omega arith))
-
-same_bytes : (n i : ℕ) (xs ys : List ℕ) → ((k : ℕ) → i ≤ k → k < i + n → slice_index xs k ≡ slice_index ys k) → little_from i n xs ≡ little_from i n ys
-same_bytes zero i xs ys h = refl
-same_bytes (suc n) i xs ys h =
-    ap (λ x. x + 256 * little_from (suc i) n xs) (h i (omega arith) (omega arith)) ∙ ap (λ x. slice_index ys i + 256 * x) (same_bytes n (suc i) xs ys (λ k l m. h k (omega arith) (omega arith)))
-
 word_from : (xs : List ℕ) (j : ℕ) → byte_word xs j ≡ little_from 0 8 (drop (8 * j) xs)
 word_from xs j = little_from-take 0 8 8 (drop (8 * j) xs) (omega arith)
-
-low_is : (n k : ℕ) → n / 256 ^ 0 % 256 ^ k ≡ n % 2 ^ (8 * k)
-low_is n k = ap (λ y. y % 256 ^ k) (div-one n) ∙ ap (λ y. n % y) (pow256 k)
 
 -- ---- bytes in which a word is written
 module _ (xs : List ℕ) (j n : ℕ) (there : 8 * j < length xs) where
@@ -110,15 +95,6 @@ module _ (xs : List ℕ) (j n : ℕ) (there : 8 * j < length xs) where
           by_test false e = let lt : i < j = grind (arith, nat_tests) in inl (omega arith)
 
 -- ---- words of zeros
-no_bytes : (n i : ℕ) (xs : List ℕ) → ((k : ℕ) → slice_index xs k ≡ 0) → little_from i n xs ≡ 0
-no_bytes zero i xs h = refl
-no_bytes (suc n) i xs h = ap (λ x. x + 256 * little_from (suc i) n xs) (h i) ∙ ap (λ x. 0 + 256 * x) (no_bytes n (suc i) xs h)
-
-zeros : (n k : ℕ) → slice_index (replicate n 0) k ≡ 0
-zeros zero k = refl
-zeros (suc n) zero = refl
-zeros (suc n) (suc k) = zeros n k
-
 pub word_zero : (n j : ℕ) → byte_word (replicate n 0) j ≡ 0
 word_zero n j = word_from (replicate n 0) j ∙ no_bytes 8 0 (drop (8 * j) (replicate n 0)) (λ k. get_or-drop (8 * j) (replicate n 0) k 0 ∙ zeros n (8 * j + k))
 

@@ -8,9 +8,9 @@ use Rattle.net_core.specs.Value.{word}
 use Rattle.net_core.specs.Width.{word_fits}
 use Rattle.block_core.specs.Blocks.{first_memory}
 use Rattle.block_core.specs.Formed.{memories_fit}
+use Rattle.block_core.proofs.list_laws_laws.BoolLaws.{and_is}
 use Rattle.hazard_core.specs.Commits.{word_count}
 use Rattle.frame_net.specs.Stores.{widths_memory}
-use Rattle.frame_net.proofs.FormLaws.{and_is}
 use Rattle.array_net.specs.Words.{word_width}
 use Rattle.array_net.specs.WordTrees.{memories_from, word_memories}
 use Rattle.array_net.proofs.WordLaws.{width_some, width_most}

@@ -18,10 +18,11 @@ use Rattle.net_core.specs.ProductRules.Products.{is_flat}
 use Rattle.block_core.specs.declared.name.Name.{Name}
 use Rattle.block_core.specs.declared.name.Name.TheVariants as name
 use Rattle.block_core.specs.Order.{Reads}
+use Rattle.block_core.proofs.list_laws_laws.BoolLaws.{and_is}
 use Rattle.hazard_core.specs.Commits.{word_count, word_at as byte_word}
 use Rattle.frame_net.specs.GatherNets.{constant, beside}
 use Rattle.frame_net.specs.SourcesNets.{held}
-use Rattle.frame_net.proofs.FormLaws.{and_is, same_is}
+use Rattle.frame_net.proofs.FormLaws.{same_is}
 use Rattle.array_net.specs.Words.{word_width, HoldsWords}
 use Rattle.array_net.specs.WordTrees.{host_index, is_word, filled, word_shown, words_read}
 use Rattle.array_net.specs.Hosts.{SeesMemories}

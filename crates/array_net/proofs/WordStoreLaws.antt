@@ -15,12 +15,13 @@ use Rattle.net_core.specs.Value.{word, bit, nothing, part_select, Env, value, ap
 use Rattle.net_core.specs.Clock.{Stored, edge}
 use Rattle.net_core.specs.Width.{Scope, conditional_width, part_select_width}
 use Rattle.net_core.specs.ProductRules.Products.{is_flat, statements_flat}
+use Rattle.net_core.proofs.BitLaws.{and_bits, or_bits}
 use Rattle.block_core.specs.declared.name.Name.{Name}
 use Rattle.block_core.specs.declared.name.Name.TheVariants as name
+use Rattle.block_core.proofs.list_laws_laws.BoolLaws.{and_is}
 use Rattle.hazard_core.specs.Commits.{word_count, word_at as byte_word, with_word}
 use Rattle.frame_net.specs.Frames.{word_at}
 use Rattle.frame_net.specs.Stores.{Store, store_statements}
-use Rattle.frame_net.proofs.FormLaws.{and_is}
 use Rattle.frame_net.proofs.StoreLaws.{put, taken, taken_is, store_at, IsOff, AreStoresTyped, AllReads, AllSpelled}
 use Rattle.array_net.specs.declared.words.WordNets.{WordNets}
 use Rattle.array_net.specs.Words.{word_width, HoldsWords, AsksWord, AsksWords, HaveWidths, AreThere}
@@ -47,18 +48,6 @@ low_part of w n some =
     ap (λ k. word k (n / 2 ^ 0 % 2 ^ k)) e ∙ ap (λ m. word w (m % 2 ^ w)) (div-one n)
 
 -- ---- bits
-pub or_bits : (a b : Bool) → apply Or (bit a) (bit b) ≡ bit (a || b)
-or_bits true true = refl
-or_bits true false = refl
-or_bits false true = refl
-or_bits false false = refl
-
-pub and_bits : (a b : Bool) → apply And (bit a) (bit b) ≡ bit (a && b)
-and_bits true true = refl
-and_bits true false = refl
-and_bits false true = refl
-and_bits false false = refl
-
 -- what a bit of 0 lets through
 pub shut : (x : Word) → apply And (bit false) x ≡ bit false
 shut x = let e : bit_and 0 x.value ≡ 0 = grind (arith, common_steps) in ap (word 1) e

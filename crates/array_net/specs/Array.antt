@@ -77,9 +77,9 @@ pub record IsArray {P : Type 0} (part : P) (map : ℕ) (d : MapDecl) (bits : ℕ
   pub stays : (v : Env (Name P)) (s : Stored) → Solve v part 0 b.wires → v.net nets.commits ≡ bit false → v.net nets.writes ≡ bit false → done v b.statement s ≡ s
   pub commits : (v : Env (Name P)) (s : Stored) (slots : List Slot) (n : ℕ) (new : List ℕ) → Solve v part 0 b.wires → StoresArray d bits slots s → AsksArray d bits nets words v slots n new
       → StoresArray d bits (with_value slots n new) (done v b.statement s)
-  pub written : (v : Env (Name P)) (s : Stored) (slots : List Slot) (a : Access) (number : ℕ) (calm : Bool) → Solve v part 0 b.wires → StoresArray d bits slots s → SeesHost v a number → v.net nets.commits ≡ bit false → v.net nets.writes ≡ bit true
-      → StoresArray d bits (written_table calm (named_word map d a) slots a.index number) (done v b.statement s)
-  pub allows : (v : Env (Name P)) (s : Stored) (slots : List Slot) (a : Access) (number : ℕ) (calm : Bool) → StoresArray d bits slots s → SeesHost v a number → value v (has_word map d) ≡ bit (may_write calm (slot_at slots a.index) (named_word map d a))
+  pub written : (v : Env (Name P)) (s : Stored) (slots : List Slot) (a : Access) (number : ℕ) (idle : Bool) → Solve v part 0 b.wires → StoresArray d bits slots s → SeesHost v a number → v.net nets.commits ≡ bit false → v.net nets.writes ≡ bit true
+      → StoresArray d bits (written_table idle (named_word map d a) slots a.index number) (done v b.statement s)
+  pub allows : (v : Env (Name P)) (s : Stored) (slots : List Slot) (a : Access) (number : ℕ) (idle : Bool) → StoresArray d bits slots s → SeesHost v a number → value v (has_word map d) ≡ bit (may_write idle (slot_at slots a.index) (named_word map d a))
   pub loads : (v : Env (Name P)) (s : Stored) (slots : List Slot) (index : Tree (Name P)) (n j : ℕ) → StoresArray d bits slots s → SeesMemories part v s → (value v index).value ≡ n → n < d.cap → j < word_count d.value
       → value v (word_shown part 0 d.value j index) ≡ word 64 (byte_word (slot_at slots n).value j)
   pub shows : (v : Env (Name P)) (s : Stored) (slots : List Slot) (a : Access) (number : ℕ) → Solve v part 0 b.wires → StoresArray d bits slots s → SeesHost v a number → SeesMemories part v s

@@ -32,4 +32,4 @@ named_word map d a = if a.map == map && nat_lt a.index d.cap then word_as d.kind
 
 -- the table after the host has written a word of a slot, where it may
 abbrev pub written_table : Bool → Word → List Slot → ℕ → ℕ → List Slot
-written_table calm w slots n number = if may_write calm (slot_at slots n) w then slice_set slots n (written_word (slot_at slots n) w number) else slots
+written_table idle w slots n number = if may_write idle (slot_at slots n) w then slice_set slots n (written_word (slot_at slots n) w number) else slots

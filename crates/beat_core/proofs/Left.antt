@@ -6,10 +6,6 @@ use Rattle.beat_core.specs.declared.beat.Beat.{Beat}
 use Rattle.beat_core.specs.Beats.{first_beat, beats_of}
 use Rattle.beat_core.proofs.BeatLaws.{beats_of-nil, beats_of-step}
 
--- the bytes left, as the range of the buffer
-pub left : ℕ → ℕ → List ℕ → List ℕ
-left at len buffer = drop at (take len buffer)
-
 pub left_none : (at len : ℕ) (buffer : List ℕ) → at ≡ len → beats_of (drop at (take len buffer)) ≡ []
 left_none at len buffer e = ap beats_of (drop_all at (take len buffer) (omega (arith, length-take len buffer))) ∙ beats_of-nil
 

@@ -3,5 +3,5 @@ pub mod BeatLaws
 pub mod FillingLaws
 pub mod Left
 pub mod OrderLaws
-pub mod PortLemmas
+pub mod PortLaws
 pub mod WordLaws

@@ -7,12 +7,13 @@ use Rattle.net_core.specs.declared.tree.Net.{Net}
 use Rattle.net_core.specs.Nets.{StatementTree, SBlock, SIf, SIfElse, SSet, SStore, StatementTrees, SEnd, SThen}
 use Rattle.net_core.specs.Value.{Env, value}
 use Rattle.net_core.specs.Clock.{Stored, done, all_done, edge}
+use Rattle.list_laws.proofs.BoolLaws.{by_test}
 use Rattle.block_core.specs.Rename.{rename, rename_statement, rename_statements, seen}
 use Rattle.block_core.specs.Blocks.{registers_of, memories_of, Whole, Among, start}
 use Rattle.block_core.specs.Link.{resolve, link_statement, all_statements}
 use Rattle.block_core.specs.Parts.{stored_in, IsSized, Within, AllWithin}
 use Rattle.block_core.proofs.GatheredLaws.{Runs}
-use Rattle.block_core.proofs.Renamed.{by_test, value-rename}
+use Rattle.block_core.proofs.Renamed.{value-rename}
 
 -- two that are stored, one after the other
 abbrev pub beside : Stored → Stored → Stored

@@ -8,6 +8,7 @@ use Rattle.net_core.specs.declared.design.Declared.{Declared}
 use Rattle.net_core.specs.Nets.{WireTree}
 use Rattle.net_core.specs.Value.{nothing, Env, value, stops}
 use Rattle.net_core.specs.Clock.{first_words, first_memories, env_of, stopped_at, rights, assigned}
+use Rattle.list_laws.proofs.BoolLaws.{by_test}
 use Rattle.block_core.specs.declared.name.Name.{Name}
 use Rattle.block_core.specs.declared.block.BlockMemory.{BlockMemory}
 use Rattle.block_core.specs.Rename.{rename, rename_right, seen}
@@ -16,7 +17,7 @@ use Rattle.block_core.specs.Link.{resolve, link_wires, link_output, all_wires, a
 use Rattle.block_core.specs.Parts.{stored_of, Solve, Goes, shown_by}
 use Rattle.block_core.specs.Law.{Linked, StartsAsParts, SizesStay}
 use Rattle.block_core.proofs.GatheredLaws.{Runs, runs, get_gather, map_gather, length_map}
-use Rattle.block_core.proofs.Renamed.{by_test, value-rename, right-rename, stops-rename}
+use Rattle.block_core.proofs.Renamed.{value-rename, right-rename, stops-rename}
 use Rattle.block_core.proofs.Solved.{Solved, solved}
 use Rattle.block_core.proofs.Ordered.{ordered}
 use Rattle.block_core.proofs.Edges.{sizes, edge_parts}

@@ -5,7 +5,7 @@ use Rattle.net_core.specs.declared.tree.Op.{Op}
 use Rattle.net_core.specs.declared.tree.UnaryOp.{UnaryOp}
 use Rattle.net_core.specs.declared.tree.Expr.{Expr}
 use Rattle.net_core.specs.declared.tree.Stmt.{Stmt}
-use Rattle.net_core.specs.Nets.{Tree, TMemoryWord, TUnary, TBinary, TConditional, Trees, TLast, TMore, StatementTree, SBlock, SIf, SIfElse, SStore, StatementTrees, SThen}
+use Rattle.net_core.specs.Nets.{Tree, TMemoryWord, TUnary, TBinary, TConditional, Trees, TMore, StatementTree, SBlock, SIf, SIfElse, SStore, StatementTrees, SThen}
 use Rattle.net_core.specs.View.{tree_of, statement_of}
 use Rattle.block_core.specs.Rename.{rename, rename_parts, rename_statement, rename_statements}
 use Rattle.net_core.specs.Chains.{parts_before, statements_before}
@@ -30,10 +30,6 @@ module _ {M N : Type 0} (f : M → N) where
       ap (λ xs. parts_before (map tree_of xs) (rename_parts f rest)) e ∙ parts_one_more old x (rename_parts f rest)
       ∙ ap (λ t. parts_before (map tree_of old) (TMore t (rename_parts f rest))) v
       ∙ sym (ap (λ l. parts_before (map tree_of old) (rename_parts f l)) s) ∙ h
-
-  pub parts_last : (old : List (Expr N)) (out : Trees N) (x : Tree N) (last : Tree M) (left : Trees M) (whole : Trees N) → left ≡ TLast last → x ≡ rename f last → out ≡ parts_before (map tree_of old) (TLast x)
-      → parts_before (map tree_of old) (rename_parts f left) ≡ whole → out ≡ whole
-  parts_last old out x last left whole s v o h = o ∙ ap (λ t. parts_before (map tree_of old) (TLast t)) v ∙ sym (ap (λ l. parts_before (map tree_of old) (rename_parts f l)) s) ∙ h
 
   module _ (r m : ℕ) where
     pub block_linked : (t : StatementTree M) (out : StatementTree N) (a : StatementTrees M) (a' : StatementTrees N) → t ≡ SBlock a → a' ≡ rename_statements f r m a → out ≡ SBlock a' → out ≡ rename_statement f r m t

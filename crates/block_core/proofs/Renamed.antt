@@ -1,14 +1,10 @@
 -- A tree under other names has the value that it has where each net is seen through its name.
-use Rattle.std.specs.Prelude.{◌≡◌, true, false, Bool}
+use Rattle.std.specs.Prelude.{◌≡◌}
 use Rattle.std.proofs.Common.{refl, ap}
 use Rattle.net_core.specs.declared.tree.Word.{Word}
 use Rattle.net_core.specs.Nets.{Tree, TConst, TRead, TBit, TPartSelect, TMemoryWord, TUnary, TBinary, TConditional, TConcatenation, Trees, TLast, TMore, RightTree, RPlain, RQuotient, RRemainder}
 use Rattle.net_core.specs.Value.{apply_unary, Env, value, concatenated_parts, right_value, stops}
 use Rattle.block_core.specs.Rename.{rename, rename_parts, rename_right, seen}
-
-pub by_test : (P : Bool → Type 0) (b : Bool) → (b ≡ true → P true) → (b ≡ false → P false) → P b
-by_test P true then_ else_ = then_ refl
-by_test P false then_ else_ = else_ refl
 
 mutual
   pub value-rename : {M N : Type 0} (f : M → N) (v : Env N) (e : Tree M) → value v (rename f e) ≡ value (seen f v) e

@@ -7,6 +7,7 @@ use Rattle.std.proofs.lemmas.List.{get_or_append_left, get_or_at}
 use Rattle.net_core.specs.declared.design.Port.{Port}
 use Rattle.net_core.specs.Nets.{Tree, StatementTree, SBlock, SIf, SIfElse, SSet, SStore, StatementTrees, SEnd, SThen, WireTree}
 use Rattle.net_core.specs.Width.{Scope, width_of, right_width, same, statement_typed, statements_typed, scope, wires_typed, full_scope, statements_all_typed, output_width, assigns_typed}
+use Rattle.list_laws.proofs.BoolLaws.{by_test}
 use Rattle.block_core.specs.declared.name.Name.{Name}
 use Rattle.block_core.specs.declared.name.Name.TheVariants as name
 use Rattle.block_core.specs.Rename.{rename, rename_right, rename_statement, rename_statements}
@@ -15,7 +16,6 @@ use Rattle.block_core.specs.Link.{resolve, link_wires, link_output, all_wires, a
 use Rattle.block_core.specs.Order.{Reads, IsBefore, InOrder, AllInOrder}
 use Rattle.block_core.specs.Formed.{block_wire_width, block_registers, block_memories, block_wires, names_scope, block_wires_typed, IsTypedBlock, StatementReads, StatementsRead, OutputsRead, IsThere, outputs_typed, LinkedIsTyped}
 use Rattle.block_core.proofs.GatheredLaws.{Runs, runs}
-use Rattle.block_core.proofs.Renamed.{by_test}
 use Rattle.block_core.proofs.Ordered.{Below, below_next}
 use Rattle.block_core.proofs.Widths.{Agree, width_renamed, right_renamed, sides, register_at, memory_at, wire_at, all_declared_typed}
 

@@ -5,7 +5,6 @@ use Rattle.net_core.specs.declared.tree.Word.{Word}
 use Rattle.net_core.specs.Nets.{Tree, RightTree, StatementTree}
 use Rattle.net_core.specs.Clock.{Stored}
 use Rattle.block_core.specs.declared.name.Name.{Name}
-use Rattle.block_core.specs.declared.name.Name.TheVariants as name
 use Rattle.block_core.specs.declared.block.BlockMemory.{BlockMemory}
 
 pub record BlockWireTree (N : Type 0) : Type 0 where
@@ -41,25 +40,6 @@ first_memory m = replicate (2 ^ m.index) m.first
 -- what a block first stores
 abbrev pub first_of : {N : Type 0} → BlockTree N → Stored
 first_of b = record { registers = b.registers; memories = map first_memory b.memories }
-
--- ---- names of a block's own nets
-abbrev pub own_number : {P : Type 0} → Name P → ℕ
-own_number (name.Port k) = k
-own_number (name.Register p k) = k
-own_number (name.Memory p k) = k
-own_number (name.Wire p k) = k
-
-abbrev pub IsRegisterName : {P : Type 0} → Name P → Type 0
-IsRegisterName (name.Port k) = ⊥
-IsRegisterName (name.Register p k) = Unit {0}
-IsRegisterName (name.Memory p k) = ⊥
-IsRegisterName (name.Wire p k) = ⊥
-
-abbrev pub IsMemoryName : {P : Type 0} → Name P → Type 0
-IsMemoryName (name.Port k) = ⊥
-IsMemoryName (name.Register p k) = ⊥
-IsMemoryName (name.Memory p k) = Unit {0}
-IsMemoryName (name.Wire p k) = ⊥
 
 -- ---- designs of parts
 -- the parts in their order, where each stands among them, and its block

@@ -1,6 +1,4 @@
-pub use Rattle.net_core.specs.beat_core as beat_core
 pub use Rattle.design_rules.specs as design_rules
-pub use Rattle.net_core.specs.list_laws as list_laws
 pub use Rattle.net_core.specs as net_core
 pub mod Rename
 pub mod Blocks

@@ -63,7 +63,7 @@ numbered letter at (suc n) = (letter ++ decimal at) ∷ numbered letter (suc at)
 abbrev pub net_names : ℕ → ℕ → ℕ → List (List ℕ)
 net_names registers memories wires = codes "i_0" ∷ (numbered (codes "r_") 0 registers ++ (numbered (codes "m_") 0 memories ++ numbered (codes "w_") 0 wires))
 
--- the names of ports, and behind them those of numbered nets
+-- the names of ports, and after them those of numbered nets
 abbrev pub numbered_names : {P : Type 0} → Whole P → List (List ℕ) → List (List ℕ)
 numbered_names d port_names = port_names ++ net_names (length (all_registers d d.parts)) (length (all_memories d d.parts)) (length (all_wires d d.parts))
 

@@ -4,7 +4,6 @@
 
 pub mod block;
 pub mod block_forms;
-pub mod build;
 mod error;
 pub mod laws;
 pub mod name;

@@ -1,7 +1,6 @@
 //! What blocks call the nets of a design.
 
 ghost use Rattle.std.specs.Prelude.{◌≡◌, ℕ};
-ghost use Rattle.block_core.specs.declared.name.Name.{Name};
 
 /// A net of a design that is made of parts: a port by its place in the list of ports, or a net of a part by its number
 /// among its like there.
@@ -21,17 +20,4 @@ pub trait Part: Copy {
     /// Where the part stands among the parts of its design, from 0 on.
     fn place(self) -> usize
         ensures { result ≡ place self };
-}
-
-/// The nets of a block as an enum of its own, as `Register::Count`, or those that it reads of other parts and at the ports.
-pub trait Named: Copy {
-    /// The parts of the design.
-    type Part: Part;
-
-    /// The name of a net.
-    ghost name: { Self → Name Self.Part };
-
-    /// The name of a net.
-    fn name(self) -> Name<Self::Part>
-        ensures { result ≡ name self };
 }

@@ -38,7 +38,7 @@ fn count<N: Drop>(section: Section, block: &Block<N>) -> usize
     }
 }
 
-/// The number of a net, so many behind another.
+/// The number of a net, so many after another.
 pub(crate) fn behind(start: u32, count: u32) -> Result<u32, LinkError>
     ensures number { IfOk result (λ n. n ≡ start + count) }
     ensures range { Tells result (in_range (start + count)) }
@@ -49,7 +49,7 @@ pub(crate) fn behind(start: u32, count: u32) -> Result<u32, LinkError>
     }
 }
 
-// The number behind so many nets.
+// The number after so many nets.
 fn past(start: u32, count: usize) -> Result<u32, LinkError>
     ensures number { IfOk result (λ n. n ≡ start + count) }
     ensures range { Tells result (in_range (start + count)) }

@@ -39,7 +39,7 @@ fn add_numbered(
     Ok(())
 }
 
-// Adds the names of the nets that stand behind ports.
+// Adds the names of the nets that stand after ports.
 fn add_names(
     alloc: Global,
     names: &mut Vec<String>,
@@ -55,7 +55,7 @@ fn add_names(
     add_numbered(alloc, names, "w_", wires)
 }
 
-/// The design of these parts, each at its place, behind these ports.
+/// The design of these parts, each at its place, after these ports.
 ///
 /// Its registers are named `r_0`, `r_1` and so on, part after part, its memories `m_0` and so on, its wires `w_0` and so
 /// on, and the integer that fills its memories `i_0`. Each part has one always block. There are too many nets exactly where

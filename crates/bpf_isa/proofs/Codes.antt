@@ -1,5 +1,5 @@
 -- An opcode has one operation.
-use Rattle.std.proofs.Common.{◌≡◌, ◌≢◌, ℕ, ◌==◌, List, [], ◌∷◌, ◌++◌, map, find, Option, Some, None, refl, sym, ◌∙◌, ap}
+use Rattle.std.proofs.Common.{◌≡◌, ℕ, ◌==◌, List, [], ◌∷◌, ◌++◌, map, find, Option, Some, refl, sym, ◌∙◌, ap}
 use Rattle.std.specs.List.{flat_map}
 use Rattle.bpf_isa.specs.declared.operation.Op.{Op}
 use Rattle.bpf_isa.specs.declared.operation.Op.TheVariants.{Alu, Neg, End, Swap, Ja, Jump, Call, Exit, LoadImm, Abs, Ind, Load, LoadSigned, StoreImm, Store, Atomic}
@@ -39,14 +39,6 @@ all_ops =
 -- the operation of an opcode, sought in the table
 abbrev op_at : ℕ → Option Op
 op_at n = find (λ op. code_of op == n) all_ops
-
-each_width : (P : Width → Type 0) → P Bits32 → P Bits64 → (x : Width) → P x
-each_width P p0 p1 Bits32 = p0
-each_width P p0 p1 Bits64 = p1
-
-each_src : (P : Src → Type 0) → P K → P X → (x : Src) → P x
-each_src P p0 p1 K = p0
-each_src P p0 p1 X = p1
 
 each_size : (P : Size → Type 0) → P B → P H → P W → P Dw → (x : Size) → P x
 each_size P p0 p1 p2 p3 B = p0
@@ -120,10 +112,4 @@ found (Atomic z) = each_size (λ z. IsFound (Atomic z)) refl refl refl refl z
 pub code_of-injective : (a b : Op) → code_of a ≡ code_of b → a ≡ b
 code_of-injective a b e =
     let same : Some a ≡ Some b = sym (found a) ∙ (ap op_at e ∙ found b) in
-    cc
-
--- no operation has the opcode 0, with which a second unit begins
-pub code_of-positive : (op : Op) → code_of op ≢ 0
-code_of-positive op e =
-    let none : None ≡ Some op = ap op_at (sym e) ∙ found op in
     cc

@@ -1,5 +1,5 @@
 -- Laws of the instruction table: an instruction has one spelling, and bytes begin with at most one instruction.
-use Rattle.std.proofs.Common.{◌≡◌, ◌∙◌, ℕ, zero, suc, ℤ, pos, ◌*◌, ◌/◌, ◌%◌, ◌^◌, ◌<◌, ◌≤◌, ◌++◌, List, [], length, take, drop, refl, sym, ap, subst, arith}
+use Rattle.std.proofs.Common.{◌≡◌, ◌∙◌, ℕ, zero, ℤ, pos, ◌*◌, ◌/◌, ◌%◌, ◌^◌, ◌<◌, ◌≤◌, ◌++◌, List, length, take, drop, refl, sym, ap, subst, arith}
 use Rattle.std.proofs.lemmas.List.{take-append-drop, length-take}
 use Rattle.std.proofs.Math.Seq.{take-append_seam}
 use Rattle.std.proofs.lemmas.Int.{ints}
@@ -10,7 +10,7 @@ use Rattle.bpf_isa.specs.declared.operation.Op.TheVariants.{LoadImm}
 use Rattle.bpf_isa.specs.declared.instruction.Insn.{Insn}
 use Rattle.bpf_isa.specs.Opcode.{code_of}
 use Rattle.bpf_isa.specs.Spelling.{units_of, spelled, spelling, IsInsn, Begins, HasImm}
-use Rattle.bpf_isa.proofs.Codes.{code_of-injective, code_of-positive}
+use Rattle.bpf_isa.proofs.Codes.{code_of-injective}
 use Rattle.bpf_isa.proofs.Units.{unit_one}
 use Rattle.bpf_isa.proofs.Fronts.{fields_of, split, insn_is}
 
@@ -66,20 +66,3 @@ begins_one text i j a b =
     let hj : HasImm j.op low (drop 8 text) j.imm = record { range = b.legal.imm_range; low_half = refl; high_half = parts.1 } in
     let hi = subst (λ (op : Op). HasImm op low (drop 8 text) i.imm) e f.imm in
     sym (insn_is i j.op j.dst j.src j.offset j.imm (sym e) f.dst f.src f.offset (imm_one j.op low (drop 8 text) j.imm i.imm hj hi))
-
--- an instruction is told by its bytes
-pub spelling-injective : (i j : Insn) → IsInsn i → IsInsn j → spelling i ≡ spelling j → i ≡ j
-spelling-injective i j h k e =
-    begins_one (spelling i ++ []) i j (begins_of i [] h) (subst (λ (t : List ℕ). Begins (t ++ []) j) (sym e) (begins_of j [] k))
-
--- no instruction begins inside another one
-inside_spelled : (op : Op) (dst src : ℕ) (offset imm : ℤ) (rest : List ℕ) (n : ℕ) (i : Insn) → suc n < units_of op → ¬ Begins (drop (8 * suc n) (spelled op dst src offset imm ++ rest)) i
-inside_spelled LoadImm dst src offset imm rest zero i h b =
-    let first = split i.op (drop 8 (spelled LoadImm dst src offset imm ++ rest)) i.dst i.src i.offset i.imm b.bytes in
-    let code : 0 ≡ code_of i.op = cc (first.0) in
-    code_of-positive i.op (sym code)
-inside_spelled LoadImm dst src offset imm rest (suc n) i h b = absurd (omega arith)
-inside_spelled op dst src offset imm rest n i h b = absurd (omega arith)
-
-pub none_inside : (x : Insn) (rest : List ℕ) (n : ℕ) (i : Insn) → suc n < units_of x.op → ¬ Begins (drop (8 * suc n) (spelling x ++ rest)) i
-none_inside x rest n i h b = inside_spelled x.op x.dst x.src x.offset x.imm rest n i h b

@@ -1,15 +1,15 @@
 -- Laws of whole texts: a text has at most one list of instructions, each stands at its place, and a text has either its instructions
 -- or a first bad unit.
 use Rattle.std.proofs.Common.{◌≡◌, ◌∙◌, ℕ, zero, suc, Some, None, Bool, true, false, nat_lt, if◌then◌else◌, ◌+◌, ◌-◌, ◌*◌, ◌<◌, ◌≤◌, ◌++◌, List, [], ◌∷◌, length, take, drop, All, refl, sym, ap, subst, arith}
-use Rattle.std.proofs.lemmas.List.{take-take, take_all, drop-append-le, append_assoc, append-nil, append_cancel_left, take-append-drop, length-append, length-take, length-drop, drop-drop}
+use Rattle.std.proofs.lemmas.List.{take-take, drop-append-le, append_assoc, append-nil, append_cancel_left, take-append-drop, length-append, length-take, length-drop, drop-drop}
 use Rattle.std.proofs.lemmas.List.Elements.{All-nil, All-cons, All-head, All-tail, All-append}
-use borrow.Author.Tests.{ltb-true, ltb-false}
-use Rattle.std.proofs.Math.Seq.{take-append_seam, drop-append_seam, drop-append-add}
+use borrow.Author.Tests.{ltb-false}
+use Rattle.std.proofs.Math.Seq.{drop-append-add}
 use Rattle.bpf_isa.specs.declared.instruction.Insn.{Insn}
 use Rattle.bpf_isa.specs.Spelling.{units_of, spelling, IsInsn, Begins, StandsAt}
 use Rattle.bpf_isa.specs.Text.{text_of, unit_count, insn_at, Spells, FirstBad}
 use Rattle.bpf_isa.proofs.Fronts.{rest_is}
-use Rattle.bpf_isa.proofs.Laws.{length-spelling, units_of-positive, begins_split, begins_of, begins_with, begins_length, begins_one, none_inside}
+use Rattle.bpf_isa.proofs.Laws.{length-spelling, begins_split, begins_of, begins_with, begins_length, begins_one}
 
 pub text_of-append : (xs ys : List Insn) → text_of (xs ++ ys) ≡ text_of xs ++ text_of ys
 text_of-append [] ys = refl
@@ -31,9 +31,6 @@ pub record Decoded (code : List ℕ) (is : List Insn) (at : ℕ) : Type 0 where
   pub bytes : code ≡ text_of is ++ drop (8 * at) code
   pub place : at ≡ unit_count is
   pub inside : 8 * at ≤ length code
-
-pub decoded_none : (code : List ℕ) → Decoded code [] 0
-decoded_none code = record { legal = All-nil IsInsn; bytes = refl; place = refl; inside = omega arith }
 
 -- the same, with an instruction more
 text_of-more : (is : List Insn) (i : Insn) → text_of (is ++ i ∷ []) ≡ text_of is ++ spelling i
@@ -59,21 +56,6 @@ decoded_step code is js at u i d b e f =
     let stepped = subst (λ (n : ℕ). Decoded code (is ++ i ∷ []) (at + n)) (sym f) more in
     subst (λ (xs : List Insn). Decoded code xs (at + u)) (sym e) stepped
 
-front_of : (code : List ℕ) (is : List Insn) (at : ℕ) → Decoded code is at → take (8 * at) code ≡ text_of is
-front_of code is at d =
-    let long : length (text_of is) ≡ 8 * at = omega (arith, length-text_of is, d.place) in
-    ap (take (8 * at)) d.bytes ∙ (ap (λ (n : ℕ). take n (text_of is ++ drop (8 * at) code)) (sym long) ∙ take-append_seam (text_of is) (drop (8 * at) code))
-
-pub decoded_all : (code : List ℕ) (is : List Insn) (at : ℕ) → Decoded code is at → length code ≤ 8 * at → Spells code is
-decoded_all code is at d h = record { legal = d.legal; bytes = sym (take_all (8 * at) code h) ∙ front_of code is at d }
-
-pub decoded_bad : (code : List ℕ) (is : List Insn) (at : ℕ) → Decoded code is at → 8 * at < length code → ((i : Insn) → ¬ StandsAt code at i) → FirstBad code at
-decoded_bad code is at d h n = record {
-  before = (is, record { legal = d.legal; bytes = front_of code is at d });
-  inside = h;
-  none = n;
-}
-
 -- ---- one list of instructions
 
 -- of two lists that spell the same bytes and a rest, the one goes on where the other ends
@@ -97,13 +79,6 @@ spells_one code is js h k =
     empty : (ys : List Insn) → is ≡ js ++ ys → [] ≡ text_of ys → is ≡ js
     empty [] e f = e ∙ append-nil js
     empty (y ∷ ys) e f = absurd (cc)
-
--- where an instruction has to begin in a spelled text, one stands
-pub stands_between : (xs : List Insn) (i : Insn) (ys : List Insn) → IsInsn i → StandsAt (text_of (xs ++ i ∷ ys)) (unit_count xs) i
-stands_between xs i ys h =
-    let place : drop (8 * unit_count xs) (text_of (xs ++ i ∷ ys)) ≡ text_of (i ∷ ys) =
-    ap (drop (8 * unit_count xs)) (text_of-append xs (i ∷ ys)) ∙ (ap (λ (n : ℕ). drop n (text_of xs ++ text_of (i ∷ ys))) (sym (length-text_of xs)) ∙ drop-append_seam (text_of xs) (text_of (i ∷ ys))) in
-    subst (λ (t : List ℕ). Begins t i) (sym place) (begins_of i (text_of ys) h)
 
 -- the instructions before a unit, and the one that begins there
 stands_next : (rest : List ℕ) (is xs : List Insn) → All IsInsn is → All IsInsn xs → text_of is ≡ text_of xs ++ rest → 0 < length rest
@@ -171,16 +146,3 @@ insn_at-stands (x ∷ is) (suc n) i h e =
         → (insn_at is (suc n - units_of x.op) ≡ Some i → StandsAt (text_of is) (suc n - units_of x.op) i) → StandsAt (text_of (x ∷ is)) (suc n) i
     by_test true l e later = absurd (cc)
     by_test false l e later = subst (λ (t : List ℕ). Begins t i) (sym (after x is n (ltb-false (suc n) (units_of x.op) l))) (later e)
-
--- and nothing else stands in a spelled text
-pub stands-insn_at : (is : List Insn) (place : ℕ) (i : Insn) → All IsInsn is → StandsAt (text_of is) place i → insn_at is place ≡ Some i
-stands-insn_at [] place i h b = absurd (omega (arith, begins_length (drop (8 * place) (text_of [])) i b, length-drop (8 * place) (text_of []), units_of-positive i.op))
-stands-insn_at (x ∷ is) zero i h b = ap (λ (y : Insn). Some y) (begins_one (text_of (x ∷ is)) x i (begins_of x (text_of is) (All-head IsInsn x is h)) b)
-stands-insn_at (x ∷ is) (suc n) i h b =
-    let later = stands-insn_at is (suc n - units_of x.op) i (All-tail IsInsn x is h) in
-    by_test (nat_lt (suc n) (units_of x.op)) refl later
-  where
-    by_test : (t : Bool) → nat_lt (suc n) (units_of x.op) ≡ t → (StandsAt (text_of is) (suc n - units_of x.op) i → insn_at is (suc n - units_of x.op) ≡ Some i)
-        → (if t then None else insn_at is (suc n - units_of x.op)) ≡ Some i
-    by_test true l later = absurd (none_inside x (text_of is) n i (ltb-true (suc n) (units_of x.op) l) b)
-    by_test false l later = later (subst (λ (t : List ℕ). Begins t i) (after x is n (ltb-false (suc n) (units_of x.op) l)) b)

@@ -13,10 +13,6 @@ abbrev pub unit_count : List Insn → ℕ
 unit_count [] = 0
 unit_count (i ∷ is) = units_of i.op + unit_count is
 
--- the place of instruction k: the number of its first unit, from 0
-abbrev pub place_of : List Insn → ℕ → ℕ
-place_of is k = unit_count (take k is)
-
 -- the instruction that begins at a place, if one does
 abbrev pub insn_at : List Insn → ℕ → Option Insn
 insn_at [] place = None

@@ -1,4 +1,4 @@
--- Where names end: the first zero byte of what stands behind a place.
+-- Where names end: the first zero byte of what stands after a place.
 use Rattle.std.proofs.Common.{◌≡◌, ◌≢◌, ℕ, ◌+◌, ◌-◌, ◌<◌, ◌≤◌, ◌==◌, Bool, true, false, ltb, cond, List, length, get_or, take, drop, position, Option, Some, None, is_some, refl, sym, ap, ◌∙◌, arith, inl, inr}
 use Rattle.std.proofs.lemmas.Bool.{cases_lt, false≢true, false_from_ne_true, lt-ltb, le-ltb}
 use Rattle.std.proofs.lemmas.Bool.Decides.{nat_tests}
@@ -44,7 +44,7 @@ unfolding name_at
 is_some-name_at strings at =
     is_some-cond (λ n. take n (drop at strings)) (ltb (first (drop at strings)) (length (drop at strings))) (first (drop at strings))
 
--- names end behind the last zero byte
+-- names end after the last zero byte
 pub HasNamesBelow-last_zero : (strings : List ℕ) (end : ℕ) → end ≤ length strings
     → ((k : ℕ) → end ≤ k → k < length strings → get_or strings k 0 ≢ 0)
     → (0 < end → get_or strings (end - 1) 0 ≡ 0)
@@ -94,7 +94,7 @@ first-take xs m found =
     (λ k h. ap is_zero (same k (omega arith)) ∙ fails_before_first is_zero (take m xs) k 0 h)
     (λ _. ap is_zero (same (first (take m xs)) (omega arith)) ∙ passes_at_first is_zero (take m xs) 0 found)
 
--- where a window has none, the first stands behind it
+-- where a window has none, the first stands after it
 first-behind : (xs : List ℕ) (m : ℕ) → length (take m xs) ≤ first (take m xs) → first xs < length xs → m ≤ first xs
 first-behind xs m none found = elim (cases_lt (first xs) m) [
   | inl front ↦

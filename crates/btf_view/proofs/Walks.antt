@@ -43,7 +43,7 @@ place_of-inside types last h =
     ap (place_of types) (add-one last)
     ∙ ap (λ b. cond b (Some (end_of types last)) None) (lt-ltb (end_of types last) (length types) h)
 
--- and there is none behind a last one, and none of number 0
+-- and there is none after a last one, and none of number 0
 pub place_of-past : (types : List ℕ) (last id : ℕ) → length types ≤ end_of types last
     → (0 < id → last < id) → place_of types id ≡ None
 unfolding place_of
@@ -60,7 +60,7 @@ place_of-past types last (suc id) h k =
 abbrev asked : {X : Type 0} → List ℕ → (ℕ → ℕ → Option X) → ℕ → Option X
 asked types f id = option_and_then (f id) (place_of types id)
 
--- what a question is answered by the types behind type `last`
+-- what a question is answered by the types after type `last`
 pub left : {X : Type 0} → List ℕ → (ℕ → ℕ → Option X) → ℕ → Option X
 left types f last = first_from (asked types f) (last + 1) (length types - last)
 
@@ -93,7 +93,7 @@ pub left-found : {X : Type 0} (types : List ℕ) (f : ℕ → ℕ → Option X) 
 left-found types f last x inside found =
     left-next types f last inside ∙ ap (λ o. option_or o (left types f (last + 1))) found
 
--- there is none behind the last type
+-- there is none after the last type
 pub left-all : {X : Type 0} (types : List ℕ) (f : ℕ → ℕ → Option X) (last : ℕ) → length types ≤ end_of types last
     → left types f last ≡ None
 unfolding left

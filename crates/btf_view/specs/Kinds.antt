@@ -1,4 +1,4 @@
--- The kinds of types, and what stands behind the record of each (Documentation/bpf/btf.rst, "Type Encoding").
+-- The kinds of types, and what stands after the record of each (Documentation/bpf/btf.rst, "Type Encoding").
 use Rattle.std.specs.Prelude.{ℕ, zero, suc, ◌*◌, List, [], ◌∷◌, slice_get, Option, None}
 use Rattle.btf_view.specs.declared.kind.TypeKind.{TypeKind}
 use Rattle.btf_view.specs.declared.kind.TypeKind.TheVariants.{Int, Ptr, Array, Struct, Union, Enum, Fwd, Typedef, Volatile, Const, Restrict, Func, FuncProto, Var, Datasec, Float, DeclTag, TypeTag, Enum64}
@@ -14,7 +14,7 @@ abbrev pub kind_of : ℕ → Option TypeKind
 kind_of zero = None
 kind_of (suc n) = slice_get kinds n
 
--- how many bytes stand behind the record of a type of this kind: so many for each of its members, values, parameters
+-- how many bytes stand after the record of a type of this kind: so many for each of its members, values, parameters
 -- or variables, of which there are `vlen`
 abbrev pub data_size : TypeKind → ℕ → ℕ
 data_size Int vlen = 4

@@ -14,7 +14,7 @@ short_header bytes = if nat_lt (length bytes) 24 then Some Short else None
 unfoldable pub wrong_magic : List ℕ → Option BtfError
 wrong_magic bytes = if (magic bytes == 0xeb9f) && (version bytes == 1) then None else Some Magic
 
--- a part ends behind the bytes
+-- a part ends after the bytes
 abbrev pub is_outside : List ℕ → (off len : ℕ) → Bool
 is_outside bytes off len = nat_lt (length bytes) (hdr_len bytes + off + len)
 

@@ -1,5 +1,5 @@
 -- The types of a type part, which lie one after the other: a record of 12 bytes (name, info, size or type), and its
--- data behind it (Documentation/bpf/btf.rst, "Type Encoding").
+-- data after it (Documentation/bpf/btf.rst, "Type Encoding").
 use Rattle.std.specs.Prelude.{ℕ, zero, suc, ◌+◌, ◌/◌, ◌%◌, ◌^◌, nat_lt, if◌then◌else◌, List, length, Option, Some, None, option_and_then}
 use Rattle.std.specs.Option.{option_map_or}
 use Rattle.btf_view.specs.Numbers.{u32_at}

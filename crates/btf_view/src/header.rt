@@ -34,7 +34,7 @@ pub fn check_magic(bytes: &[u8]) -> Result<(), BtfError>
     Err(BtfError::Magic)
 }
 
-/// Whether a part ends behind the bytes.
+/// Whether a part ends after the bytes.
 fn is_outside(bytes: &[u8], off: u32, len: u32) -> bool
     requires { 24 ≤ length bytes.now }
     ensures { result ≡ is_outside bytes.now off len }

@@ -55,7 +55,7 @@ pub fn kind_of(number: u32) -> Option<TypeKind>
     }
 }
 
-/// The size of what stands behind the record of a type of this kind, in bytes.
+/// The size of what stands after the record of a type of this kind, in bytes.
 pub fn data_size(kind: TypeKind, vlen: u32) -> usize
     requires { vlen < 2 ^ 16 }
     ensures size { result ≡ data_size kind vlen }

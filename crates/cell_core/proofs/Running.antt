@@ -1,16 +1,13 @@
 -- One cell more of a packet's run.
-use Rattle.std.proofs.Common.{◌≡◌, ℕ, zero, suc, ◌+◌, ◌^◌, ◌<◌, ◌≤◌, Bool, true, false, List, [], ◌∷◌, ◌++◌, length, take, get_or, refl, sym, ◌∙◌, ap, subst, arith}
-use Rattle.std.specs.Prelude.{Some, None, ◌⊎◌, ◌==◌, map as map_list}
-use Rattle.std.proofs.Common.{inl, inr}
+use Rattle.std.proofs.Common.{◌≡◌, ℕ, zero, suc, ◌+◌, ◌<◌, ◌≤◌, Bool, true, false, List, [], ◌∷◌, ◌++◌, length, take, get_or, refl, sym, ◌∙◌, ap, subst, arith, inl, inr}
+use Rattle.std.specs.Prelude.{Some, ◌⊎◌, ◌==◌, map as map_list}
 use Rattle.std.proofs.lemmas.Bool.{eqb-true, eqb-false}
 use Rattle.std.proofs.lemmas.List.{length-map, get_or-map}
 use Rattle.xdp_state.specs.xdp_maps.declared.decl.MapDecl.{MapDecl}
 use Rattle.xdp_state.specs.xdp_maps.State.{MapState}
 use Rattle.xdp_state.specs.xdp_machine.State.{PacketIn}
-use Rattle.cell_core.specs.declared.operator.Operator.{Operator}
-use Rattle.cell_core.specs.declared.operator.Operator.TheVariants.{Found, Answer}
-use Rattle.cell_core.specs.Cells.{site_in, CellView, no_cell, cell_at, value_in, is_read, on, value, bits_from, Solves_as}
-use Rattle.cell_core.specs.Sites.{SiteView, ProgramView, site_at, after, read_on, IsValue}
+use Rattle.cell_core.specs.Cells.{site_in, CellView, no_cell, cell_at, value_in}
+use Rattle.cell_core.specs.Sites.{SiteView, ProgramView, site_at, after, IsValue}
 use Rattle.cell_core.specs.Formed.{IsInRange, AreFormed, IsBelow, AreSited}
 use Rattle.cell_core.specs.declared.cell.Cell.{Cell}
 use Rattle.cell_core.specs.declared.site.Site.{Site}
@@ -19,6 +16,7 @@ use Rattle.cell_core.specs.View.{cell_of, site_of, program_of}
 use Rattle.cell_core.specs.SiteLaws.{AreSame}
 use Rattle.cell_core.specs.Passing.{IsPassed}
 use Rattle.cell_core.proofs.Kept.{sites_keep, values_keep}
+use Rattle.cell_core.proofs.OperatorLaws.{plain_when}
 
 old-value : (vs : List ℕ) (x i : ℕ) → i < length vs → value_in vs i ≡ value_in (vs ++ x ∷ []) i
 old-value [] x i h = absurd (omega arith)
@@ -75,48 +73,6 @@ passed_next packet maps decls p k vs own next done far x formed sited h old one 
     by_last i (inl l) = subst (IsValue packet maps p.sites w (cell_at p.cells i)) (same i l) (kept i (value_in vs i) (omega arith) (old.each i l))
     by_last i (inr e) = subst (λ (n : ℕ). IsValue packet maps p.sites w (cell_at p.cells n) (w n)) (sym e)
         (subst (IsValue packet maps p.sites w (cell_at p.cells k)) (sym (ap w (sym old.count) ∙ new-value vs x)) (kept k x (omega arith) one))
-
--- ---- the value of one cell
-
-pub reads_when : (op : Operator) (at : ℕ) → site_in op ≡ Some at → is_read op ≡ true
-reads_when (Found j) at e = refl
-reads_when (Answer j) at e = refl
-reads_when op at e = absurd (cc)
-
-pub plain_when : (op : Operator) → site_in op ≡ None → is_read op ≡ false
-plain_when (Found j) e = absurd (cc)
-plain_when (Answer j) e = absurd (cc)
-plain_when op e = refl
-
-pub number_is : (packet : PacketIn) (maps : MapState) (sites : List SiteView) (v : ℕ → ℕ) (c : CellView) (x : ℕ) → site_in c.op ≡ None → x ≡ value packet v c
-    → IsValue packet maps sites v c x
-number_is packet maps sites v c x none e = record {
-  solves = solves-plain (is_read c.op) (plain_when c.op none);
-  answers = λ j s on. absurd (cc);
-}
-  where
-    solves-plain : (b : Bool) → b ≡ false → Solves_as b packet v c x
-    solves-plain true t = absurd (cc)
-    solves-plain false t = e
-
-pub read_is : (packet : PacketIn) (maps : MapState) (sites : List SiteView) (v : ℕ → ℕ) (c : CellView) (x n at : ℕ) → site_in c.op ≡ Some at → x < 2 ^ c.width
-    → x ≡ bits_from n c.from c.width → (on (v (site_at sites at).guard) ≡ true → n ≡ read_on v (after v maps (take at sites)) (site_at sites at) c.op)
-    → IsValue packet maps sites v c x
-read_is packet maps sites v c x n at site fits e found = record {
-  solves = solves-read (is_read c.op) (reads_when c.op at site);
-  answers = λ j s on_j. by_site j (site_same j s) on_j;
-}
-  where
-    solves-read : (b : Bool) → b ≡ true → Solves_as b packet v c x
-    solves-read true t = fits
-    solves-read false t = absurd (cc)
-
-    site_same : (j : ℕ) → site_in c.op ≡ Some j → at ≡ j
-    site_same j s = let h : Some at ≡ Some j = sym site ∙ s in cc
-
-    by_site : (j : ℕ) → at ≡ j → on (v (site_at sites j).guard) ≡ true → x ≡ bits_from (read_on v (after v maps (take j sites)) (site_at sites j) c.op) c.from c.width
-    by_site j s on_j = subst (λ (j : ℕ). on (v (site_at sites j).guard) ≡ true → x ≡ bits_from (read_on v (after v maps (take j sites)) (site_at sites j) c.op) c.from c.width) s
-        (λ o. e ∙ ap (λ (n : ℕ). bits_from n c.from c.width) (found o)) on_j
 
 -- ---- cells in memory
 

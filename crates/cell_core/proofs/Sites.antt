@@ -1,6 +1,6 @@
 -- What is passed to the maps has the lengths that they declare.
 use Rattle.std.proofs.Common.{◌≡◌, ◌≢◌, ℕ, zero, suc, ◌+◌, ◌*◌, ◌<◌, ◌≤◌, true, false, Bool, List, get_or, ap, add-one, [], ◌∷◌, ◌++◌, length, take, drop, refl, sym, ◌∙◌, arith, append_assoc, map as map_list}
-use Rattle.std.proofs.lemmas.List.{length-take-le, length-map}
+use Rattle.std.proofs.lemmas.List.{length-map}
 use Rattle.std.proofs.lemmas.List.{get_or-map}
 use Rattle.std.proofs.Math.Seq.{drop-cons}
 use Rattle.byteorder.specs.Endian.{little_bytes}
@@ -9,16 +9,10 @@ use Rattle.cell_core.specs.declared.site.Site.{Site}
 use Rattle.cell_core.specs.View.{site_of}
 use Rattle.cell_core.specs.Sites.{SiteView, site_at, no_site, spelled, bytes_of, records, operation_on, applied, after}
 use Rattle.cell_core.specs.Cells.{on}
-use Rattle.cell_core.proofs.SpelledLaws.{spelled_length}
+use Rattle.cell_core.proofs.SpelledLaws.{bytes_length}
 use Rattle.xdp_state.specs.xdp_maps.Operations.{operated}
 use Rattle.std.specs.Prelude.{if◌then◌else◌, ◌&&◌, ◌==◌, not}
 use Rattle.std.proofs.lemmas.Bool.{eqb-true}
-
-pub bytes_length : (n : ℕ) (xs : List ℕ) → n ≤ 8 * length xs → length (bytes_of n xs) ≡ n
-bytes_length n xs h = length-take-le n (spelled xs) (omega (arith, spelled_length xs))
-
-pub key_length : (n : ℕ) (v : ℕ → ℕ) (ws : List ℕ) → n ≤ 8 * length ws → length (bytes_of n (map_list v ws)) ≡ n
-key_length n v ws h = bytes_length n (map_list v ws) (omega (arith, length-map ws v))
 
 tail_length : (v : ℕ → ℕ) (ws : List ℕ) → length ws ≤ 1 + length (drop 1 (map_list v ws))
 tail_length v [] = omega arith

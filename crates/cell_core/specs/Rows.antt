@@ -1,9 +1,8 @@
 -- The rows of cells: in which stage each value is made, and up to which it is needed.
-use Rattle.std.specs.Prelude.{All, ℕ, zero, suc, ◌≡◌, ◌+◌, ◌-◌, ◌<◌, ◌≤◌, max, true, Some, List, [], ◌∷◌, ◌++◌, length, count_by, Contains}
+use Rattle.std.specs.Prelude.{All, ℕ, zero, suc, ◌≡◌, ◌+◌, ◌-◌, ◌<◌, ◌≤◌, max, List, [], ◌∷◌, ◌++◌, length, count_by}
 use Rattle.cell_core.specs.declared.program.Node.{Node}
-use Rattle.cell_core.specs.declared.program.FrameByte.{FrameByte}
-use Rattle.cell_core.specs.Cells.{CellView, cell_at, site_in, is_heavy, bit}
-use Rattle.cell_core.specs.Sites.{SiteView, ProgramView, site_at, records}
+use Rattle.cell_core.specs.Cells.{CellView, cell_at, is_heavy, bit}
+use Rattle.cell_core.specs.Sites.{SiteView, records}
 
 -- the greatest row of some cells, 0 where there are none
 abbrev pub greatest : (ℕ → ℕ) → List ℕ → ℕ
@@ -39,18 +38,6 @@ record_count sites = count_by (λ s. records s.act) sites
 -- the cells that a site takes
 abbrev pub taken_by : SiteView → List ℕ
 taken_by s = s.guard ∷ s.key ++ s.operands
-
--- Each value is kept as far as something needs it: the rows of the cells that take it, the row where packets commit for what a site
--- takes and for what an operation that may write answers, and the last row for the answer.
-pub record IsKept (p : ProgramView) (row kept_to : ℕ → ℕ) (commit last : ℕ) : Type 0 where
-  pub own : (k : ℕ) → k < length p.cells → row k ≤ kept_to k
-  pub inputs : (k i : ℕ) → k < length p.cells → Contains (cell_at p.cells k).ins i → row k ≤ kept_to i
-  pub sites : (s : SiteView) (i : ℕ) → Contains p.sites s → Contains (taken_by s) i → commit ≤ kept_to i
-  pub writes : (k j : ℕ) → k < length p.cells → site_in (cell_at p.cells k).op ≡ Some j → records (site_at p.sites j).act ≡ true → commit ≤ kept_to k
-  pub verdict : last ≤ kept_to p.verdict
-  pub target : last ≤ kept_to p.target
-  pub frame : (b : FrameByte) → Contains p.frame b → last ≤ kept_to b.cell
-  pub within : (k : ℕ) → k < length p.cells → kept_to k ≤ last
 
 -- No value is made in an earlier row than one that it takes.
 abbrev pub RowsRise : Type 0

@@ -93,7 +93,7 @@ fn load(maps: &Maps, map: u32, key: &[u8], at: u32, size: Size) -> u64
 }
 
 /// A store of the low bytes of a number into the value under a key: 1 where the key is there, else 0.
-#[tactic(auto, using(crate::proofs::Sizes::low_part))]
+#[tactic(auto, using(xdp_machine::proofs::SizeLaws::low_part))]
 fn store(maps: &mut Maps, map: u32, key: &[u8], at: u32, size: Size, n: u64) -> u64
     requires map { map < length maps.old.decls }
     requires key { length key.now ≡ (decl_at maps.old map).key }
@@ -150,7 +150,7 @@ fn operate(maps: &mut Maps, map: u32, act: Act, asked: &Asked) -> u64
 }
 
 /// Does the operation of a site, and says what it answers.
-#[tactic(auto, using(crate::proofs::Sites::key_length, crate::proofs::Sites::value_length))]
+#[tactic(auto, using(crate::proofs::SpelledLaws::words_length, crate::proofs::Sites::value_length))]
 fn apply(alloc: Global, values: &[u64], site: &Site, maps: &mut Maps) -> Result<u64, AllocError>
     requires { FitsMap maps.old.decls (site_of site.now) }
     ensures answer { IfOk result (λ n. n ≡ answer maps.old site.now.map site.now.act (operation_on (value_in values.now) maps.old (site_of site.now))) }
@@ -163,7 +163,7 @@ fn apply(alloc: Global, values: &[u64], site: &Site, maps: &mut Maps) -> Result<
 }
 
 /// Whether the key of a site is there.
-#[tactic(auto, using(crate::proofs::Sites::key_length, crate::proofs::Sites::value_length))]
+#[tactic(auto, using(crate::proofs::SpelledLaws::words_length, crate::proofs::Sites::value_length))]
 fn find(alloc: Global, values: &[u64], site: &Site, maps: &Maps) -> Result<u64, AllocError>
     requires { FitsMap maps.now.decls (site_of site.now) }
     ensures { IfOk result (λ n. n ≡ bit (found_in (contents_at maps.now site.now.map) (operation_on (value_in values.now) maps.now (site_of site.now)))) }

@@ -8,19 +8,21 @@ use Rattle.net_core.specs.Value.{Env, word}
 use Rattle.cell_core.specs.xdp_machine.State.{PacketIn}
 use Rattle.block_core.specs.declared.name.Name.{Name}
 use Rattle.block_core.specs.Blocks.{BlockWireTree}
+use Rattle.block_core.proofs.list_laws_laws.AllLaws.{all_one}
 use Rattle.cell_core.specs.declared.operator.Operator.{Operator}
-use Rattle.cell_core.specs.declared.operator.Operator.TheVariants.{Constant, Wire, Later, Join, SignExtend, Not, And, Or, Xor, Any, Select, Phi, Difference, Quotient, Remainder, Add, Sub, Mul, ShiftLeft, ShiftRight, NonZero, Pending}
+use Rattle.cell_core.specs.declared.operator.Operator.TheVariants.{Wire, Later, Join, SignExtend, Not, And, Or, Xor, Any, Select, Phi, Difference, Quotient, Remainder, Add, Sub, Mul, ShiftLeft, ShiftRight, NonZero}
 use Rattle.cell_core.specs.Cells.{number, bits_from}
 use Rattle.cell_core.specs.Formed.{divides}
 use Rattle.cell_nets.specs.declared.operand.Operand.{Operand}
-use Rattle.cell_nets.specs.Computing.{is_outside, is_operation, is_wired, takes_all, makes_product, taken, IsPair, HasDivisor}
+use Rattle.cell_nets.specs.Computing.{is_operation, is_wired, takes_all, makes_product, taken, IsPair, HasDivisor}
 use Rattle.cell_nets.specs.Operands.{number_in, IsOperand, IsFit, IsAvailable}
 use Rattle.cell_nets.specs.Parts.{ComputesBy, worth}
 use Rattle.cell_nets.specs.Wires.{GivesBy, Gives, always}
-use Rattle.cell_nets.proofs.ChoiceLemmas.{number_small}
-use Rattle.cell_nets.proofs.SliceLemmas.{whole_bits}
-use Rattle.cell_nets.proofs.GiveLemmas.{all_one, gives_as, gives_next}
+use Rattle.cell_nets.proofs.ChoiceLaws.{number_small}
+use Rattle.cell_nets.proofs.SliceLaws.{whole_bits}
+use Rattle.cell_nets.proofs.GiveLaws.{gives_as, gives_next}
 use Rattle.cell_nets.proofs.NumberLemmas.{operation_small}
+use Rattle.cell_nets.proofs.ComputingLaws.{no_divisor}
 
 -- ---- which operators are left
 pub phi_left : (op : Operator) → takes_all op ≡ true → ((bits : ℕ) → op ≢ Join bits) → op ≢ Any → op ≡ Phi
@@ -50,13 +52,6 @@ pair_left Sub h l n z s c x = λ e. (net.Sub, refl)
 pair_left Mul h l n z s c x = λ e. (net.Mul, refl)
 pair_left op h l n z s c x = λ e. cc
 
-pub operation_left : (op : Operator) → is_outside op ≡ false → ((n : ℕ) → op ≢ Constant n) → op ≢ Pending → op ≢ Wire → op ≢ Later → is_operation op ≡ true
-operation_left (Constant n) h c p w l = absurd (c n refl)
-operation_left Pending h c p w l = absurd (p refl)
-operation_left Wire h c p w l = absurd (w refl)
-operation_left Later h c p w l = absurd (l refl)
-operation_left op h c p w l = cc
-
 pub plain_takes : (op : Operator) → is_wired op ≡ false → takes_all op ≡ false
 plain_takes ShiftRight h = refl
 plain_takes Quotient h = refl
@@ -73,10 +68,6 @@ list_plain op h = cc
 copied_plain : (op : Operator) → (op ≡ Wire) ⊎ (op ≡ Later) → makes_product op ≡ false
 copied_plain op (inl e) = ap makes_product e
 copied_plain op (inr e) = ap makes_product e
-
-pub no_divisor : (op : Operator) → makes_product op ≡ false → divides op ≡ false
-no_divisor Mul h = refl
-no_divisor op h = h
 
 pub unwired : (op : Operator) → is_wired op ≡ false → divides op ≡ false
 unwired Quotient h = cc

@@ -16,6 +16,7 @@ use Rattle.block_core.specs.declared.name.Name.TheVariants as name
 use Rattle.block_core.specs.Blocks.{BlockWireTree}
 use Rattle.block_core.specs.Order.{RightReads}
 use Rattle.block_core.specs.Parts.{Solve}
+use Rattle.block_core.proofs.list_laws_laws.AllLaws.{all_one}
 use Rattle.cell_core.specs.declared.operator.Operator.TheVariants.{NonZero}
 use Rattle.cell_core.specs.Cells.{number, bits_from}
 use Rattle.cell_nets.specs.declared.operand.Operand.{Operand}
@@ -24,13 +25,12 @@ use Rattle.cell_nets.specs.Dividing.{divided, division}
 use Rattle.cell_nets.specs.Operands.{number_in, IsOperand, IsWide, AreFit, IsAvailable, IsNetOf}
 use Rattle.cell_nets.specs.Parts.{Computes, worth}
 use Rattle.cell_nets.specs.Wires.{behind, GivesBy, Gives, always}
-use Rattle.cell_nets.proofs.PartLemmas.{same_is}
-use Rattle.cell_nets.proofs.NarrowLemmas.{from_zero, bits_small}
-use Rattle.cell_nets.proofs.SliceLemmas.{whole_bits}
-use Rattle.cell_nets.proofs.ChoiceLemmas.{fit_of, number_small}
+use Rattle.cell_nets.proofs.ExpressionPartLaws.{same_is}
+use Rattle.cell_nets.proofs.NarrowLaws.{from_zero, bits_small}
+use Rattle.cell_nets.proofs.SliceLaws.{whole_bits}
+use Rattle.cell_nets.proofs.ChoiceLaws.{fit_of, number_small}
 use Rattle.cell_nets.proofs.WireLemmas.{wires_more, stays_more, last_there, last_is, wire_gives}
-use Rattle.cell_nets.proofs.ApartLemmas.{stay_as, stay_wire, stay_then}
-use Rattle.cell_nets.proofs.GiveLemmas.{all_one}
+use Rattle.cell_nets.proofs.ApartLaws.{stay_as, stay_wire, stay_then}
 
 -- ---- a divisor
 not_zero : (y : ℕ) → y ≢ 0 → (y == 0) ≡ false

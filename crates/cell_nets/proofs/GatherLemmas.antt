@@ -10,6 +10,7 @@ use Rattle.net_core.specs.Value.{Env}
 use Rattle.cell_core.specs.xdp_machine.State.{PacketIn}
 use Rattle.block_core.specs.declared.name.Name.{Name}
 use Rattle.block_core.specs.Blocks.{BlockWireTree}
+use Rattle.block_core.proofs.list_laws_laws.AllLaws.{all_one}
 use Rattle.cell_core.specs.declared.operator.Operator.TheVariants.{Any}
 use Rattle.cell_core.specs.Cells.{bit, on, bits_from}
 use Rattle.cell_nets.specs.declared.operand.Operand.{Operand}
@@ -17,11 +18,10 @@ use Rattle.cell_nets.specs.Gathering.{IsGathered}
 use Rattle.cell_nets.specs.Operands.{number_in, IsOperand, IsAvailable}
 use Rattle.cell_nets.specs.Parts.{Computes, worth}
 use Rattle.cell_nets.specs.Wires.{behind, Gives, always}
-use Rattle.cell_nets.proofs.NarrowLemmas.{bits_small}
+use Rattle.cell_nets.proofs.NarrowLaws.{bits_small}
 use Rattle.cell_nets.proofs.TestLemmas.{bit_low}
 use Rattle.cell_nets.proofs.ListLemmas.{any_map}
-use Rattle.cell_nets.proofs.ApartLemmas.{stay_none, stay_as, stay_then}
-use Rattle.cell_nets.proofs.GiveLemmas.{all_one}
+use Rattle.cell_nets.proofs.ApartLaws.{stay_none, stay_as, stay_then}
 
 apart : {X : Type 0} (Q : X → Type 0) (xs : List X) (x : X) → All Q (xs ++ x ∷ []) → All Q xs × Q x
 apart Q [] x h = (All-nil Q, h 0 x (omega arith))
@@ -68,7 +68,7 @@ any_of xs ys w t e h = subst (λ l. (ins : List (Operand _)) (packet : PacketIn)
 pub any_small : {N : Type 0} (packet : PacketIn) (xs : List (Operand N)) (w : ℕ) (v : Env N) → worth packet Any xs w v < 2 ^ w
 any_small packet xs w v = bits_small (bit (list_any on (map (number_in v) xs))) 0 w
 
--- a step behind another one
+-- a step after another one
 pub gathered_then : {P : Type 0} (p : P) (old mid new : List (BlockWireTree (Name P))) (args left last : List (Operand (Name P))) → IsGathered p old mid args left → IsGathered p mid new left last → IsGathered p old new args last
 gathered_then p old mid new args left last x y = record {
   operands = y.operands;

@@ -5,6 +5,7 @@ use Rattle.std.proofs.lemmas.List.{take_all, take_more, map-append}
 use Rattle.std.proofs.lemmas.List.Elements.{All-get_or}
 use Rattle.std.proofs.Math.Nat.{mod-eq_of_lt, mul-mod_left, div-div-eq-div-mul}
 use Rattle.std.proofs.Math.Pow.{pow_mono}
+use Rattle.block_core.proofs.list_laws_laws.NumberLaws.{add-mod}
 use Rattle.net_core.proofs.LowBitsLaws.{low_low, concatenated_small}
 use Rattle.cell_core.specs.xdp_machine.Arithmetic.{low}
 use Rattle.cell_core.specs.Cells.{bits_from, joined}
@@ -14,11 +15,11 @@ use Rattle.cell_nets.specs.declared.operand.Operand.{Operand}
 use Rattle.cell_nets.specs.declared.operand.Operand.TheVariants.{Known, Net, Part}
 use Rattle.cell_nets.specs.Operands.{number_in, IsAvailable, IsNarrow, IsFit, AreFit}
 use Rattle.cell_nets.specs.Parts.{IsPart, IsSlice}
-use Rattle.cell_nets.proofs.PartLemmas.{part_same, part_of, beside_slice}
-use Rattle.cell_nets.proofs.ChoiceLemmas.{fit_of}
+use Rattle.cell_nets.proofs.ExpressionPartLaws.{part_same, part_of, beside_slice}
+use Rattle.cell_nets.proofs.ChoiceLaws.{fit_of}
 use Rattle.cell_nets.proofs.ListLemmas.{available_at}
-use Rattle.cell_nets.proofs.NarrowLemmas.{from_zero, add-mod, bits_small}
-use Rattle.cell_nets.proofs.ShiftLemmas.{all_out, low_less}
+use Rattle.cell_nets.proofs.NarrowLaws.{from_zero, bits_small}
+use Rattle.cell_nets.proofs.ShiftLaws.{all_out, low_less}
 
 -- one more number below others
 pub joined_more : (bits : ℕ) (xs : List ℕ) (x : ℕ) → joined bits (xs ++ x ∷ []) ≡ low 64 (low 64 (joined bits xs * 2 ^ bits) + x)

@@ -16,9 +16,9 @@ use Rattle.cell_nets.specs.declared.operand.Operand.{Operand}
 use Rattle.cell_nets.specs.Listing.{IsChosen}
 use Rattle.cell_nets.specs.Operands.{IsAvailable, number_in}
 use Rattle.cell_nets.specs.Parts.{IsPart, IsSlice}
-use Rattle.cell_nets.proofs.PartLemmas.{part_same, part_of, const_slice, binary_part, conditional_part, same_is}
-use Rattle.cell_nets.proofs.NarrowLemmas.{from_zero}
-use Rattle.cell_nets.proofs.ChoiceLemmas.{choice_is}
+use Rattle.cell_nets.proofs.ExpressionPartLaws.{part_same, part_of, const_slice, binary_part, conditional_part, same_is}
+use Rattle.cell_nets.proofs.NarrowLaws.{from_zero}
+use Rattle.cell_nets.proofs.ChoiceLaws.{choice_is}
 
 -- ---- whether one is not 0
 or_bits : (p q : Bool) → bit_or (bit p) (bit q) ≡ bit (p || q)

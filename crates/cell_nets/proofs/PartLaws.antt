@@ -1,16 +1,18 @@
 -- Bits of a net of an operand, as an expression.
 use Rattle.std.specs.Prelude.{◌==◌, if◌then◌else◌}
-use Rattle.std.proofs.Common.{◌≡◌, ℕ, ◌+◌, ◌-◌, ◌^◌, ◌<◌, ◌≤◌, Bool, true, false, List, [], ◌∷◌, refl, arith, ◌⊎◌, inl, inr}
+use Rattle.std.proofs.Common.{◌≡◌, ℕ, ◌+◌, ◌-◌, ◌^◌, ◌<◌, ◌≤◌, Bool, true, false, List, [], ◌∷◌, refl, subst, arith, ◌⊎◌, inl, inr}
 use Rattle.std.proofs.lemmas.Bool.{cases_lt, eqb-true, eqb-false}
 use Rattle.net_core.specs.Nets.{Tree, TRead, TBit, TPartSelect}
+use Rattle.net_core.specs.Value.{Env}
 use Rattle.cell_core.specs.Cells.{bits_from}
 use Rattle.cell_nets.specs.declared.operand.Operand.{Operand}
-use Rattle.cell_nets.specs.declared.operand.Operand.TheVariants.{Net}
-use Rattle.cell_nets.specs.Operands.{IsWithin, HasNet}
+use Rattle.cell_nets.specs.declared.operand.Operand.TheVariants.{Known, Net, Part}
+use Rattle.cell_nets.specs.Operands.{number_in, IsFit, IsWithin, HasNet}
 use Rattle.cell_nets.specs.Parts.{IsSlice, part_tree}
-use Rattle.cell_nets.proofs.NarrowLemmas.{bits_small}
-use Rattle.cell_nets.proofs.PartLemmas.{slice_over}
-use Rattle.cell_nets.proofs.SliceLemmas.{whole_inside, bit_inside, bits_inside}
+use Rattle.cell_nets.specs.Wires.{HasBits}
+use Rattle.cell_nets.proofs.NarrowLaws.{bits_small}
+use Rattle.cell_nets.proofs.ExpressionPartLaws.{slice_over}
+use Rattle.cell_nets.proofs.SliceLaws.{whole_inside, bit_inside, bits_inside}
 
 module _ {N : Type 0} (n : N) (of from width : ℕ) (is : IsWithin of from width) where
   abbrev IsBits : Tree N → Type 0
@@ -40,3 +42,9 @@ module _ {N : Type 0} (n : N) (of from width : ℕ) (is : IsWithin of from width
 
 pub part_small : (n from width : ℕ) → bits_from n from width < 2 ^ width
 part_small n from width = bits_small n from width
+
+-- an operand of so many bits is below their power
+pub bits_below : {N : Type 0} (v : Env N) (a : Operand N) (w : ℕ) → HasBits w a → IsFit v a → number_in v a < 2 ^ w
+bits_below v (Known n) w b f = b
+bits_below v (Net n u) w b f = subst (λ k. (v.net n).value < 2 ^ k) b f.small
+bits_below v (Part n of from u) w b f = subst (λ k. bits_from (v.net n).value from u < 2 ^ k) b (part_small (v.net n).value from u)

@@ -1,12 +1,13 @@
 -- Choices, pair by pair.
 use Rattle.std.specs.Prelude.{if◌then◌else◌}
-use Rattle.std.proofs.Common.{◌≡◌, ℕ, zero, suc, ◌+◌, ◌-◌, ◌<◌, ◌≤◌, Bool, true, false, All, List, [], ◌∷◌, length, length-drop, drop, get_or, map, refl, sym, ◌∙◌, ap, subst, arith}
+use Rattle.std.proofs.Common.{◌≡◌, ℕ, ◌+◌, ◌-◌, ◌<◌, ◌≤◌, Bool, true, false, All, List, [], ◌∷◌, length, length-drop, drop, get_or, map, refl, sym, ◌∙◌, ap, subst, arith}
 use Rattle.std.proofs.lemmas.List.{length-map}
 use Rattle.net_core.specs.Nets.{Tree}
 use Rattle.net_core.specs.Value.{Env}
 use Rattle.cell_core.specs.xdp_machine.State.{PacketIn}
 use Rattle.block_core.specs.declared.name.Name.{Name}
 use Rattle.block_core.specs.Blocks.{BlockWireTree}
+use Rattle.block_core.proofs.list_laws_laws.AllLaws.{all_three}
 use Rattle.cell_core.specs.declared.operator.Operator.TheVariants.{Select, Phi}
 use Rattle.cell_core.specs.Cells.{on, bits_from, phi}
 use Rattle.cell_nets.specs.declared.operand.Operand.{Operand}
@@ -14,16 +15,10 @@ use Rattle.cell_nets.specs.Listing.{IsChosen}
 use Rattle.cell_nets.specs.Operands.{number_in, IsAvailable}
 use Rattle.cell_nets.specs.Parts.{Computes, worth}
 use Rattle.cell_nets.specs.Wires.{Gives, always}
-use Rattle.cell_nets.proofs.PartLemmas.{part_computes}
-use Rattle.cell_nets.proofs.ShiftLemmas.{cut_low}
+use Rattle.cell_nets.proofs.ExpressionPartLaws.{part_computes}
+use Rattle.cell_nets.proofs.ShiftLaws.{cut_low}
 use Rattle.cell_nets.proofs.ListLemmas.{available_at, phi_step, two_more}
-use Rattle.cell_nets.proofs.GiveLemmas.{gives_then}
-
-pub all_three : {X : Type 0} (Q : X → Type 0) (x y z : X) → Q x → Q y → Q z → All Q (x ∷ y ∷ z ∷ [])
-all_three Q x y z h l m zero d lt = h
-all_three Q x y z h l m (suc zero) d lt = l
-all_three Q x y z h l m (suc (suc zero)) d lt = m
-all_three Q x y z h l m (suc (suc (suc k))) d lt = absurd (omega arith)
+use Rattle.cell_nets.proofs.GiveLaws.{gives_then}
 
 -- the choice among the pairs from a place on
 abbrev pub chosen : {N : Type 0} → List (Operand N) → ℕ → ℕ → Env N → ℕ

@@ -7,6 +7,8 @@ use Rattle.net_core.proofs.LowBitsLaws.{low_low}
 use Rattle.cell_core.specs.xdp_machine.State.{PacketIn}
 use Rattle.block_core.specs.declared.name.Name.{Name}
 use Rattle.block_core.specs.Blocks.{BlockWireTree}
+use Rattle.block_core.proofs.list_laws_laws.NumberLaws.{add-mod}
+use Rattle.block_core.proofs.list_laws_laws.AllLaws.{all_two}
 use Rattle.cell_core.specs.declared.operator.Operator.TheVariants.{Join, ShiftLeft, Add}
 use Rattle.cell_core.specs.Cells.{number, bits_from, joined}
 use Rattle.cell_nets.specs.declared.operand.Operand.{Operand}
@@ -14,10 +16,10 @@ use Rattle.cell_nets.specs.declared.operand.Operand.TheVariants.{Known}
 use Rattle.cell_nets.specs.Operands.{number_in, IsAvailable}
 use Rattle.cell_nets.specs.Parts.{worth}
 use Rattle.cell_nets.specs.Wires.{Gives, always}
-use Rattle.cell_nets.proofs.NarrowLemmas.{from_zero, add-mod}
+use Rattle.cell_nets.proofs.NarrowLaws.{from_zero}
 use Rattle.cell_nets.proofs.ListLemmas.{available_at}
 use Rattle.cell_nets.proofs.JoinLemmas.{joined_at}
-use Rattle.cell_nets.proofs.GiveLemmas.{all_two, gives_then, gives_next, known_gives}
+use Rattle.cell_nets.proofs.GiveLaws.{gives_then, gives_next, known_gives}
 
 twice : (n : ℕ) → n % 2 ^ 64 % 2 ^ 64 ≡ n % 2 ^ 64
 twice n = low_low n 64 (omega arith)

@@ -15,8 +15,8 @@ use Rattle.cell_core.specs.Cells.{number, bit, bits_from}
 use Rattle.cell_nets.specs.Narrow.{test_op}
 use Rattle.net_core.specs.ProductRules.Products.{is_product}
 use Rattle.cell_nets.specs.Computing.{makes_product}
-use Rattle.cell_nets.proofs.PartLemmas.{test_is}
-use Rattle.cell_nets.proofs.NarrowLemmas.{from_zero}
+use Rattle.cell_nets.proofs.ExpressionPartLaws.{test_is}
+use Rattle.cell_nets.proofs.NarrowLaws.{from_zero}
 
 pub test_width_is : (o : Operator) (p : Op) (w : ℕ) → 0 < w → test_op o ≡ Some p → op_width p w w ≡ 1
 test_width_is Equal net.Equal w some e = test_is w some

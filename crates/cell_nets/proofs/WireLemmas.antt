@@ -1,4 +1,4 @@
--- Wires, one behind another.
+-- Wires, one after another.
 use Rattle.std.specs.Prelude.{Contains, nat_le}
 use Rattle.std.specs.List.{list_all}
 use Rattle.std.proofs.Common.{◌≡◌, ℕ, zero, suc, ◌+◌, ◌^◌, ◌<◌, Bool, true, false, ◌&&◌, All, List, [], ◌∷◌, ◌++◌, length, get_or, refl, sym, ◌∙◌, ap, subst, arith, inl, inr, ◌⊎◌, append_assoc}
@@ -16,12 +16,13 @@ use Rattle.block_core.specs.Order.{Reads, AllRead, RightReads, IsBefore, InOrder
 use Rattle.block_core.specs.Parts.{Solve, Goes}
 use Rattle.block_core.proofs.ProductBlocks.FreeLaws.{flat_without}
 use Rattle.block_core.proofs.ProductBlocks.CleanLaws.{none_in}
+use Rattle.block_core.proofs.list_laws_laws.BoolLaws.{both_of, and_is}
 use Rattle.cell_nets.specs.declared.operand.Operand.{Operand}
 use Rattle.cell_nets.specs.declared.operand.Operand.TheVariants.{Known, Net, Part}
 use Rattle.cell_nets.specs.Operands.{IsWide, IsFit, AreFit, AreDeclared, IsAvailable, IsNetOf}
 use Rattle.cell_nets.specs.Parts.{ComputesBy}
 use Rattle.cell_nets.specs.Wires.{own, behind, is_spelled, AreWires, GivesBy, always}
-use Rattle.cell_nets.proofs.ApartLemmas.{all_self, net_clean, stay_wire}
+use Rattle.cell_nets.proofs.ApartLaws.{all_self, net_clean, stay_wire}
 
 -- ---- one wire more
 module _ {P : Type 0} (p : P) where
@@ -57,7 +58,7 @@ module _ {P : Type 0} (p : P) where
   later d before at (name.Wire q i) (inl h) = absurd (let k = h.1 in omega arith)
   later d before at (name.Wire q i) (inr h) = inr h
 
-  -- what stands behind other wires comes before the next
+  -- what stands after other wires comes before the next
   behind_before :
       (d : Whole P) (before : List P) (outside : List (Operand (Name P))) (ws : List (BlockWireTree (Name P))) → ((n : Name P) → IsNetOf outside n → IsBefore d before p 0 n)
       → (n : Name P) → IsNetOf (behind p outside ws) n → IsBefore d before p (length ws) n
@@ -72,24 +73,17 @@ module _ {P : Type 0} (p : P) where
       by_cases (inl a) = later d before (length ws) n (h n (u, inl a))
       by_cases (inr b) = let r = own_net 0 ws n u b.0 b.1 b.2 in subst (IsBefore d before p (length ws)) (sym r.2) (inl (refl, omega (arith, r.1)))
 
-both_of : (a b : Bool) → (a && b) ≡ true → (a ≡ true) × (b ≡ true)
-both_of true b e = (refl, e)
-both_of false b e = cc
-
-both : (a b : Bool) → a ≡ true → b ≡ true → (a && b) ≡ true
-both a b e f = rw (e, f) refl
-
 goes_more : {N : Type 0} (v : Env N) (ws : List (BlockWireTree N)) (w : BlockWireTree N) → Goes v ws → stops v w.right ≡ false → Goes v (ws ++ w ∷ [])
 goes_more v [] w h e = (e, tt)
 goes_more v (x ∷ ws) w h e = (h.0, goes_more v ws w h.1 e)
 
 typed_more : {N : Type 0} (s : Scope N) (ws : List (BlockWireTree N)) (w : BlockWireTree N) → block_wires_typed s ws ≡ true → (same w.width (right_width s w.right) && nat_le w.width 64) ≡ true → block_wires_typed s (ws ++ w ∷ []) ≡ true
-typed_more s [] w h e = both _ _ e refl
-typed_more s (x ∷ ws) w h e = let q = both_of _ _ h in both _ _ q.0 (typed_more s ws w q.1 e)
+typed_more s [] w h e = and_is _ _ e refl
+typed_more s (x ∷ ws) w h e = let q = both_of _ _ h in and_is _ _ q.0 (typed_more s ws w q.1 e)
 
 all_more : {X : Type 0} (f : X → Bool) (xs : List X) (x : X) → list_all f xs ≡ true → f x ≡ true → list_all f (xs ++ x ∷ []) ≡ true
-all_more f [] x h e = both _ _ e refl
-all_more f (y ∷ xs) x h e = let q = both_of _ _ h in both _ _ q.0 (all_more f xs x q.1 e)
+all_more f [] x h e = and_is _ _ e refl
+all_more f (y ∷ xs) x h e = let q = both_of _ _ h in and_is _ _ q.0 (all_more f xs x q.1 e)
 
 module _ {N : Type 0} (p q : N → Type 0) (h : (n : N) → p n → q n) where
   mutual
@@ -146,7 +140,7 @@ wires_more {P} p outside ws w a r = record {
     earlier s h c in_ws = h c (subst (λ l. Contains l c) (sym (behind_more p outside ws w)) (Contains-append_left (behind p outside ws) (Net (name.Wire p (length ws)) w.width ∷ []) c in_ws))
 
     width_holds : (s : Scope (Name P)) → right_width s w.right ≡ w.width → (same w.width (right_width s w.right) && nat_le w.width 64) ≡ true
-    width_holds s e = rw e (both _ _ (both _ _ (lt-ltb 0 w.width r.wide.some) (eq-eqb w.width w.width refl)) (le-leb w.width 64 r.wide.most))
+    width_holds s e = rw e (and_is _ _ (and_is _ _ (lt-ltb 0 w.width r.wide.some) (eq-eqb w.width w.width refl)) (le-leb w.width 64 r.wide.most))
 
 -- ---- what it gives
 contains_more : {P : Type 0} (p : P) (ws : List (BlockWireTree (Name P))) (w : BlockWireTree (Name P)) (outside : List (Operand (Name P))) (a : Operand (Name P)) → Contains (behind p outside ws) a → Contains (behind p outside (ws ++ w ∷ [])) a

@@ -11,7 +11,7 @@ use Rattle.cell_nets.specs.Operands.{number_in, IsOperand, AreFit, IsAvailable}
 use Rattle.cell_nets.specs.Apart.{StayApart}
 use Rattle.cell_nets.specs.Wires.{behind, AreWires}
 
--- behind more wires, none of them a product, operands of which one is not 0 exactly where that is so of others
+-- after more wires, none of them a product, operands of which one is not 0 exactly where that is so of others
 pub record IsGathered {P : Type 0} (p : P) (old new : List (BlockWireTree (Name P))) (args left : List (Operand (Name P))) : Type 0 where
   pub operands : All IsOperand left
   pub before : (v : Env (Name P)) → Solve v p 0 new → Solve v p 0 old

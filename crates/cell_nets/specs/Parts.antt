@@ -22,7 +22,7 @@ pub record IsPart {N : Type 0} (ins : List (Operand N)) (deep width : ℕ) (f : 
   pub apart : prefixes_apart t ≡ true
   pub no_product : has_product (λ n. false) t ≡ false
 
--- one that may stand behind a prefix
+-- one that may stand after a prefix
 pub record IsSlice {N : Type 0} (ins : List (Operand N)) (deep width : ℕ) (f : Env N → ℕ) (t : Tree N) : Type 0 where
   pub part : IsPart ins deep width f t
   pub bare : is_prefixed t ≡ false

@@ -1,4 +1,4 @@
--- Wires of a part that stand one behind another, and what they give.
+-- Wires of a part that stand one after another, and what they give.
 use Rattle.std.specs.Prelude.{◌≡◌, ℕ, suc, ◌^◌, ◌<◌, Bool, true, false, All, List, [], ◌∷◌, ◌++◌, map as map_list}
 use Rattle.std.specs.List.{list_all}
 use Rattle.net_core.specs.Value.{Env}
@@ -26,7 +26,7 @@ abbrev pub own : {P : Type 0} → P → ℕ → List (BlockWireTree (Name P)) �
 own p at [] = []
 own p at (w ∷ ws) = Net (name.Wire p at) w.width ∷ own p (suc at) ws
 
--- what a wire behind others may read: what comes from outside, and those
+-- what a wire after others may read: what comes from outside, and those
 abbrev pub behind : {P : Type 0} → P → List (Operand (Name P)) → List (BlockWireTree (Name P)) → List (Operand (Name P))
 behind p outside ws = outside ++ own p 0 ws
 
@@ -48,13 +48,13 @@ HasBits w (Known n) = n < 2 ^ w
 HasBits w (Net n u) = u ≡ w
 HasBits w (Part n of from u) = u ≡ w
 
--- Behind these wires an operand is there, of this value where a condition holds.
+-- After these wires an operand is there, of this value where a condition holds.
 pub record IsGiven {P : Type 0} (p : P) (outside : List (Operand (Name P))) (ws : List (BlockWireTree (Name P))) (needs : Env (Name P) → Type 0) (f : Env (Name P) → ℕ) (out : Operand (Name P)) : Type 0 where
   pub wires : AreWires p outside ws
   pub there : IsAvailable (behind p outside ws) out
   pub value : (v : Env (Name P)) → AreFit v outside → Solve v p 0 ws → needs v → number_in v out ≡ f v
 
--- Wires become more: whatever comes from outside, behind them stands an operand of so many bits, of this value, and products among them stay apart.
+-- Wires become more: whatever comes from outside, after them stands an operand of so many bits, of this value, and products among them stay apart.
 pub record GivesBy {P : Type 0} (product : Bool) (p : P) (old new : List (BlockWireTree (Name P))) (args : List (Operand (Name P))) (needs : Env (Name P) → Type 0) (f : Env (Name P) → ℕ) (width : ℕ) (out : Operand (Name P)) : Type 0 where
   pub before : (v : Env (Name P)) → Solve v p 0 new → Solve v p 0 old
   pub stays : (outside : List (Operand (Name P))) (a : Operand (Name P)) → IsAvailable (behind p outside old) a → IsAvailable (behind p outside new) a

@@ -3,20 +3,18 @@
 ghost use Rattle.std.specs.Prelude.{ℕ, [], ◌∷◌, ◌≡◌, ◌<◌, ◌≤◌, All, length, IfOk};
 ghost use Rattle.cell_core.specs.xdp_machine.State.{PacketIn};
 ghost use Rattle.cell_core.specs.declared.operator.Operator.TheVariants as operator;
+ghost use Rattle.cell_nets.specs.declared.listing.TheConstants.{MOST_OPERANDS};
 ghost use Rattle.cell_nets.specs.Gathering.{IsGathered};
 ghost use Rattle.cell_nets.specs.Operands.{IsOperand, IsWide};
 ghost use Rattle.cell_nets.specs.Parts.{worth};
 ghost use Rattle.cell_nets.specs.Wires.{wires_of, always, Gives};
 
-use crate::listing::any;
+use crate::listing::{MOST_OPERANDS, any};
 use crate::operand::Operand;
 use crate::wires::add_wire;
 use block_core::block::BlockWire;
 use block_core::name::Name;
 use std::alloc::{AllocError, Global};
-
-/// How many operands an expression has at most.
-const MOST: usize = 40;
 
 // Operands as they are, or one wire for all of them where there are as many as an expression has.
 fn gathered<P: Copy>(
@@ -26,11 +24,11 @@ fn gathered<P: Copy>(
     args: Vec<Operand<Name<P>>>,
 ) -> Result<Vec<Operand<Name<P>>>, AllocError>
     requires operands { All IsOperand args.items }
-    requires few { length args.items ≤ MOST }
-    ensures few { IfOk result (λ c. length c.items < MOST) }
+    requires few { length args.items ≤ MOST_OPERANDS }
+    ensures few { IfOk result (λ c. length c.items < MOST_OPERANDS) }
     ensures gathered { IfOk result (λ c. IsGathered part (wires_of wires.old.items) (wires_of wires.new.items) args.items c.items) }
 {
-    if args.len() < MOST {
+    if args.len() < MOST_OPERANDS {
         return Ok(args);
     }
     let bit = any(alloc, &args, 1)?;

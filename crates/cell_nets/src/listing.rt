@@ -18,10 +18,13 @@ use net_core::build::{binary, conditional, constant};
 use net_core::tree::{Expr, Op};
 use std::alloc::{AllocError, Global};
 
+/// How many operands an expression has at most.
+pub const MOST_OPERANDS: usize = 40;
+
 /// Whether one of some operands is not 0: 1 or 0.
 pub fn any<N: Copy>(alloc: Global, args: &[Operand<N>], width: u8) -> Result<Expr<N>, AllocError>
     requires operands { All IsOperand args.now }
-    requires few { length args.now ≤ 40 }
+    requires few { length args.now ≤ MOST_OPERANDS }
     requires width { IsWide width }
     ensures { (ins : List (Operand N)) (packet : PacketIn) → All (IsAvailable ins) args.now → IfOk result (λ e. Computes ins width (worth packet operator.Any args.now width) (tree_of e)) }
 {
@@ -56,7 +59,7 @@ pub(crate) fn last_value<N: Copy>(
 /// Of operands in pairs, the second of the first pair whose first is not 0, or else of the last; 0 in place of one that is missing.
 pub fn phi<N: Copy>(alloc: Global, args: &[Operand<N>], width: u8) -> Result<Expr<N>, AllocError>
     requires operands { All IsOperand args.now }
-    requires few { length args.now ≤ 40 }
+    requires few { length args.now ≤ MOST_OPERANDS }
     requires width { IsWide width }
     ensures { (ins : List (Operand N)) (packet : PacketIn) → All (IsAvailable ins) args.now → IfOk result (λ e. Computes ins width (worth packet operator.Phi args.now width) (tree_of e)) }
 {
@@ -95,7 +98,7 @@ pub fn join<N: Copy>(
     width: u8,
 ) -> Result<Expr<N>, AllocError>
     requires operands { All IsOperand args.now }
-    requires few { length args.now ≤ 40 }
+    requires few { length args.now ≤ MOST_OPERANDS }
     requires bits { (0 < bits) × (bits ≤ 63) }
     requires apart { All (IsNarrow bits) (drop 1 args.now) }
     requires width { IsWide width }

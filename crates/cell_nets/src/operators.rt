@@ -17,7 +17,7 @@ use crate::choosing::{invert, non_zero, select};
 use crate::comparing::compare;
 use crate::dividing::divide;
 use crate::gathering::any_wires;
-use crate::listing::join;
+use crate::listing::{MOST_OPERANDS, join};
 use crate::narrow::narrow;
 use crate::operand::Operand;
 use crate::phi::phi_wires;
@@ -207,7 +207,7 @@ fn joined<P: Copy>(
     requires width { IsWide width }
     ensures { (packet : PacketIn) → IfOk result (Gives part (wires_of wires.old.items) (wires_of wires.new.items) args.now always (worth packet (operator.Join bits) args.now width) width) }
 {
-    if bits > 0 && args.len() <= 40 && are_narrow(args, bits) {
+    if bits > 0 && args.len() <= MOST_OPERANDS && are_narrow(args, bits) {
         let e = join(alloc, args, bits, width)?;
         let out = add_wire(wires, part, width, e)?;
         return Ok(out);

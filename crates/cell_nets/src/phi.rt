@@ -8,7 +8,7 @@ ghost use Rattle.cell_nets.specs.Parts.{worth};
 ghost use Rattle.cell_nets.specs.Wires.{wires_of, always, Gives};
 
 use crate::choosing::select;
-use crate::listing::{last_value, phi};
+use crate::listing::{MOST_OPERANDS, last_value, phi};
 use crate::operand::Operand;
 use crate::wires::add_wire;
 use block_core::block::BlockWire;
@@ -16,7 +16,7 @@ use block_core::name::Name;
 use std::alloc::{AllocError, Global};
 
 /// Of operands in pairs, the second of the first pair whose first is not 0, or else of the last; 0 in place of one that is missing.
-/// This is one wire for at most 40 operands, and one for each pair of more.
+/// This is one wire for at most `MOST_OPERANDS` operands, and one for each pair of more.
 pub fn phi_wires<P: Copy>(
     alloc: Global,
     wires: &mut Vec<BlockWire<Name<P>>>,
@@ -28,7 +28,7 @@ pub fn phi_wires<P: Copy>(
     requires width { IsWide width }
     ensures { (packet : PacketIn) → IfOk result (Gives part (wires_of wires.old.items) (wires_of wires.new.items) args.now always (worth packet operator.Phi args.now width) width) }
 {
-    if args.len() <= 40 {
+    if args.len() <= MOST_OPERANDS {
         let e = phi(alloc, args, width)?;
         let out = add_wire(wires, part, width, e)?;
         return Ok(out);

@@ -1,4 +1,4 @@
-//! Single steps of nets: an operand more behind wires, by operands that stand for numbers.
+//! Single steps of nets: an operand more after wires, by operands that stand for numbers.
 
 ghost use Rattle.std.specs.Prelude.{ℕ, true, Some, [], ◌∷◌, ◌≡◌, ◌==◌, ◌+◌, ◌&&◌, ◌≤◌, not, nat_lt, nat_le, if◌then◌else◌, IfOk};
 ghost use Rattle.cell_core.specs.Cells.{bit, on, bits_from};

@@ -1,4 +1,4 @@
-//! Wires of a part, one behind another.
+//! Wires of a part, one after another.
 
 ghost use Rattle.std.specs.Prelude.{ℕ, Bool, List, [], ◌∷◌, ◌++◌, Some, ◌≡◌, ◌^◌, ◌<◌, ◌≤◌, All, length, IfOk, OnOk};
 ghost use Rattle.net_core.specs.Value.{Env};
@@ -18,7 +18,7 @@ use cell_core::value::bits_from;
 use net_core::tree::{Expr, Right};
 use std::alloc::{AllocError, Global};
 
-/// Adds a wire behind others, and says what it is called. Of 2^32 wires a part has no room for more, as where memory is out.
+/// Adds a wire after others, and says what it is called. Of 2^32 wires a part has no room for more, as where memory is out.
 pub(crate) fn push<P: Copy>(
     wires: &mut Vec<BlockWire<Name<P>>>,
     part: P,

@@ -14,7 +14,7 @@ use Rattle.net_core.specs.Clock.{Stored, net_value, memory_word_value, env, env_
 use Rattle.net_core.specs.Ports.{port_list, FitOutputs}
 use Rattle.net_core.specs.Suits.{IsOfWidth, Suits}
 use Rattle.net_core.proofs.WidthLaws.{value_fits, right_fits}
-use Rattle.net_core.proofs.list_laws_laws.PlaceLaws.{some_below}
+use Rattle.list_laws.proofs.PlaceLaws.{some_below}
 use Rattle.clock_sim.specs.Ready.{ArePorts, IsStored}
 use Rattle.clock_sim.proofs.StoredLemmas.{same_sides, done_kept}
 

@@ -16,7 +16,7 @@ use Rattle.net_core.specs.Clock.{Stored, first_words, first_memories, first_stor
 use Rattle.net_core.specs.Ports.{port_list}
 use Rattle.net_core.specs.View.{netlist_of}
 use Rattle.net_core.specs.Suits.{IsOfWidth}
-use Rattle.net_core.proofs.list_laws_laws.PlaceLaws.{some_below}
+use Rattle.list_laws.proofs.PlaceLaws.{some_below}
 use Rattle.clock_sim.specs.declared.step.Step.{Step}
 use Rattle.clock_sim.specs.declared.builder.Operand.{Operand}
 use Rattle.clock_sim.specs.declared.operands.Operands.{Operands}

@@ -15,9 +15,6 @@ FitAll [] words = Unit {0}
 FitAll (p ∷ ps) [] = ⊥
 FitAll (p ∷ ps) (w ∷ ws) = (0 < input_width p → IsOfWidth (input_width p) w) × FitAll ps ws
 
-none : Port
-none = record { output = true; width = 0 }
-
 fit_at : (ps : List Port) (ws : List Word) (k : ℕ) → FitAll ps ws → 0 < input_width (get_or ps k (record { output = true; width = 0 })) → IsOfWidth (input_width (get_or ps k (record { output = true; width = 0 }))) (get_or ws k nothing)
 fit_at [] ws k h some = absurd (omega arith)
 fit_at (p ∷ ps) [] k h some = absurd h

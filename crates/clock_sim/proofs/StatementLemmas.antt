@@ -11,7 +11,7 @@ use Rattle.net_core.specs.Nets.{Tree, StatementTree, SBlock, SIf, SIfElse, SSet,
 use Rattle.net_core.specs.Value.{nothing, value}
 use Rattle.net_core.specs.Width.{same, statement_typed, statements_typed}
 use Rattle.net_core.specs.Clock.{Stored, done, all_done, edge}
-use Rattle.net_core.proofs.list_laws_laws.PlaceLaws.{some_below}
+use Rattle.list_laws.proofs.PlaceLaws.{some_below}
 use Rattle.clock_sim.specs.declared.step.Opcode.TheVariants.{Conditional, Complement}
 use Rattle.clock_sim.specs.declared.builder.Operand.{Operand}
 use Rattle.clock_sim.specs.declared.operands.Operands.{Operands}

@@ -1,7 +1,6 @@
 -- What the steps of a tree give is its value.
-use Rattle.std.proofs.Common.{◌≡◌, ℕ, ◌+◌, ◌*◌, ◌^◌, ◌<◌, ◌≤◌, ◌/◌, ◌%◌, length, get_or, sym, ap, ◌∙◌, subst, arith}
+use Rattle.std.proofs.Common.{◌≡◌, ℕ, ◌+◌, ◌<◌, ◌≤◌, ◌/◌, ◌%◌, length, get_or, sym, ap, ◌∙◌, subst, arith}
 use Rattle.std.proofs.Math.Path.{fun_ext}
-use Rattle.std.proofs.lemmas.Nat.{pow-add}
 use Rattle.std.proofs.Math.Nat.{div-le_self, mod-le}
 use Rattle.net_core.specs.declared.tree.Word.{Word}
 use Rattle.net_core.specs.declared.tree.Net.{Net}
@@ -12,6 +11,7 @@ use Rattle.net_core.specs.Value.{apply, apply_unary, part_select, concatenated, 
 use Rattle.net_core.specs.Width.{const_width, same_width, part_select_width, concatenation_width, width_of, parts_width}
 use Rattle.net_core.specs.Suits.{IsOfWidth}
 use Rattle.net_core.proofs.WidthLaws.{const_parts, part_select_parts, same_parts, concatenation_parts, concatenation_is}
+use Rattle.net_core.proofs.PartLaws.{concatenated_assoc}
 use Rattle.clock_sim.specs.declared.step.Opcode.TheVariants.{Quotient, Remainder}
 use Rattle.clock_sim.specs.declared.builder.Operand.{Operand}
 use Rattle.clock_sim.specs.Steps.{worked, run}
@@ -72,15 +72,6 @@ last_joins old one new n front a q p e last made = record {
   gives = λ ds wires u h g. made.gives ds u (λ x. value (env_at wires x) a) (gives_later ds old one front u e g) (last.gives ds wires h);
 }
 
-concatenated_assoc : (a b c : Word) → concatenated (concatenated a b) c ≡ concatenated a (concatenated b c)
-concatenated_assoc a b c =
-    let widths : a.width + b.width + c.width ≡ a.width + (b.width + c.width) = omega arith in
-    ap (λ w. word w ((a.value * 2 ^ b.width + b.value) * 2 ^ c.width + c.value)) widths
-    ∙ ap (λ v. word (a.width + (b.width + c.width)) v) (shifted a.value b.value c.value (2 ^ b.width) (2 ^ c.width) (2 ^ (b.width + c.width)) (pow-add 2 b.width c.width))
-  where
-    shifted : (x y z p q r : ℕ) → r ≡ p * q → (x * p + y) * q + z ≡ x * r + (y * q + z)
-    shifted x y z p q r e = rw e (grind arith)
-
 -- a word before others can be put before the first of them
 record Regroups (a b c : ℕ) : Type 0 where
   some : 0 < concatenation_width a b
@@ -108,7 +99,7 @@ pub record Joining (n : Operands) (first : Operand) (all left : Trees Net) (old 
   pub operands : AreOperands n (length now.slots)
   pub joins : (last : Flat) (p : Operand) → Joins now last n front left p → Joins old last n first all p
 
--- the next word fits behind the front
+-- the next word fits after the front
 pub joining_next : (n : Operands) (first : Operand) (all left rest : Trees Net) (a : Tree Net) (old now : Flat) (front : Operand) → left ≡ TMore a rest → Joining n first all left old now front → 0 < concatenation_width front.width (width_of (scope_of n) a)
 joining_next n first all left rest a old now front e h0 =
     let h = subst (λ l. Joining n first all l old now front) e h0 in

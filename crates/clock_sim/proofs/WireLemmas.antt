@@ -3,7 +3,7 @@ use Rattle.std.specs.Prelude.{if◌then◌else◌, ◌==◌, nat_le, ◌^◌}
 use Rattle.std.proofs.Common.{◌≡◌, ℕ, zero, suc, ◌+◌, ◌<◌, ◌≤◌, true, ◌&&◌, Option, Some, None, List, [], ◌∷◌, ◌++◌, length, get_or, refl, sym, ap, ◌∙◌, subst, arith, ⊎_elim, append_assoc}
 use Rattle.std.proofs.Math.Path.{fun_ext}
 use Rattle.std.proofs.lemmas.Bool.{and_parts, cases_lt, cases_eq}
-use Rattle.std.proofs.lemmas.List.{get_or_append_left, get_or_at, length_push, map_push, append-nil}
+use Rattle.std.proofs.lemmas.List.{get_or_append_left, get_or_at, length_push, map_push}
 use Rattle.net_core.specs.declared.tree.Word.{Word}
 use Rattle.net_core.specs.declared.tree.Net.{Net}
 use Rattle.net_core.specs.declared.tree.Net.TheVariants as net
@@ -14,14 +14,14 @@ use Rattle.net_core.specs.Width.{Scope, scope, net_width, memory_width, same, ri
 use Rattle.net_core.specs.Clock.{with_wires, stopped_at, rights, memory_word_value}
 use Rattle.net_core.specs.Suits.{IsOfWidth}
 use Rattle.net_core.proofs.WidthLaws.{same_parts}
-use Rattle.net_core.proofs.list_laws_laws.PlaceLaws.{some_below}
+use Rattle.list_laws.proofs.PlaceLaws.{some_below}
 use Rattle.clock_sim.specs.declared.builder.Operand.{Operand}
 use Rattle.clock_sim.specs.declared.operands.Operands.{Operands}
 use Rattle.clock_sim.specs.declared.operands.Widths.{Widths}
 use Rattle.clock_sim.specs.declared.wires.Divisor.{Divisor}
 use Rattle.clock_sim.specs.Steps.{run}
 use Rattle.clock_sim.specs.Flat.{Flat, Situation, IsFine, contents_of, Starts, Gives, Extends, Adds, RightValues, AreOperands, no_operand, no_widths, operand_in, widths_in, scope_of, env_at, AreCells, Knows}
-use Rattle.clock_sim.specs.Edges.{Matches, widths_at, sizes_of, AreTyped, divisor_in, IsDivided, AreDivided, AddsWires, AreKnown, first_zero, AreDivisors, Stops, divisors_at, divisors_from}
+use Rattle.clock_sim.specs.Edges.{Matches, widths_at, sizes_of, AreTyped, divisor_in, IsDivided, AreDivided, first_zero, AreDivisors, Stops, divisors_at, divisors_from}
 use Rattle.clock_sim.proofs.StoredLemmas.{same_sides}
 use Rattle.clock_sim.proofs.BuilderLemmas.{extends_none, extends_more, gives_later}
 
@@ -249,21 +249,6 @@ wiring_more first old new begun n n' p all passed passed' left rest w e e' adds 
 
 pub wiring_first : (first now : Flat) (begun n : Operands) (all passed left rest : List WireTree) (w : WireTree) → left ≡ w ∷ rest → Wiring first now begun n all passed left → 0 < right_width (scope_of n) w.right
 wiring_first first now begun n all passed left rest w e h = right_some n w rest (subst (λ l. AreTyped n l) e h.typed)
-
-pub wiring_adds : (first now : Flat) (begun n : Operands) (all passed left : List WireTree) → left ≡ [] → Wiring first now begun n all passed left → AddsWires begun n all
-wiring_adds first now begun n all passed left e h0 =
-    let h = subst (λ l. Wiring first now begun n all passed l) e h0 in
-    record { ports = h.ports; registers = h.registers; memories = h.memories; wires = sym (append-nil (widths_at n.wires.items)) ∙ h.widths }
-
-pub wiring_known : (first now : Flat) (begun n : Operands) (all passed left : List WireTree) → left ≡ [] → Wiring first now begun n all passed left → AreKnown first now begun n all
-wiring_known first now begun n all passed left e h0 =
-    let h = subst (λ l. Wiring first now begun n all passed l) e h0 in
-    record {
-      knows = λ ds k.
-          let w = h.knows ds k in
-          let is : w.values ≡ (λ (x : Situation). with_wires x.ins x.stored [] all) = fun_ext w.settled in
-          subst (λ f. Knows ds now n f) is w.knows;
-    }
 
 -- ---- divisors
 there_by : (n : Operands) (count : ℕ) → AreOperands n count → (at : ℕ) (o : Option Net) (rest : List Divisor) → IsDivided n o → AreDivisors rest count → AreDivisors (divisors_at n at o ++ rest) count

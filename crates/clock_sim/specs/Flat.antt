@@ -78,14 +78,14 @@ abbrev pub AreFree : List (Option ℕ) → List Step → Type 0
 AreFree slots [] = ⊤
 AreFree slots (s ∷ rest) = (get_or slots s.to None ≡ None) × AreFree slots rest
 
--- a step writes a slot from a number on, behind those that it reads
+-- a step writes a slot from a number on, after those that it reads
 pub record IsBehind (n : ℕ) (s : Step) : Type 0 where
   pub from : n ≤ s.to
   pub left : s.a < s.to
   pub right : s.b < s.to
   pub third : IsThere s.opcode s.number s.to
 
--- each step writes a slot behind those that it reads and those that earlier steps write
+-- each step writes a slot after those that it reads and those that earlier steps write
 abbrev pub Climb : ℕ → List Step → Type 0
 Climb n [] = ⊤
 Climb n (s ∷ rest) = IsBehind n s × Climb (suc s.to) rest

@@ -37,7 +37,7 @@ fn width_at(port: usize) -> u8
     port_width(&PORTS, port as u32)
 }
 
-/// The operands of the ports: their words stand in the first slots, and those of the registers behind them.
+/// The operands of the ports: their words stand in the first slots, and those of the registers after them.
 pub fn port_operands_of(alloc: Global) -> Result<Vec<Operand>, AllocError>
     ensures { IfOk result (λ v. v.items ≡ port_operands) }
 {

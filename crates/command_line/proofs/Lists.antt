@@ -19,7 +19,7 @@ passes_at test xs x all there = All-contains (λ y. test y ≡ true) xs x (AllPa
 
 -- ---- the name of an option
 
--- a text that stands behind two dashes as the whole name: it is not empty, and has no `=` (61)
+-- a text that stands after two dashes as the whole name: it is not empty, and has no `=` (61)
 abbrev pub is_long : List ℕ → Bool
 is_long [] = false
 is_long (x ∷ xs) = not (has_byte 61 (x ∷ xs))

@@ -8,7 +8,7 @@ use Rattle.clap.specs.Simple.{subcommand_of}
 use Rattle.xdp_object.specs.Choice.{Chosen}
 use Rattle.command_line.specs.Request.{Names, Request, AskCompile, AskRun, AskSim, AskRef, AskReport, AskDemo, files_of}
 use Rattle.command_line.specs.Commands.{app}
-use Rattle.command_line.specs.Means.{AreApart, GivesFiles, GivesNames, GivesText, GivesNumber, GivesRun, GivesChosen, MayGiveNumber, Means, MeansCompile, MeansRun, MeansSim, MeansRef, MeansReport, MeansDemo, Values}
+use Rattle.command_line.specs.Means.{AreDistinct, GivesFiles, GivesNames, GivesText, GivesNumber, GivesRun, GivesChosen, MayGiveNumber, Means, MeansCompile, MeansRun, MeansSim, MeansRef, MeansReport, MeansDemo, Values}
 use Rattle.command_line.specs.AsksFor.{AsksFor, values_in}
 
 -- ---- an option
@@ -42,8 +42,8 @@ one_names values a b g h = same_names a b
     (sym g.maps ∙ h.maps)
 
 -- the names that are given are apart where any are
-pub apart_of : (values : Values) (a b : Names) → GivesNames values a → GivesFiles values b → AreApart (files_of a)
-apart_of values a b given g = let P : Names → Type 0 = λ n. AreApart (files_of n) in subst P (one_names values b a g.gives_names given) g.apart
+pub apart_of : (values : Values) (a b : Names) → GivesNames values a → GivesFiles values b → AreDistinct (files_of a)
+apart_of values a b given g = let P : Names → Type 0 = λ n. AreDistinct (files_of n) in subst P (one_names values b a g.gives_names given) g.apart
 
 -- the name of a text that is none of theirs
 pub text_of : (values : Values) (a b : Names) (verilog : List ℕ) → GivesFiles values a → GivesFiles values b → GivesText values a verilog → GivesText values b verilog

@@ -21,7 +21,7 @@ use Rattle.command_line.proofs.Lists.{is_long}
 use Rattle.command_line.proofs.Options.{built_command, built_option, built_options, fits}
 use Rattle.command_line.proofs.Walks.{Walks, first_given, given_given, rows_of, walks}
 
--- ---- behind the walk of a command
+-- ---- after the walk of a command
 
 -- no option has a default
 abbrev has_no_defaults : List Rule → Bool

@@ -88,7 +88,7 @@ given_given (g ∷ given) name = go (bytes_eq g.option name) refl (given_given g
 
 -- ---- one option with its value
 
--- the walk behind `--NAME`, with these rows
+-- the walk after `--NAME`, with these rows
 abbrev opening : Held → List ℕ → Walk
 opening h name = record {
   held = record h { pending = Some (name, []) };

@@ -62,7 +62,7 @@ TakesPlain words = (command : CommandForm) (given : List Given) → IsPlain word
 abbrev pub help_flags : List (List ℕ)
 help_flags = codes "--help" ∷ codes "-h" ∷ []
 
--- `help`, `--help` or `-h` behind the program's name
+-- `help`, `--help` or `-h` after the program's name
 pub record IsProgramHelp (words : List (List ℕ)) : Type 0 where
   pub program : List ℕ
   pub word : List ℕ
@@ -70,7 +70,7 @@ pub record IsProgramHelp (words : List (List ℕ)) : Type 0 where
   pub are : words ≡ program ∷ word ∷ rest
   pub asks : Contains (codes "help" ∷ help_flags) word
 
--- `--help` or `-h` behind a command
+-- `--help` or `-h` after a command
 pub record IsCommandHelp (words : List (List ℕ)) : Type 0 where
   pub program : List ℕ
   pub command : CommandForm

@@ -19,8 +19,8 @@ MayGiveNumber values option low high usual n =
     GivesNumber values option low high n ⊎ ((values option ≡ None) × (n ≡ usual))
 
 -- no two are equal
-abbrev pub AreApart : List (List ℕ) → Type 0
-AreApart files = AllPairs (λ a b. a ≢ b) files
+abbrev pub AreDistinct : List (List ℕ) → Type 0
+AreDistinct files = AllPairs (λ a b. a ≢ b) files
 
 pub record GivesChosen (values : Values) (selected : Chosen) : Type 0 where
   pub program : values (codes "program") ≡ selected.program
@@ -36,12 +36,12 @@ pub record GivesNames (values : Values) (names : Names) : Type 0 where
 
 pub record GivesFiles (values : Values) (names : Names) : Type 0 where
   pub gives_names : GivesNames values names
-  pub apart : AreApart (files_of names)
+  pub apart : AreDistinct (files_of names)
 
 -- the name of a Verilog text, which no other file has
 pub record GivesText (values : Values) (names : Names) (verilog : List ℕ) : Type 0 where
   pub given : values (codes "verilog") ≡ Some verilog
-  pub apart : AreApart (verilog ∷ files_of names)
+  pub apart : AreDistinct (verilog ∷ files_of names)
 
 pub record MeansCompile (command : List ℕ) (values : Values) (object verilog : List ℕ) (selected : Chosen) : Type 0 where
   pub called : command ≡ codes "compile"

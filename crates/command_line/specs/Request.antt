@@ -17,7 +17,7 @@ pub record Names : Type 0 where
 
 -- to compile an object to a Verilog text; to do this and run the text over a capture; to run a Verilog text that is there for at
 -- most so many clocks; to run the object's program over a capture; to say what a pipeline for it has to hold. The text's name stands
--- behind those of the other files, the number behind `Chosen` is that of the interface that packets come in by, the last one the clocks.
+-- after those of the other files, the number after `Chosen` is that of the interface that packets come in by, the last one the clocks.
 -- And to run a program that is at hand over packets that are drawn from a seed, so many of them
 pub data Request : Type 0 where
   AskCompile : List ℕ → List ℕ → Chosen → Request

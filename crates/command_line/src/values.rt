@@ -4,7 +4,7 @@ ghost use Rattle.std.specs.Prelude.{◌≡◌, ◌≢◌, ◌↔◌, ◌≤◌, 
 ghost use Rattle.std.specs.Option.{option_copied};
 ghost use Rattle.xdp_object.specs.Choice.{Chosen, chosen_of};
 ghost use Rattle.command_line.specs.Request.{Names, names_of, files_of};
-ghost use Rattle.command_line.specs.Means.{AreApart, GivesFiles, GivesText, GivesNumber, GivesChosen, MayGiveNumber};
+ghost use Rattle.command_line.specs.Means.{AreDistinct, GivesFiles, GivesText, GivesNumber, GivesChosen, MayGiveNumber};
 ghost use Rattle.command_line.specs.Rows.{values_from};
 
 use crate::command::Files;
@@ -118,7 +118,7 @@ pub(crate) fn read_ifindex(matches: &ArgMatches<'_>) -> Option<u32>
 
 // Whether no two of these files have one name.
 fn are_files_apart(files: &Files) -> bool
-    ensures { IsTrue result ↔ AreApart (files_of (names_of files.now)) }
+    ensures { IsTrue result ↔ AreDistinct (files_of (names_of files.now)) }
 {
     let Files {
         object,
@@ -129,14 +129,14 @@ fn are_files_apart(files: &Files) -> bool
         maps,
     } = *files;
     match maps {
-        Some(maps) => are_apart(&[object, capture, answer, verdicts, final_maps, maps]),
-        None => are_apart(&[object, capture, answer, verdicts, final_maps]),
+        Some(maps) => are_distinct(&[object, capture, answer, verdicts, final_maps, maps]),
+        None => are_distinct(&[object, capture, answer, verdicts, final_maps]),
     }
 }
 
 // The same of these files and a Verilog text.
 fn is_text_apart(verilog: &str, files: &Files) -> bool
-    ensures { IsTrue result ↔ AreApart (verilog.now ∷ files_of (names_of files.now)) }
+    ensures { IsTrue result ↔ AreDistinct (verilog.now ∷ files_of (names_of files.now)) }
 {
     let Files {
         object,
@@ -147,14 +147,14 @@ fn is_text_apart(verilog: &str, files: &Files) -> bool
         maps,
     } = *files;
     match maps {
-        Some(maps) => are_apart(&[verilog, object, capture, answer, verdicts, final_maps, maps]),
-        None => are_apart(&[verilog, object, capture, answer, verdicts, final_maps]),
+        Some(maps) => are_distinct(&[verilog, object, capture, answer, verdicts, final_maps, maps]),
+        None => are_distinct(&[verilog, object, capture, answer, verdicts, final_maps]),
     }
 }
 
 // Whether no two names are equal.
-fn are_apart(names: &[&str]) -> bool
-    ensures { IsTrue result ↔ AreApart (map (λ name. name.now) names.now) }
+fn are_distinct(names: &[&str]) -> bool
+    ensures { IsTrue result ↔ AreDistinct (map (λ name. name.now) names.now) }
 {
     for later in 0..names.len() {
         for earlier in 0..later {

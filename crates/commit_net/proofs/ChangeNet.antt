@@ -6,5 +6,4 @@ pub mod KeyLemmas
 pub mod PairLemmas
 pub mod PresenceLemmas
 pub mod WrittenLemmas
-pub mod WrittenLaws
 pub mod ChangeLemmas

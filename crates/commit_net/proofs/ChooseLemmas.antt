@@ -12,25 +12,25 @@ use Rattle.overlay_net.specs.xdp_maps.Operations.{key_in}
 use Rattle.overlay_net.specs.hazard_core.Tables.{decl_of}
 use Rattle.overlay_net.specs.cell_nets.declared.operand.Operand.{Operand}
 use Rattle.overlay_net.specs.cell_nets.declared.operand.Operand.TheVariants.{Known}
-use Rattle.overlay_net.specs.hazard_core.Held.{Held, held_value, is_delete, asked_key}
+use Rattle.overlay_net.specs.hazard_core.StageValues.{StageValues, stage_value, is_delete, asked_key}
 use Rattle.overlay_net.specs.hazard_core.Commits.{word_at, word_count}
 use Rattle.hash_net.specs.array_net.Words.{word_width}
 use Rattle.hash_net.proofs.array_net_laws.WordLaws.{word_there}
-use Rattle.overlay_net.proofs.cell_nets_laws.NarrowLemmas.{from_zero}
-use Rattle.overlay_net.proofs.ValueNet.ByteLemmas.{word_of_words, word_left}
-use Rattle.overlay_net.proofs.ValueNet.ChangeLemmas.{size_one, wide_one, unchanged_is}
+use Rattle.overlay_net.proofs.cell_nets_laws.NarrowLaws.{from_zero}
+use Rattle.overlay_net.proofs.ValueNet.ByteLaws.{word_of_words, word_left}
+use Rattle.overlay_net.proofs.ValueNet.ChangeLaws.{size_one, wide_one, unchanged_is}
 use Rattle.overlay_net.specs.ValueNet.Words.{IsAligned}
 use Rattle.overlay_net.specs.xdp_machine.Memory.{bytes_in}
 use Rattle.overlay_net.specs.xdp_maps.Contents.{IsBytes}
 use Rattle.overlay_net.specs.cell_core.Formed.{IsInside}
 use Rattle.overlay_net.specs.hazard_core.Overlay.{value_as}
 use Rattle.std.proofs.lemmas.Bool.{eqb-false}
+use Rattle.block_core.proofs.list_laws_laws.NumberLaws.{not_equal, same_test}
 use Rattle.overlay_net.specs.cell_nets.Operands.{number_in}
 use Rattle.commit_net.specs.declared.choosing.CommitNets.{CommitNets}
 use Rattle.commit_net.specs.declared.choosing.Asked.{Asked}
 use Rattle.commit_net.specs.declared.choosing.Asked.TheVariants.{Slot, Insert, Delete, Key, Change}
 use Rattle.commit_net.specs.Choosing.{asked_of, changes_word, chosen_of, paired, picked, read_of, all_read, IsOnly, IsChosen}
-use Rattle.commit_net.proofs.TargetLemmas.{same_test, not_equal}
 
 -- ---- pairs
 pair_next : {X : Type 0} (xs ys : List X) (i : ℕ) (d : X) → i < length xs → i < length ys → paired (take (suc i) xs) (take (suc i) ys) ≡ paired (take i xs) (take i ys) ++ get_or xs i d ∷ get_or ys i d ∷ []
@@ -149,22 +149,22 @@ known_bit v false = refl
 
 -- ---- a word of a key
 pub key_word :
-    {N : Type 0} (v : Env N) (h : Held) (n w width : ℕ) (key : List (Operand N)) (cells : List ℕ) → w < word_count n → word_count n ≤ length key → width ≡ word_width n w → map (number_in v) key ≡ map (held_value h) cells
-    → bits_from (number_in v (get_or key w (Known 0))) 0 width ≡ word_at (bytes_of n (map (held_value h) cells)) w
+    {N : Type 0} (v : Env N) (h : StageValues) (n w width : ℕ) (key : List (Operand N)) (cells : List ℕ) → w < word_count n → word_count n ≤ length key → width ≡ word_width n w → map (number_in v) key ≡ map (stage_value h) cells
+    → bits_from (number_in v (get_or key w (Known 0))) 0 width ≡ word_at (bytes_of n (map (stage_value h) cells)) w
 key_word v h n w width key cells l words wide shown =
-    let xs = map (held_value h) cells in
+    let xs = map (stage_value h) cells in
     let count : length xs ≡ length key = ap length (sym shown) ∙ length-map key (number_in v) in
     let one : number_in v (get_or key w (Known 0)) ≡ slice_index xs w = sym (get_or-map (number_in v) key w (Known 0) 0 (omega (arith, l, words))) ∙ ap (λ ys. slice_index ys w) shown in
     from_zero (number_in v (get_or key w (Known 0))) width ∙ ap (λ x. x % 2 ^ width) one ∙ ap (λ k. slice_index xs w % 2 ^ k) wide ∙ sym (word_of_words n xs w (min 8 (n - 8 * w)) (word_there n w l) (omega (arith, l, words, count)) refl)
 
 -- as many words as the cells of its site
-pub key_long : {N : Type 0} (v : Env N) (h : Held) (n : ℕ) (key : List (Operand N)) (cells : List ℕ) → n ≤ length cells → map (number_in v) key ≡ map (held_value h) cells → n ≤ length key
-key_long v h n key cells l shown = omega (arith, l, ap length shown, length-map key (number_in v), length-map cells (held_value h))
+pub key_long : {N : Type 0} (v : Env N) (h : StageValues) (n : ℕ) (key : List (Operand N)) (cells : List ℕ) → n ≤ length cells → map (number_in v) key ≡ map (stage_value h) cells → n ≤ length key
+key_long v h n key cells l shown = omega (arith, l, ap length shown, length-map key (number_in v), length-map cells (stage_value h))
 
-pub asked_key_is : (decls : List MapDecl) (h : Held) (s : SiteView) (d : MapDecl) → decl_of decls s.map ≡ d → bytes_of d.key (map (held_value h) s.key) ≡ asked_key decls h s
-asked_key_is decls h s d e = ap (λ (x : MapDecl). bytes_of x.key (map (held_value h) s.key)) (sym e) ∙ by_act s.act
+pub asked_key_is : (decls : List MapDecl) (h : StageValues) (s : SiteView) (d : MapDecl) → decl_of decls s.map ≡ d → bytes_of d.key (map (stage_value h) s.key) ≡ asked_key decls h s
+asked_key_is decls h s d e = ap (λ (x : MapDecl). bytes_of x.key (map (stage_value h) s.key)) (sym e) ∙ by_act s.act
   where
-    by_act : (a : Act) → bytes_of (decl_of decls s.map).key (map (held_value h) s.key) ≡ key_in (operation_with (decl_of decls s.map) a (map (held_value h) s.key) (map (held_value h) s.operands))
+    by_act : (a : Act) → bytes_of (decl_of decls s.map).key (map (stage_value h) s.key) ≡ key_in (operation_with (decl_of decls s.map) a (map (stage_value h) s.key) (map (stage_value h) s.operands))
     by_act act.Lookup = refl
     by_act act.Update = refl
     by_act act.Delete = refl

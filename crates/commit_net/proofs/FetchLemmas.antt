@@ -1,10 +1,8 @@
 -- The block that reads words of a slot is what it is to be.
 use Rattle.std.specs.Prelude.{nat_le, ◌&&◌, map as map_list, replicate}
 use Rattle.std.specs.List.{list_all, range_with_len}
-use Rattle.std.proofs.Common.{◌≡◌, ◌⊎◌, inl, inr, ℕ, zero, suc, ◌+◌, ◌<◌, ◌≤◌, Bool, true, List, [], ◌∷◌, ◌++◌, get_or, refl, sym, ◌∙◌, ap, arith}
+use Rattle.std.proofs.Common.{◌≡◌, ◌⊎◌, inl, inr, ℕ, zero, suc, ◌+◌, ◌<◌, ◌≤◌, Bool, true, List, [], ◌∷◌, get_or, refl, ◌∙◌, ap, arith}
 use Rattle.std.proofs.lemmas.Bool.{le-leb, cases_lt}
-use Rattle.std.proofs.lemmas.List.{map-append}
-use Rattle.std.proofs.lemmas.List.FromFn.{map-range_with_len_more}
 use Rattle.net_core.specs.Nets.{Tree, TRead}
 use Rattle.net_core.specs.Ports.{port_list}
 use Rattle.net_core.specs.Value.{Env, right_value}
@@ -17,18 +15,16 @@ use Rattle.block_core.specs.Blocks.{BlockWireTree, Whole}
 use Rattle.block_core.specs.Parts.{Solve, Goes}
 use Rattle.block_core.specs.Order.{RightReads, IsBefore, InOrder}
 use Rattle.block_core.specs.Formed.{names_scope, name_width, block_memories, block_wire_width, block_wires_typed}
+use Rattle.block_core.proofs.list_laws_laws.BoolLaws.{and_is}
+use Rattle.block_core.proofs.OrderLaws.{still_before}
 use Rattle.overlay_net.specs.hazard_core.Commits.{word_count}
 use Rattle.frame_net.specs.SourcesNets.{held}
-use Rattle.frame_net.proofs.FormLaws.{and_is, wire_is}
+use Rattle.frame_net.proofs.FormLaws.{wire_is}
 use Rattle.hash_net.specs.array_net.Words.{word_width}
 use Rattle.hash_net.specs.array_net.WordTrees.{word_shown}
 use Rattle.hash_net.proofs.array_net_laws.WordLaws.{width_some, width_most}
 use Rattle.hash_net.proofs.array_net_laws.WordReadLaws.{filled_reads, filled_depth, filled_apart, filled_flat, shown_width, shown_value}
 use Rattle.commit_net.specs.Fetching.{fetched_wire, fetch_block, IsFetch}
-
--- ---- loops over numbers
-pub pushed_as : {X Y : Type 0} (g : Y → X) (f : ℕ → X) (all new : List Y) (y : Y) (i : ℕ) → new ≡ all ++ y ∷ [] → g y ≡ f i → map_list g all ≡ map_list f (range_with_len 0 i) → map_list g new ≡ map_list f (range_with_len 0 (i + 1))
-pushed_as g f all new y i n e h = (ap (map_list g) n ∙ map-append g all (y ∷ [])) ∙ (λ j. h j ++ e j ∷ []) ∙ sym (map-range_with_len_more f 0 i i (omega arith))
 
 -- ---- wires by their numbers
 module _ {N : Type 0} (f : ℕ → BlockWireTree N) where
@@ -64,14 +60,6 @@ module _ {P : Type 0} (f : ℕ → BlockWireTree (Name P)) (part : P) where
   all_go v a zero h = tt
   all_go v a (suc n) h = ((h a).0, all_go v (a + 1) n h)
 
--- what stands before the first wire of a part stands before any
-before_more : {P : Type 0} (d : Whole P) (before : List P) (p : P) (k : ℕ) (n : Name P) → IsBefore d before p 0 n → IsBefore d before p k n
-before_more d before p k (name.Port i) h = tt
-before_more d before p k (name.Register q i) h = h
-before_more d before p k (name.Memory q i) h = h
-before_more d before p k (name.Wire q i) (inl h) = absurd (omega (arith, h.1))
-before_more d before p k (name.Wire q i) (inr h) = inr h
-
 module _ {P : Type 0} (part of : P) (bits first bytes from count : ℕ) (slot : Name P) (some : 1 ≤ bits) (most : bits ≤ 16) (inside : from + count ≤ word_count bytes) where
   abbrev f : ℕ → BlockWireTree (Name P)
   f i = fetched_wire of first bytes slot (from + i)
@@ -104,7 +92,7 @@ module _ {P : Type 0} (part of : P) (bits first bytes from count : ℕ) (slot : 
     memories = refl;
     wires = widths_of f 0 count (λ i. refl);
     typed = λ w has e. record { registers = refl; memories = refl; wires = all_typed f (names_scope w port_list) 0 count (λ i l m. one_typed w has e i m); statement = refl };
-    ordered = λ w before g h. all_in_order f part w before 0 0 count (λ i k l m. filled_reads (word_width bytes (from + i)) (wide i m) (width_most bytes (from + i)) (t i) (IsBefore w before part k) (g, before_more w before part k slot h));
+    ordered = λ w before g h. all_in_order f part w before 0 0 count (λ i k l m. filled_reads (word_width bytes (from + i)) (wide i m) (width_most bytes (from + i)) (t i) (IsBefore w before part k) (g, still_before w before part k slot h));
     reads = λ w. tt;
     within = tt;
     wires_spelled = all_pass f (λ w. right_spelled w.right) 0 count (λ i l m. one_spelled i m);

@@ -1,4 +1,4 @@
--- What wires give one behind another: the words of a key, and those of a value.
+-- What wires give one after another: the words of a key, and those of a value.
 use Rattle.std.proofs.Common.{◌≡◌, ◌∙◌, ℕ, zero, suc, ◌+◌, ◌<◌, ◌≤◌, Bool, All, List, [], ◌∷◌, ◌++◌, length, map as map_list, get_or, sym, ap, subst, arith}
 use Rattle.std.proofs.lemmas.List.Elements.{All-append}
 use Rattle.net_core.specs.Value.{Env}
@@ -9,7 +9,7 @@ use Rattle.overlay_net.specs.xdp_maps.Contents.{IsBytes}
 use Rattle.overlay_net.specs.cell_core.Cells.{bit}
 use Rattle.overlay_net.specs.cell_core.Sites.{ProgramView, SiteView, site_at}
 use Rattle.overlay_net.specs.hazard_core.Tables.{TableState, decl_of}
-use Rattle.overlay_net.specs.hazard_core.Held.{Held, asked, asked_key}
+use Rattle.overlay_net.specs.hazard_core.StageValues.{StageValues, asked, asked_key}
 use Rattle.overlay_net.specs.hazard_core.Overlay.{value_as}
 use Rattle.overlay_net.specs.hazard_core.Commits.{word_count, word_at}
 use Rattle.hash_net.specs.array_net.declared.words.WordNets.{WordNets}
@@ -18,7 +18,7 @@ use Rattle.overlay_net.specs.cell_nets.declared.operand.Operand.{Operand}
 use Rattle.overlay_net.specs.cell_nets.declared.operand.Operand.TheVariants.{Net}
 use Rattle.overlay_net.specs.cell_nets.Operands.{IsAvailable}
 use Rattle.overlay_net.specs.cell_nets.Wires.{behind, Gives}
-use Rattle.overlay_net.proofs.cell_nets_laws.ApartLemmas.{stay_as, stay_next}
+use Rattle.overlay_net.proofs.cell_nets_laws.ApartLaws.{stay_as, stay_next}
 use Rattle.commit_net.specs.declared.choosing.CommitNets.{CommitNets}
 use Rattle.commit_net.specs.Choosing.{changes_word, all_read, IsChosen, Commits}
 use Rattle.overlay_net.specs.cell_nets.StepNets.Standing.{Stands}
@@ -26,7 +26,7 @@ use Rattle.commit_net.specs.Wiring.{word_operand, outside_of, ShowsValue, key_op
 use Rattle.overlay_net.proofs.cell_nets_laws.StepNets.ChainLaws.{starts, next}
 use Rattle.commit_net.proofs.WordLemmas.{stands_as, last_first, after, before}
 
--- ---- some behind others
+-- ---- some after others
 module _ {P : Type 0} {p : P} {old mid new : List (BlockWireTree (Name P))} {args outs bs lasts : List (Operand (Name P))} {needs knows more shows : Env (Name P) → Type 0} (x : Stands p old mid args needs outs knows) (y : Stands p mid new bs more lasts shows)
     (sub : (ins : List (Operand (Name P))) → All (IsAvailable ins) outs → All (IsAvailable ins) bs) (enough : (v : Env (Name P)) → knows v → more v) where
   pub joined : Stands p old new args needs (lasts ++ outs) (λ v. knows v × shows v)
@@ -94,7 +94,7 @@ module _ {N : Type 0} (Q : Operand N → Type 0) where
   word_first words ns i n l is h (suc k) d lt = after Q (map_list word_operand words) (all_read ns) h k d (omega (arith, lt))
 
 -- ---- the words of a key, so far
-module _ {P : Type 0} (part : P) (d : MapDecl) (ns : List (CommitNets (Name P))) (p : ProgramView) (t : TableState) (taken : List ℕ) (h : Held) (j : ℕ) where
+module _ {P : Type 0} (part : P) (d : MapDecl) (ns : List (CommitNets (Name P))) (p : ProgramView) (t : TableState) (taken : List ℕ) (h : StageValues) (j : ℕ) where
   abbrev s : SiteView
   s = site_at p.sites j
 
@@ -118,7 +118,7 @@ module _ {P : Type 0} (part : P) (d : MapDecl) (ns : List (CommitNets (Name P)))
       (λ ins a. subst (λ l. All (IsAvailable ins) (l ++ all_read ns)) (sym (keys_more d.key 0 keys n w at)) (last_first (IsAvailable ins) outs (all_read ns) o a)) (λ v k. (k.0.0, shown_more v 0 keys (asked_key t.decls h s) n w at k.0.1 k.1))
 
 -- ---- those of a value, so far
-module _ {P : Type 0} (part : P) (d : MapDecl) (ns : List (CommitNets (Name P))) (words : List (Name P)) (p : ProgramView) (t : TableState) (taken : List ℕ) (h : Held) (j : ℕ) (value : List ℕ) where
+module _ {P : Type 0} (part : P) (d : MapDecl) (ns : List (CommitNets (Name P))) (words : List (Name P)) (p : ProgramView) (t : TableState) (taken : List ℕ) (h : StageValues) (j : ℕ) (value : List ℕ) where
   abbrev site : SiteView
   site = site_at p.sites j
 
@@ -144,7 +144,7 @@ module _ {P : Type 0} (part : P) (d : MapDecl) (ns : List (CommitNets (Name P)))
     abbrev outside : List (Operand (Name P))
     outside = outside_of ns words
 
-    -- of the net that sets it, and behind this of the word
+    -- of the net that sets it, and after this of the word
     abbrev a : Operand (Name P)
     a = Net n.sets 1
 

@@ -11,7 +11,7 @@ use Rattle.overlay_net.specs.cell_core.Sites.{ProgramView, site_at}
 use Rattle.overlay_net.specs.hazard_core.declared.slot.Slot.{Slot}
 use Rattle.overlay_net.specs.hazard_core.Tables.{TableState, decl_of, table_at, slot_of}
 use Rattle.overlay_net.specs.hazard_core.declared.pointer.Pointer.TheVariants.{Null, InSlot, Pending}
-use Rattle.overlay_net.specs.hazard_core.Held.{same_pointer, Held, held_value, answer_cell, guard_on, is_update, is_delete, asked, asked_key, writes_as, written_as}
+use Rattle.overlay_net.specs.hazard_core.StageValues.{same_pointer, StageValues, stage_value, answer_cell, guard_on, is_update, is_delete, asked, asked_key, writes_as, written_as}
 use Rattle.overlay_net.specs.hazard_core.Commits.{makes_entry, written_slot, slot_as}
 use Rattle.commit_net.specs.Wholes.{table_of, slot_before}
 use Rattle.commit_net.specs.Laws.{CommitsOneSlot, CommitsOneValue}
@@ -26,7 +26,7 @@ no_pending true n j = refl
 no_pending false n j = refl
 
 -- no operation makes an entry
-none_made : (a : Act) (k : MapKind) (p : ProgramView) (t : TableState) (h : Held) (j : ℕ) → k ≡ Array → (is_update a && same_pointer (written_as a k p t h j) (Pending j)) ≡ false
+none_made : (a : Act) (k : MapKind) (p : ProgramView) (t : TableState) (h : StageValues) (j : ℕ) → k ≡ Array → (is_update a && same_pointer (written_as a k p t h j) (Pending j)) ≡ false
 none_made act.Update Hash p t h j e = cc
 none_made act.Update Array p t h j e =
     let slots = table_at t (site_at p.sites j).map in
@@ -65,6 +65,6 @@ one_value p t taken h j right kind on =
     let n = written_slot p t taken h j in
     let is = slot_is p t taken h j right in
     let made : makes_entry p t h j ≡ false = none_made s.act k p t h j kind in
-    let kept : is_delete s.act ≡ false = none_taken s.act k (held_value h (answer_cell p.cells j)) kind (and_parts (guard_on h s) (writes_as s.act k (held_value h (answer_cell p.cells j))) on).1 in
+    let kept : is_delete s.act ≡ false = none_taken s.act k (stage_value h (answer_cell p.cells j)) kind (and_parts (guard_on h s) (writes_as s.act k (stage_value h (answer_cell p.cells j))) on).1 in
     table_is p t taken h j right
     ∙ ap (slice_set (table_of p t j) n) (is ∙ but_value s.act (makes_entry p t h j) (asked t.decls h s) (asked_key t.decls h s) old made kept ∙ ap (λ (x : Slot). record old { value = x.value }) (sym is))

@@ -6,7 +6,6 @@ pub mod WiringLemmas
 pub mod SlotLemmas
 pub mod GatherLemmas
 pub mod WholeLemmas
-pub mod TakingLemmas
 pub mod LawLemmas
 pub mod StoringLemmas
 pub mod ChangeNet

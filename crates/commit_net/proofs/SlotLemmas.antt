@@ -1,34 +1,34 @@
 -- The slot that an operation writes, before and after it.
 use Rattle.std.specs.Prelude.{slice_set}
-use Rattle.std.proofs.Common.{◌≡◌, ◌≢◌, ◌∙◌, ℕ, ◌+◌, ◌*◌, ◌<◌, ◌≤◌, Bool, true, false, List, [], ◌∷◌, length, map, refl, sym, ap, subst, arith}
+use Rattle.std.proofs.Common.{◌≡◌, ◌≢◌, ◌∙◌, ℕ, ◌+◌, ◌*◌, ◌<◌, ◌≤◌, Bool, true, false, List, [], length, map, refl, sym, ap, subst, arith}
 use Rattle.std.proofs.lemmas.Bool.{and_parts}
 use Rattle.std.proofs.lemmas.Nat.{div_below}
-use Rattle.std.proofs.lemmas.List.{get_or-set_same, get_or-set_other, length-take-le, length-append, length-map}
-use Rattle.byteorder.specs.Endian.{little_bytes}
+use Rattle.std.proofs.lemmas.List.{get_or-set_same, get_or-set_other, length-map}
 use Rattle.overlay_net.specs.xdp_maps.declared.decl.MapDecl.{MapDecl}
 use Rattle.overlay_net.specs.xdp_maps.Operations.{Operation}
 use Rattle.overlay_net.specs.xdp_maps.Contents.{IsBytes}
 use Rattle.overlay_net.specs.cell_core.declared.site.Act.{Act}
 use Rattle.overlay_net.specs.cell_core.declared.site.Act.TheVariants as act
 use Rattle.overlay_net.specs.cell_core.Formed.{HasWords}
-use Rattle.overlay_net.specs.cell_core.Sites.{ProgramView, SiteView, site_at, spelled, bytes_of, operation_with}
+use Rattle.overlay_net.specs.cell_core.Sites.{ProgramView, SiteView, site_at, operation_with}
 use Rattle.overlay_net.specs.hazard_core.declared.slot.Slot.{Slot}
 use Rattle.overlay_net.specs.hazard_core.Tables.{TableState, decl_of, table_at, slot_at, no_slot}
 use Rattle.overlay_net.specs.hazard_core.Shaped.{IsShaped}
 use Rattle.overlay_net.specs.hazard_core.declared.pointer.Pointer.TheVariants.{Pending}
-use Rattle.overlay_net.specs.hazard_core.Held.{Held, held_value, same_pointer, is_update, is_delete, asked, asked_key, written_pointer}
+use Rattle.overlay_net.specs.hazard_core.StageValues.{StageValues, stage_value, same_pointer, is_update, is_delete, asked, asked_key, written_pointer}
 use Rattle.overlay_net.specs.hazard_core.Overlay.{value_as}
 use Rattle.overlay_net.specs.hazard_core.Commits.{word_count, word_at, slot_as, makes_entry, written_slot, committed}
 use Rattle.overlay_net.specs.hazard_core.Changes.{IsRightCommit}
+use Rattle.hazard_core.proofs.OperationLaws.{value_bytes}
 use Rattle.hash_net.specs.Hash.{used_after}
 use Rattle.overlay_net.specs.ValueNet.Words.{IsAligned}
-use Rattle.overlay_net.proofs.ValueNet.EntryLemmas.{value_bytes}
+use Rattle.overlay_net.proofs.cell_core_laws.SpelledLaws.{bytes_length}
 use Rattle.commit_net.specs.Choosing.{changes_word}
 use Rattle.commit_net.specs.Wholes.{table_of, slot_before, slot_after, WritesSlot}
 use Rattle.commit_net.proofs.ChooseLemmas.{asked_key_is, word_stays}
 
 -- ---- the tables after a commit
-module _ (p : ProgramView) (t : TableState) (taken : List ℕ) (h : Held) (j : ℕ) where
+module _ (p : ProgramView) (t : TableState) (taken : List ℕ) (h : StageValues) (j : ℕ) where
   abbrev s : SiteView
   s = site_at p.sites j
 
@@ -101,18 +101,11 @@ value_left d (act.Store at size) new ks xs key x = refl
 value_left d (act.Atomic at a) new ks xs key x = refl
 
 -- ---- lengths
-spelled_length : (xs : List ℕ) → length (spelled xs) ≡ 8 * length xs
-spelled_length [] = refl
-spelled_length (x ∷ xs) = omega (arith, length-append (little_bytes 8 x) (spelled xs), spelled_length xs)
-
-bytes_length : (n : ℕ) (xs : List ℕ) → n ≤ 8 * length xs → length (bytes_of n xs) ≡ n
-bytes_length n xs l = length-take-le n (spelled xs) (omega (arith, spelled_length xs))
-
 pub words_enough : (n k : ℕ) → n ≤ 8 * k → word_count n ≤ k
 words_enough n k l = let less : n + 7 < (k + 1) * 8 = omega (arith, l) in omega (arith, div_below (n + 7) 8 (k + 1) (omega arith) less)
 
 -- ---- of a slot that is written
-module _ (p : ProgramView) (t : TableState) (taken : List ℕ) (h : Held) (j : ℕ) (d : MapDecl) (w : WritesSlot p t taken h j d) where
+module _ (p : ProgramView) (t : TableState) (taken : List ℕ) (h : StageValues) (j : ℕ) (d : MapDecl) (w : WritesSlot p t taken h j d) where
   abbrev site : SiteView
   site = site_at p.sites j
 
@@ -138,7 +131,7 @@ module _ (p : ProgramView) (t : TableState) (taken : List ℕ) (h : Held) (j : �
   key_old e = ap (λ (x : Slot). x.key) slots ∙ key_kept site.act (makes_entry p t h j) (asked t.decls h site) (asked_key t.decls h site) old e
 
   pub value_new : new.value ≡ value_as (asked t.decls h site) old.value
-  value_new = ap (λ (x : Slot). x.value) slots ∙ value_left (decl_of t.decls site.map) site.act (makes_entry p t h j) (map (held_value h) site.key) (map (held_value h) site.operands) (asked_key t.decls h site) old
+  value_new = ap (λ (x : Slot). x.value) slots ∙ value_left (decl_of t.decls site.map) site.act (makes_entry p t h j) (map (stage_value h) site.key) (map (stage_value h) site.operands) (asked_key t.decls h site) old
 
   pub within : written_slot p t taken h j < d.cap
   within = let l = w.right.slot in omega (arith, l, w.shaped.counts site.map w.fits.map, ap (λ (x : MapDecl). x.cap) w.declared)
@@ -153,7 +146,7 @@ module _ (p : ProgramView) (t : TableState) (taken : List ℕ) (h : Held) (j : �
   key_words = words_enough d.key (length site.key) key_enough
 
   key_length : length (asked_key t.decls h site) ≡ d.key
-  key_length = ap length (sym (asked_key_is t.decls h site d w.declared)) ∙ bytes_length d.key (map (held_value h) site.key) (omega (arith, key_enough, length-map site.key (held_value h)))
+  key_length = ap length (sym (asked_key_is t.decls h site d w.declared)) ∙ bytes_length d.key (map (stage_value h) site.key) (omega (arith, key_enough, length-map site.key (stage_value h)))
 
   abbrev there : MapDecl
   there = decl_of t.decls site.map
@@ -163,9 +156,9 @@ module _ (p : ProgramView) (t : TableState) (taken : List ℕ) (h : Held) (j : �
 
   value_length : length new.value ≡ d.value
   value_length =
-      let xs = map (held_value h) site.operands in
-      let words : HasWords there.value site.act (length xs) = subst (HasWords there.value site.act) (sym (length-map site.operands (held_value h))) w.fits.value in
-      ap length value_new ∙ (value_bytes there site.act (map (held_value h) site.key) xs old.value value_there words w.fits.inside).len ∙ ap (λ (x : MapDecl). x.value) w.declared
+      let xs = map (stage_value h) site.operands in
+      let words : HasWords there.value site.act (length xs) = subst (HasWords there.value site.act) (sym (length-map site.operands (stage_value h))) w.fits.value in
+      ap length value_new ∙ (value_bytes there site.act (map (stage_value h) site.key) xs old.value value_there words w.fits.inside).len ∙ ap (λ (x : MapDecl). x.value) w.declared
 
   pub new_shaped : IsShaped d new
   new_shaped = record { key = by (makes_entry p t h j) refl; value = value_length }
@@ -176,4 +169,4 @@ module _ (p : ProgramView) (t : TableState) (taken : List ℕ) (h : Held) (j : �
 
   -- a word that the operation does not change stays
   pub word_left : IsAligned site.act → (i : ℕ) → changes_word site.act i ≡ false → word_at new.value i ≡ word_at old.value i
-  word_left aligned i same = ap (λ l. word_at l i) value_new ∙ word_stays there site.act (map (held_value h) site.key) (map (held_value h) site.operands) old.value i same aligned w.fits.inside value_there
+  word_left aligned i same = ap (λ l. word_at l i) value_new ∙ word_stays there site.act (map (stage_value h) site.key) (map (stage_value h) site.operands) old.value i same aligned w.fits.inside value_there

@@ -2,41 +2,25 @@
 use Rattle.std.specs.Prelude.{if◌then◌else◌, fold, slice_index}
 use Rattle.std.proofs.Common.{◌≡◌, ◌≢◌, ◌∙◌, ℕ, zero, suc, ◌+◌, ◌*◌, ◌/◌, ◌==◌, ◌^◌, ◌<◌, ◌≤◌, Bool, true, false, All, List, [], ◌∷◌, length, get_or, refl, sym, ap, subst, arith}
 use Rattle.std.proofs.lemmas.Bool.{eqb-true, eqb-false}
+use Rattle.block_core.proofs.list_laws_laws.NumberLaws.{not_equal, same_test}
 use Rattle.net_core.specs.Value.{Env}
 use Rattle.overlay_net.specs.xdp_machine.Arithmetic.{low}
 use Rattle.overlay_net.specs.cell_core.Cells.{on, bits_from}
 use Rattle.overlay_net.specs.hazard_core.declared.pointer.Pointer.{Pointer}
 use Rattle.overlay_net.specs.hazard_core.declared.pointer.Pointer.TheVariants.{Null, InSlot, Pending}
 use Rattle.overlay_net.specs.hazard_core.declared.slot.Slot.{Slot}
-use Rattle.overlay_net.specs.cell_core.declared.site.Act.{Act}
 use Rattle.overlay_net.specs.cell_core.declared.site.Act.TheVariants as act
-use Rattle.overlay_net.specs.hazard_core.Held.{same_pointer, is_update}
+use Rattle.overlay_net.specs.hazard_core.StageValues.{same_pointer}
 use Rattle.overlay_net.specs.hazard_core.Tables.{free_slot}
 use Rattle.overlay_net.specs.hazard_core.Commits.{slot_under}
 use Rattle.overlay_net.specs.cell_nets.declared.operand.Operand.{Operand}
 use Rattle.overlay_net.specs.cell_nets.Operands.{number_in}
 use Rattle.overlay_net.specs.SiteOperands.Pointers.{pointer_number}
+use Rattle.overlay_net.proofs.cell_core_laws.BitLaws.{small_bits}
 use Rattle.commit_net.specs.declared.target.TakenSlot.{TakenSlot}
 use Rattle.commit_net.specs.Targets.{slots_of, IsAmong}
-use Rattle.overlay_net.proofs.cell_nets_laws.StepNets.StepLaws.{small_bits}
 
 -- ---- numbers of pointers
-pub same_test : (a b c d : ℕ) → (a ≡ b → c ≡ d) → (c ≡ d → a ≡ b) → (a == b) ≡ (c == d)
-same_test a b c d there back = by_test (a == b) refl (c == d) refl
-  where
-    by_test : (x : Bool) → (a == b) ≡ x → (y : Bool) → (c == d) ≡ y → x ≡ y
-    by_test true e true f = refl
-    by_test false e false f = refl
-    by_test true e false f = absurd (eqb-false c d f (there (eqb-true a b e)))
-    by_test false e true f = absurd (eqb-false a b e (back (eqb-true c d f)))
-
-pub not_equal : (a b : ℕ) → (a ≡ b → ⊥) → (a == b) ≡ false
-not_equal a b apart = by_test (a == b) refl
-  where
-    by_test : (x : Bool) → (a == b) ≡ x → x ≡ false
-    by_test true e = absurd (apart (eqb-true a b e))
-    by_test false e = refl
-
 -- whether the entry is one that an update is to make
 pub pending_test : (q : Pointer) (j : ℕ) → (pointer_number q == 4 * j + 2) ≡ same_pointer q (Pending j)
 pending_test Null j = not_equal 0 (4 * j + 2) (λ e. omega arith)
@@ -127,11 +111,3 @@ pub slot_there : {N : Type 0} (Q : Operand N → Type 0) (ss : List (TakenSlot N
 slot_there Q [] k s lt is h = absurd (omega (arith, lt))
 slot_there Q (x ∷ ss) zero s lt is h = subst (λ y. Q y.slot) (sym is) (h 0 x.slot (omega arith))
 slot_there Q (x ∷ ss) (suc k) s lt is h = slot_there Q ss k s (omega (arith, lt)) is (λ i d l. h (suc i) d (omega (arith, l)))
-
-pub no_update : (a : Act) → a ≢ act.Update → is_update a ≡ false
-no_update act.Update h = absurd (h refl)
-no_update act.Lookup h = refl
-no_update act.Delete h = refl
-no_update (act.Load at size) h = refl
-no_update (act.Store at size) h = refl
-no_update (act.Atomic at a) h = refl

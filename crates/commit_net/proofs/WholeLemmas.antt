@@ -12,7 +12,7 @@ use Rattle.overlay_net.specs.xdp_maps.Contents.{IsBytes}
 use Rattle.overlay_net.specs.cell_core.Cells.{bit}
 use Rattle.overlay_net.specs.cell_core.Sites.{ProgramView, site_at}
 use Rattle.overlay_net.specs.hazard_core.Tables.{TableState, decl_of}
-use Rattle.overlay_net.specs.hazard_core.Held.{Held, is_delete, asked, asked_key}
+use Rattle.overlay_net.specs.hazard_core.StageValues.{StageValues, is_delete, asked, asked_key}
 use Rattle.overlay_net.specs.hazard_core.Overlay.{value_as}
 use Rattle.overlay_net.specs.hazard_core.Commits.{word_count, makes_entry, written_slot}
 use Rattle.hash_net.specs.array_net.declared.words.WordNets.{WordNets}
@@ -45,17 +45,17 @@ no_tables = record { decls = []; tables = [] }
 
 -- ---- the part of the slot
 module _ {P : Type 0} (part : P) (bits : ℕ) (ns : List (CommitNets (Name P))) (slot : Name P) (ws : List (BlockWireTree (Name P))) where
-  abbrev SlotNeeds : ProgramView → TableState → List ℕ → Held → ℕ → Env (Name P) → Type 0
+  abbrev SlotNeeds : ProgramView → TableState → List ℕ → StageValues → ℕ → Env (Name P) → Type 0
   SlotNeeds p t taken h j v = Commits v p t taken h j ns × (written_slot p t taken h j < 2 ^ bits)
 
-  module _ (x : (p : ProgramView) (t : TableState) (taken : List ℕ) (h : Held) (j : ℕ) → Gives part [] ws (all_read ns) (SlotNeeds p t taken h j) (λ v. written_slot p t taken h j) bits (Net slot bits)) where
+  module _ (x : (p : ProgramView) (t : TableState) (taken : List ℕ) (h : StageValues) (j : ℕ) → Gives part [] ws (all_read ns) (SlotNeeds p t taken h j) (λ v. written_slot p t taken h j) bits (Net slot bits)) where
     abbrev slot_given : List (Operand (Name P))
     slot_given = Net slot bits ∷ all_read ns
 
-    abbrev SlotKnows : ProgramView → TableState → List ℕ → Held → ℕ → Env (Name P) → Type 0
+    abbrev SlotKnows : ProgramView → TableState → List ℕ → StageValues → ℕ → Env (Name P) → Type 0
     SlotKnows p t taken h j v = SlotNeeds p t taken h j v × ((v.net slot).value ≡ written_slot p t taken h j)
 
-    slot_stands : (p : ProgramView) (t : TableState) (taken : List ℕ) (h : Held) (j : ℕ) → Stands part [] ws (all_read ns) (SlotNeeds p t taken h j) slot_given (SlotKnows p t taken h j)
+    slot_stands : (p : ProgramView) (t : TableState) (taken : List ℕ) (h : StageValues) (j : ℕ) → Stands part [] ws (all_read ns) (SlotNeeds p t taken h j) slot_given (SlotKnows p t taken h j)
     slot_stands p t taken h j = next (starts part [] (all_read ns) (SlotNeeds p t taken h j)) (x p t taken h j) (λ ins a. a) (λ v f n. n)
 
     abbrev Any : Env (Name P) → Type 0
@@ -87,12 +87,12 @@ module _ {P : Type 0} (part : P) (d : MapDecl) (ns : List (CommitNets (Name P)))
   is_aligned : (v : Env (Name P)) (p : ProgramView) (j : ℕ) → IsChosen v p j ns → IsAligned (site_at p.sites j).act
   is_aligned v p j c = let fit : IsFitting d c.nets = subst (IsFitting d) c.is (fitting c.place c.nets c.within) in subst IsAligned (sym c.act) fit.aligned
 
-  abbrev WordKnows : ProgramView → TableState → Held → ℕ → List ℕ → Env (Name P) → Type 0
+  abbrev WordKnows : ProgramView → TableState → StageValues → ℕ → List ℕ → Env (Name P) → Type 0
   WordKnows p t h j value v = ShowChanges v (changes_word (site_at p.sites j).act) 0 values (new_value part d ns words p t [] h j value)
 
   module _ (ws : List (BlockWireTree (Name P))) (count : length values ≡ word_count d.value)
       (x :
-      (p : ProgramView) (t : TableState) (taken : List ℕ) (h : Held) (j : ℕ) (value : List ℕ) → Stands part [] ws (outside_of ns words) (ValueNeeds part d ns words p t taken h j value) (value_operands d.value 0 values ++ outside_of ns words) (WordKnows p t h j value)) where
+      (p : ProgramView) (t : TableState) (taken : List ℕ) (h : StageValues) (j : ℕ) (value : List ℕ) → Stands part [] ws (outside_of ns words) (ValueNeeds part d ns words p t taken h j value) (value_operands d.value 0 values ++ outside_of ns words) (WordKnows p t h j value)) where
     abbrev array_given : List (Operand (Name P))
     array_given = value_operands d.value 0 values ++ outside_of ns words
 
@@ -135,10 +135,10 @@ module _ {P : Type 0} (part : P) (d : MapDecl) (ns : List (CommitNets (Name P)))
 
 -- ---- and of a hash
 module _ {P : Type 0} (part : P) (d : MapDecl) (ns : List (CommitNets (Name P))) (words : List (Name P)) (inserts deletes : Name P) (keys : List (Name P)) (values : List (WordNets (Name P))) where
-  abbrev pub HashNeeds : ProgramView → TableState → List ℕ → Held → ℕ → List ℕ → Env (Name P) → Type 0
+  abbrev pub HashNeeds : ProgramView → TableState → List ℕ → StageValues → ℕ → List ℕ → Env (Name P) → Type 0
   HashNeeds p t taken h j value v = Commits v p t taken h j ns × (decl_of t.decls (site_at p.sites j).map ≡ d) × (word_count d.key ≤ length (site_at p.sites j).key) × IsBytes d.value value × ShowsValue v words value
 
-  abbrev pub HashKnows : ProgramView → TableState → Held → ℕ → List ℕ → Env (Name P) → Type 0
+  abbrev pub HashKnows : ProgramView → TableState → StageValues → ℕ → List ℕ → Env (Name P) → Type 0
   HashKnows p t h j value v =
       ((v.net inserts).value ≡ bit (makes_entry p t h j)) × ((v.net deletes).value ≡ bit (is_delete (site_at p.sites j).act)) × ShowWords v 0 keys (asked_key t.decls h (site_at p.sites j))
       × ShowChanges v (changes_word (site_at p.sites j).act) 0 values (value_as (asked t.decls h (site_at p.sites j)) value)
@@ -164,7 +164,7 @@ module _ {P : Type 0} (part : P) (d : MapDecl) (ns : List (CommitNets (Name P)))
       (All-append Q key_given value_given (before Q key_given (all_read ns) (before Q (key_given ++ all_read ns) two r)) (before Q value_given read (before Q (value_given ++ read) ((key_given ++ all_read ns) ++ two) q)))
 
   pub hash_stands :
-      {one two three ws : List (BlockWireTree (Name P))} (p : ProgramView) (t : TableState) (taken : List ℕ) (h : Held) (j : ℕ) (value : List ℕ) → Gives part [] one (all_read ns) (λ v. Commits v p t taken h j ns) (λ v. bit (makes_entry p t h j)) 1 (Net inserts 1)
+      {one two three ws : List (BlockWireTree (Name P))} (p : ProgramView) (t : TableState) (taken : List ℕ) (h : StageValues) (j : ℕ) (value : List ℕ) → Gives part [] one (all_read ns) (λ v. Commits v p t taken h j ns) (λ v. bit (makes_entry p t h j)) 1 (Net inserts 1)
       → Gives part one two (all_read ns) (λ v. IsChosen v p j ns) (λ v. bit (is_delete (site_at p.sites j).act)) 1 (Net deletes 1)
       → Stands part two three (all_read ns) (KeyNeeds part d ns p t taken h j) (key_given ++ all_read ns) (λ v. ShowWords v 0 keys (asked_key t.decls h (site_at p.sites j)))
       → Stands part three ws read (ValueNeeds part d ns words p t taken h j value) (value_given ++ read) (λ v. ShowChanges v (changes_word (site_at p.sites j).act) 0 values (value_as (asked t.decls h (site_at p.sites j)) value))
@@ -182,7 +182,7 @@ module _ {P : Type 0} (part : P) (d : MapDecl) (ns : List (CommitNets (Name P)))
 module _ {P : Type 0} (part : P) (d : MapDecl) (bits : ℕ) (ns : List (CommitNets (Name P))) (words : List (Name P)) (nets : HashNets (Name P)) (keys : List (Name P)) (values : List (WordNets (Name P))) (fitting : All (IsFitting d) ns) (ws : List (BlockWireTree (Name P)))
     (key_count : length keys ≡ word_count d.key) (value_count : length values ≡ word_count d.value)
     (x :
-    (p : ProgramView) (t : TableState) (taken : List ℕ) (h : Held) (j : ℕ) (value : List ℕ) → Stands part [] ws (outside_of ns words) (HashNeeds part d ns words nets.inserts nets.deletes keys values p t taken h j value) (hash_given part d ns words nets.inserts nets.deletes keys values)
+    (p : ProgramView) (t : TableState) (taken : List ℕ) (h : StageValues) (j : ℕ) (value : List ℕ) → Stands part [] ws (outside_of ns words) (HashNeeds part d ns words nets.inserts nets.deletes keys values p t taken h j value) (hash_given part d ns words nets.inserts nets.deletes keys values)
     (HashKnows part d ns words nets.inserts nets.deletes keys values p t h j value)) where
   abbrev out : List (Operand (Name P))
   out = outside_of ns words
@@ -225,22 +225,22 @@ module _ {P : Type 0} (part : P) (d : MapDecl) (bits : ℕ) (ns : List (CommitNe
     wiring = is_wiring part ws out given Asked Told hash_base;
     key_count = key_count;
     value_count = value_count;
-    widths = λ w here declared c s silent calm.
+    widths = λ w here declared c s silent idle.
         let s' = names_scope w port_list in
         let all = declared_there part ws out given Asked Told hash_base w here declared in
         record {
           commits = c;
           slot = s;
           writes = silent;
-          calm = calm;
+          idle = idle;
           inserts = all (Net nets.inserts 1) insert_is;
           deletes = all (Net nets.deletes 1) delete_is;
           key_words = keys_wide stand d.key s' all nets.inserts (all (Net nets.inserts 1) insert_is) 0 keys keys_are;
           value_words = values_wide stand d.value s' all 0 values changes_are;
         };
-    before = λ w earlier later here among others c s silent calm.
+    before = λ w earlier later here among others c s silent idle.
         let all = before_later part ws out given Asked Told hash_base w earlier later here among others in
-        (c, s, silent, calm, all nets.inserts 1 insert_is, all nets.deletes 1 delete_is);
+        (c, s, silent, idle, all nets.inserts 1 insert_is, all nets.deletes 1 delete_is);
     there = λ w among others.
         let all = there_in part ws out given Asked Told hash_base w among others in
         ((all nets.inserts 1 insert_is, all nets.deletes 1 delete_is), keys_there stand d.key (IsThere w) all nets.inserts (all nets.inserts 1 insert_is) 0 keys keys_are, values_there stand d.value (IsThere w) all 0 values changes_are);

@@ -1,4 +1,4 @@
--- The nets of words, by what stands behind the wires of a part.
+-- The nets of words, by what stands after the wires of a part.
 use Rattle.std.specs.Prelude.{Contains}
 use Rattle.std.proofs.Common.{◌≡◌, ◌∙◌, ℕ, suc, Bool, true, false, All, List, [], ◌∷◌, map as map_list, sym, ap, arith}
 use Rattle.net_core.specs.Value.{word, bit, Env}

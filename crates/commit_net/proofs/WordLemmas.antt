@@ -1,8 +1,8 @@
--- What several operations make of a word, one behind another.
-use Rattle.std.specs.Prelude.{min, slice_index}
+-- What several operations make of a word, one after another.
+use Rattle.std.specs.Prelude.{min}
 use Rattle.std.proofs.Common.{◌≡◌, ◌⊎◌, inl, inr, ◌∙◌, ℕ, zero, suc, ◌+◌, ◌-◌, ◌*◌, ◌^◌, ◌<◌, ◌≤◌, All, List, [], ◌∷◌, ◌++◌, length, map, get_or, refl, sym, ap, subst, arith}
 use Rattle.std.proofs.lemmas.Bool.{cases_lt}
-use Rattle.std.proofs.lemmas.List.{get_or_push, get_or_append_left, get_or_default, get_or_past, length-map}
+use Rattle.std.proofs.lemmas.List.{get_or_push, get_or_append_left, get_or_default, length-map}
 use Rattle.net_core.specs.Value.{Env}
 use Rattle.block_core.specs.declared.name.Name.{Name}
 use Rattle.block_core.specs.Blocks.{BlockWireTree}
@@ -10,7 +10,7 @@ use Rattle.overlay_net.specs.xdp_maps.declared.decl.MapDecl.{MapDecl}
 use Rattle.overlay_net.specs.xdp_maps.Contents.{IsBytes}
 use Rattle.overlay_net.specs.cell_core.Formed.{HasWords, IsInside}
 use Rattle.overlay_net.specs.cell_core.Sites.{ProgramView, SiteView, site_at, no_site, operation_with}
-use Rattle.overlay_net.specs.hazard_core.Held.{Held, held_value, asked}
+use Rattle.overlay_net.specs.hazard_core.StageValues.{StageValues, stage_value, asked}
 use Rattle.overlay_net.specs.hazard_core.Overlay.{value_as}
 use Rattle.overlay_net.specs.hazard_core.Tables.{TableState, decl_of}
 use Rattle.overlay_net.specs.hazard_core.Commits.{word_at}
@@ -18,18 +18,19 @@ use Rattle.hash_net.specs.array_net.Words.{word_width}
 use Rattle.overlay_net.specs.cell_nets.declared.operand.Operand.{Operand}
 use Rattle.overlay_net.specs.cell_nets.Operands.{number_in, IsAvailable}
 use Rattle.overlay_net.specs.cell_nets.Wires.{Gives}
-use Rattle.overlay_net.proofs.cell_nets_laws.ApartLemmas.{stay_none, stay_next}
+use Rattle.overlay_net.proofs.cell_nets_laws.ApartLaws.{stay_none, stay_next}
 use Rattle.overlay_net.specs.SiteOperands.Sites.{operands_of, ShowsAsked}
-use Rattle.overlay_net.proofs.ValueNet.EntryLemmas.{value_bytes}
-use Rattle.overlay_net.proofs.ValueNet.ByteLemmas.{word_is, small_in}
+use Rattle.overlay_net.proofs.ValueNet.ByteLaws.{word_is, small_in}
 use Rattle.byteorder.proofs.Bytes.{pow256}
 use Rattle.byteorder.specs.Numbers.{little_from-lt}
 use Rattle.byteorder.specs.Endian.{little_from}
+use Rattle.hazard_core.proofs.OperationLaws.{value_bytes}
 use Rattle.commit_net.specs.declared.choosing.CommitNets.{CommitNets}
 use Rattle.commit_net.specs.Choosing.{read_of, all_read, chosen_of, IsChosen, Commits}
 use Rattle.commit_net.specs.Words.{IsFitting}
 use Rattle.overlay_net.specs.cell_nets.StepNets.Standing.{Stands}
 use Rattle.overlay_net.proofs.cell_nets_laws.StepNets.ChainLaws.{starts, next}
+use Rattle.overlay_net.proofs.xdp_maps_laws.LittleLaws.{beyond}
 use Rattle.commit_net.proofs.ChooseLemmas.{read_each, each_chosen}
 
 module _ {P : Type 0} {p : P} where
@@ -115,7 +116,7 @@ module _ {N : Type 0} (Q : Operand N → Type 0) where
   tail : (x : Operand N) (xs : List (Operand N)) → All Q (x ∷ xs) → All Q xs
   tail x xs h n d lt = h (suc n) d (omega (arith, lt))
 
-  -- the words of one operation, behind the word that it finds
+  -- the words of one operation, after the word that it finds
   pub words_there : (outs : List (Operand N)) (a : Operand N) (ns : List (CommitNets N)) (i : ℕ) (n : CommitNets N) → i < length ns → n ≡ get_or ns i n → All Q (outs ++ a ∷ all_read ns) → All Q (a ∷ n.nets.now.operands.items)
   words_there outs a ns i n l is h = front (after outs (a ∷ all_read ns) h)
     where
@@ -126,7 +127,7 @@ module _ {N : Type 0} (Q : Operand N → Type 0) where
           after n.nets.now.key.items n.nets.now.operands.items (λ c e q. each (suc (suc (suc c))) e (omega (arith, q))) m d (omega (arith, lt))
 
 -- ---- the words, so far
-module _ {P : Type 0} (part : P) (d : MapDecl) (ns : List (CommitNets (Name P))) (w : ℕ) (a : Operand (Name P)) (p : ProgramView) (t : TableState) (taken : List ℕ) (h : Held) (j : ℕ) (value : List ℕ) where
+module _ {P : Type 0} (part : P) (d : MapDecl) (ns : List (CommitNets (Name P))) (w : ℕ) (a : Operand (Name P)) (p : ProgramView) (t : TableState) (taken : List ℕ) (h : StageValues) (j : ℕ) (value : List ℕ) where
   abbrev pub Needs : Env (Name P) → Type 0
   Needs v = Commits v p t taken h j ns × (decl_of t.decls (site_at p.sites j).map ≡ d) × IsBytes d.value value × (number_in v a ≡ word_at value w)
 
@@ -172,18 +173,10 @@ like_site n = record no_site { act = n.act }
 abbrev pub like_program : {N : Type 0} → CommitNets N → ProgramView
 like_program n = record { cells = []; nodes = []; sites = like_site n ∷ []; verdict = 0; target = 0; frame = [] }
 
-abbrev pub nothing_held : Held
+abbrev pub nothing_held : StageValues
 nothing_held = record { values = []; pointers = [] }
 
 -- ---- a word of so many bytes
-beyond : (n i m : ℕ) (xs : List ℕ) → m ≤ n → length xs ≤ i + m → little_from i n xs ≡ little_from i m xs
-beyond zero i zero xs l h = refl
-beyond zero i (suc m) xs l h = absurd (omega arith)
-beyond (suc n) i zero xs l h =
-    let past : slice_index xs i ≡ 0 = get_or_past xs i 0 (omega arith) in
-    ap (λ x. x + 256 * little_from (suc i) n xs) past ∙ ap (λ x. 0 + 256 * x) (beyond n (suc i) zero xs (omega arith) (omega arith))
-beyond (suc n) i (suc m) xs l h = ap (λ x. slice_index xs i + 256 * x) (beyond n (suc i) m xs (omega arith) (omega arith))
-
 pub word_small : (n w : ℕ) (xs : List ℕ) → IsBytes n xs → word_at xs w < 2 ^ word_width n w
 word_small n w xs b = subst (λ x. x < 2 ^ word_width n w) (sym (word_is xs w ∙ short (cases_lt (n - 8 * w) 8))) (subst (λ x. little_from (8 * w) m xs < x) (pow256 m) (little_from-lt (8 * w) m xs (small_in n xs b)))
   where
@@ -196,24 +189,24 @@ word_small n w xs b = subst (λ x. x < 2 ^ word_width n w) (sym (word_is xs w �
 
 -- the word that an operation leaves has so many bytes
 pub left_small :
-    {N : Type 0} (n : CommitNets N) (p : ProgramView) (decls : List MapDecl) (h : Held) (j : ℕ) (d : MapDecl) (value : List ℕ) (w : ℕ) → IsFitting d n → (site_at p.sites j).act ≡ n.act → length n.nets.now.operands.items ≡ length (site_at p.sites j).operands → decl_of decls (site_at p.sites j).map ≡ d
+    {N : Type 0} (n : CommitNets N) (p : ProgramView) (decls : List MapDecl) (h : StageValues) (j : ℕ) (d : MapDecl) (value : List ℕ) (w : ℕ) → IsFitting d n → (site_at p.sites j).act ≡ n.act → length n.nets.now.operands.items ≡ length (site_at p.sites j).operands → decl_of decls (site_at p.sites j).map ≡ d
     → IsBytes d.value value → word_at (value_as (asked decls h (site_at p.sites j)) value) w < 2 ^ word_width d.value w
 left_small n p decls h j d value w fit doing count declared b =
     let s = site_at p.sites j in
-    let xs = map (held_value h) s.operands in
-    let long : length n.nets.now.operands.items ≡ length xs = count ∙ sym (length-map s.operands (held_value h)) in
+    let xs = map (stage_value h) s.operands in
+    let long : length n.nets.now.operands.items ≡ length xs = count ∙ sym (length-map s.operands (stage_value h)) in
     let words : HasWords d.value s.act (length xs) = subst (λ a. HasWords d.value a (length xs)) (sym doing) (subst (HasWords d.value n.act) long fit.words) in
-    let is = value_bytes d s.act (map (held_value h) s.key) xs value b words (subst (IsInside d.value) (sym doing) fit.inside) in
-    word_small d.value w (value_as (asked decls h s) value) (subst (λ x. IsBytes d.value (value_as (operation_with x s.act (map (held_value h) s.key) xs) value)) (sym declared) is)
+    let is = value_bytes d s.act (map (stage_value h) s.key) xs value b words (subst (IsInside d.value) (sym doing) fit.inside) in
+    word_small d.value w (value_as (asked decls h s) value) (subst (λ x. IsBytes d.value (value_as (operation_with x s.act (map (stage_value h) s.key) xs) value)) (sym declared) is)
 
 -- and so has that of the one that commits
 pub chosen_small :
-    {N : Type 0} (v : Env N) (ns : List (CommitNets N)) (p : ProgramView) (decls : List MapDecl) (h : Held) (j : ℕ) (d : MapDecl) (value : List ℕ) (w : ℕ) → All (IsFitting d) ns → (x : IsChosen v p j ns) → ShowsAsked v p h j (operands_of x.nets.nets.now) → decl_of decls (site_at p.sites j).map ≡ d
+    {N : Type 0} (v : Env N) (ns : List (CommitNets N)) (p : ProgramView) (decls : List MapDecl) (h : StageValues) (j : ℕ) (d : MapDecl) (value : List ℕ) (w : ℕ) → All (IsFitting d) ns → (x : IsChosen v p j ns) → ShowsAsked v p h j (operands_of x.nets.nets.now) → decl_of decls (site_at p.sites j).map ≡ d
     → IsBytes d.value value → word_at (value_as (asked decls h (site_at p.sites j)) value) w < 2 ^ word_width d.value w
 chosen_small v ns p decls h j d value w fitting x shown declared b =
     let xs = x.nets.nets.now.operands.items in
     let cells = (site_at p.sites j).operands in
-    let count : length xs ≡ length cells = omega (arith, ap length shown.operands, length-map xs (number_in v), length-map cells (held_value h)) in
+    let count : length xs ≡ length cells = omega (arith, ap length shown.operands, length-map xs (number_in v), length-map cells (stage_value h)) in
     left_small x.nets p decls h j d value w (subst (IsFitting d) x.is (fitting x.place x.nets x.within)) x.act count declared b
 
 -- ---- one of several

@@ -7,7 +7,7 @@ use Rattle.overlay_net.specs.cell_core.declared.site.Act.TheVariants as act
 use Rattle.overlay_net.specs.cell_core.Cells.{bit, phi}
 use Rattle.overlay_net.specs.cell_core.Sites.{ProgramView, site_at}
 use Rattle.overlay_net.specs.hazard_core.Tables.{TableState}
-use Rattle.overlay_net.specs.hazard_core.Held.{Held, is_delete}
+use Rattle.overlay_net.specs.hazard_core.StageValues.{StageValues, is_delete}
 use Rattle.overlay_net.specs.hazard_core.Commits.{written_slot, makes_entry}
 use Rattle.overlay_net.specs.cell_nets.declared.operand.Operand.{Operand}
 use Rattle.overlay_net.specs.cell_nets.declared.operand.Operand.TheVariants.{Known}
@@ -62,7 +62,7 @@ abbrev pub IsOnly : {N : Type 0} → Env N → List (CommitNets N) → ℕ → T
 IsOnly v ns k = (i : ℕ) (d : CommitNets _) → i < length ns → number_in v (get_or ns i d).chosen ≡ bit (i == k)
 
 -- its operands stand for the operation at site j: what this asks, the slot that it writes, and whether it makes an entry there
-pub record ShowsCommit {N : Type 0} (v : Env N) (p : ProgramView) (t : TableState) (taken : List ℕ) (h : Held) (j : ℕ) (n : CommitNets N) : Type 0 where
+pub record ShowsCommit {N : Type 0} (v : Env N) (p : ProgramView) (t : TableState) (taken : List ℕ) (h : StageValues) (j : ℕ) (n : CommitNets N) : Type 0 where
   pub asked : ShowsAsked v p h j (operands_of n.nets.now)
   pub target : number_in v n.target ≡ written_slot p t taken h j
   pub makes : number_in v n.makes ≡ bit (makes_entry p t h j)
@@ -77,6 +77,6 @@ pub record IsChosen {N : Type 0} (v : Env N) (p : ProgramView) (j : ℕ) (ns : L
   pub act : (site_at p.sites j).act ≡ nets.act
 
 -- and its operands stand for it
-pub record Commits {N : Type 0} (v : Env N) (p : ProgramView) (t : TableState) (taken : List ℕ) (h : Held) (j : ℕ) (ns : List (CommitNets N)) : Type 0 where
+pub record Commits {N : Type 0} (v : Env N) (p : ProgramView) (t : TableState) (taken : List ℕ) (h : StageValues) (j : ℕ) (ns : List (CommitNets N)) : Type 0 where
   pub chosen : IsChosen v p j ns
   pub shows : ShowsCommit v p t taken h j chosen.nets

@@ -7,6 +7,5 @@ pub mod Words
 pub mod Wiring
 pub mod Wholes
 pub mod Laws
-pub mod Taking
 pub mod ChangeNet
 pub mod MapBlock

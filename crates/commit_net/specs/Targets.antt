@@ -5,7 +5,7 @@ use Rattle.net_core.specs.Value.{Env}
 use Rattle.overlay_net.specs.cell_core.Sites.{ProgramView, site_at}
 use Rattle.overlay_net.specs.hazard_core.Tables.{TableState, table_at, free_slot}
 use Rattle.overlay_net.specs.hazard_core.declared.pointer.Pointer.TheVariants.{Pending}
-use Rattle.overlay_net.specs.hazard_core.Held.{Held, written_pointer}
+use Rattle.overlay_net.specs.hazard_core.StageValues.{StageValues, written_pointer}
 use Rattle.overlay_net.specs.hazard_core.Commits.{written_slot}
 use Rattle.overlay_net.specs.cell_nets.declared.operand.Operand.{Operand}
 use Rattle.overlay_net.specs.cell_nets.Operands.{number_in}
@@ -21,12 +21,12 @@ abbrev pub IsAmong : {N : Type 0} → List (TakenSlot N) → ℕ → Type 0
 IsAmong ss i = (k : ℕ) × (k < length ss) × ((d : TakenSlot _) → (get_or ss k d).site ≡ i)
 
 -- an operand for the pointer to the entry that an operation writes
-abbrev pub ShowsWritten : {N : Type 0} → Env N → ProgramView → TableState → Held → ℕ → Operand N → Type 0
+abbrev pub ShowsWritten : {N : Type 0} → Env N → ProgramView → TableState → StageValues → ℕ → Operand N → Type 0
 ShowsWritten v p t h j written = number_in v written ≡ pointer_number (written_pointer p t h j)
 
 -- and those that say in which slot it is: of the map the first one that is free, where there is one, and the slots that the packet's updates took,
 -- with that of the update that made the entry. The slot is one of the table, and the bits are enough for these.
-pub record ShowsTarget {N : Type 0} (v : Env N) (p : ProgramView) (t : TableState) (took : List ℕ) (h : Held) (j bits : ℕ) (entry first : Operand N) (ss : List (TakenSlot N)) : Type 0 where
+pub record ShowsTarget {N : Type 0} (v : Env N) (p : ProgramView) (t : TableState) (took : List ℕ) (h : StageValues) (j bits : ℕ) (entry first : Operand N) (ss : List (TakenSlot N)) : Type 0 where
   pub written : ShowsWritten v p t h j entry
   pub free : free_slot (table_at t (site_at p.sites j).map) < length (table_at t (site_at p.sites j).map) → number_in v first ≡ free_slot (table_at t (site_at p.sites j).map)
   pub taken : All (λ s. number_in v s.slot ≡ slice_index took s.site) ss

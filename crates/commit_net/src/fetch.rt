@@ -53,7 +53,7 @@ fn wires<P: Part>(
 }
 
 /// The block that shows so many words, from one on, of a byte string of a slot, each as a wire of 64 bits. The first words of such strings are in a
-/// memory of another part, and the next ones in the memories behind it: the values of an array from its first memory on, those of a hash behind its keys.
+/// memory of another part, and the next ones in the memories after it: the values of an array from its first memory on, those of a hash after its keys.
 pub fn fetch<P: Part>(
     alloc: Global,
     part: P,

@@ -7,7 +7,6 @@ pub mod choosing;
 pub mod fetch;
 pub mod laws;
 pub mod map_block;
-pub mod taken;
 pub mod target;
 pub mod whole;
 pub mod words;

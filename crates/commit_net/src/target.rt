@@ -4,7 +4,7 @@ ghost use Rattle.std.specs.Prelude.{ℕ, List, [], ◌∷◌, ◌≡◌, ◌==�
 ghost use Rattle.overlay_net.specs.cell_core.Cells.{bit, bits_from};
 ghost use Rattle.overlay_net.specs.cell_core.Sites.{ProgramView, site_at};
 ghost use Rattle.overlay_net.specs.hazard_core.Tables.{TableState};
-ghost use Rattle.overlay_net.specs.hazard_core.Held.{Held};
+ghost use Rattle.overlay_net.specs.hazard_core.StageValues.{StageValues};
 ghost use Rattle.overlay_net.specs.hazard_core.Commits.{written_slot, makes_entry};
 ghost use Rattle.overlay_net.specs.cell_nets.Operands.{IsOperand, IsWide, number_in};
 ghost use Rattle.overlay_net.specs.cell_nets.Wires.{wires_of, always, HasBits, Gives};
@@ -73,7 +73,7 @@ pub fn target<P: Copy>(
     requires taken { All IsOperand (slots_of taken.now) }
     ensures operand { IfOk result IsOperand }
     ensures bits { IfOk result (HasBits bits) }
-    ensures gives { (p : ProgramView) (t : TableState) (took : List ℕ) (h : Held) → IfOk result (Gives part (wires_of wires.old.items) (wires_of wires.new.items) (written ∷ free ∷ slots_of taken.now)
+    ensures gives { (p : ProgramView) (t : TableState) (took : List ℕ) (h : StageValues) → IfOk result (Gives part (wires_of wires.old.items) (wires_of wires.new.items) (written ∷ free ∷ slots_of taken.now)
         (λ v. ShowsTarget v p t took h site bits written free taken.now) (λ v. written_slot p t took h site) bits) }
 {
     let mut slot = cut(alloc, wires, part, free, 0, bits)?;
@@ -99,7 +99,7 @@ pub fn makes_entry<P: Copy>(
     requires { IsOperand written }
     ensures operand { IfOk result IsOperand }
     ensures bits { IfOk result (HasBits 1) }
-    ensures gives { (p : ProgramView) (t : TableState) (h : Held) → (site_at p.sites site).act ≡ act → IfOk result (Gives part (wires_of wires.old.items) (wires_of wires.new.items) (written ∷ [])
+    ensures gives { (p : ProgramView) (t : TableState) (h : StageValues) → (site_at p.sites site).act ≡ act → IfOk result (Gives part (wires_of wires.old.items) (wires_of wires.new.items) (written ∷ [])
         (λ v. ShowsWritten v p t h site written) (λ v. bit (makes_entry p t h site)) 1) }
 {
     match act {

@@ -1,10 +1,10 @@
-//! What is asked of the block of a map, whole: parts of wires alone, one that gives the slot that is written, and behind it one that gives the words.
+//! What is asked of the block of a map, whole: parts of wires alone, one that gives the slot that is written, and after it one that gives the words.
 
 ghost use Rattle.std.specs.Prelude.{ℕ, List, ◌++◌, ◌≡◌, ◌≤◌, All, length, IfOk};
 ghost use Rattle.block_core.specs.View.{block_of};
 ghost use Rattle.overlay_net.specs.xdp_maps.Contents.{IsBytes};
 ghost use Rattle.overlay_net.specs.cell_core.Sites.{ProgramView, site_at};
-ghost use Rattle.overlay_net.specs.hazard_core.Held.{Held, asked, asked_key};
+ghost use Rattle.overlay_net.specs.hazard_core.StageValues.{StageValues, asked, asked_key};
 ghost use Rattle.overlay_net.specs.hazard_core.Overlay.{value_as};
 ghost use Rattle.overlay_net.specs.hazard_core.Tables.{TableState, decl_of};
 ghost use Rattle.overlay_net.specs.hazard_core.Commits.{word_count};
@@ -62,7 +62,7 @@ fn key_nets<P: Part>(
     requires operands { All HasOperands sites.now }
     requires most { decl.now.key ≤ 64 }
     ensures count { IfOk result (λ r. length r.items ≡ word_count decl.now.key) }
-    ensures stands { (p : ProgramView) (t : TableState) (taken : List ℕ) (h : Held) (j : ℕ) → IfOk result (λ r. Stands part (wires_of wires.old.items) (wires_of wires.new.items) (all_read sites.now)
+    ensures stands { (p : ProgramView) (t : TableState) (taken : List ℕ) (h : StageValues) (j : ℕ) → IfOk result (λ r. Stands part (wires_of wires.old.items) (wires_of wires.new.items) (all_read sites.now)
         (λ v. Commits v p t taken h j sites.now × (decl_of t.decls (site_at p.sites j).map ≡ decl.now) × (word_count decl.now.key ≤ length (site_at p.sites j).key)) (key_operands decl.now.key 0 r.items ++ all_read sites.now)
         (λ v. ShowWords v 0 r.items (asked_key t.decls h (site_at p.sites j)))) }
 {
@@ -87,7 +87,7 @@ fn value_nets<P: Part>(
     requires few { decl.now.value ≤ 64 }
     requires words { length words.now ≡ word_count decl.now.value }
     ensures count { IfOk result (λ r. length r.items ≡ word_count decl.now.value) }
-    ensures stands { (p : ProgramView) (t : TableState) (taken : List ℕ) (h : Held) (j : ℕ) (value : List ℕ) → IfOk result (λ r. Stands part (wires_of wires.old.items) (wires_of wires.new.items) (outside_of sites.now words.now)
+    ensures stands { (p : ProgramView) (t : TableState) (taken : List ℕ) (h : StageValues) (j : ℕ) (value : List ℕ) → IfOk result (λ r. Stands part (wires_of wires.old.items) (wires_of wires.new.items) (outside_of sites.now words.now)
         (λ v. Commits v p t taken h j sites.now × (decl_of t.decls (site_at p.sites j).map ≡ decl.now) × IsBytes decl.now.value value × ShowsValue v words.now value) (value_operands decl.now.value 0 r.items ++ outside_of sites.now words.now)
         (λ v. ShowChanges v (changes_word (site_at p.sites j).act) 0 r.items (value_as (asked t.decls h (site_at p.sites j)) value))) }
 {
@@ -101,7 +101,7 @@ fn value_nets<P: Part>(
     Ok(values)
 }
 
-/// The part that gives the slot that the operation writes that commits, in so many bits. What stands there is fetched behind it.
+/// The part that gives the slot that the operation writes that commits, in so many bits. What stands there is fetched after it.
 pub fn commit_slot<P: Part>(
     alloc: Global,
     part: P,
@@ -128,7 +128,7 @@ pub fn commit_hash<P: Part>(
     sites: &[CommitNets<'_, Name<P>>],
     words: &[Name<P>],
     map: MapNets<Name<P>>,
-    calm: Name<P>,
+    idle: Name<P>,
 ) -> Result<HashCommit<Name<P>>, AllocError>
     requires operands { All HasOperands sites.now }
     requires fitting { All (IsFitting decl.now) sites.now }
@@ -136,7 +136,7 @@ pub fn commit_hash<P: Part>(
     requires value { decl.now.value ≤ 64 }
     requires words { length words.now ≡ word_count decl.now.value }
     ensures map { IfOk result (λ r. r.nets.map ≡ map) }
-    ensures calm { IfOk result (λ r. r.nets.calm ≡ calm) }
+    ensures idle { IfOk result (λ r. r.nets.idle ≡ idle) }
     ensures asks { (bits : ℕ) → IfOk result (λ r. IsHashCommit part decl.now bits sites.now words.now r.nets r.keys.items r.values.items (block_of r.block)) }
 {
     let mut wires = Vec::new(alloc);
@@ -149,7 +149,7 @@ pub fn commit_hash<P: Part>(
         block,
         nets: HashNets {
             map,
-            calm,
+            idle,
             inserts,
             deletes,
         },

@@ -3,7 +3,7 @@
 ghost use Rattle.std.specs.Prelude.{ℕ, List, ◌∷◌, ◌≡◌, ◌<◌, ◌≤◌, All, IfOk};
 ghost use Rattle.overlay_net.specs.xdp_maps.Contents.{IsBytes};
 ghost use Rattle.overlay_net.specs.cell_core.Sites.{ProgramView, site_at};
-ghost use Rattle.overlay_net.specs.hazard_core.Held.{Held, asked};
+ghost use Rattle.overlay_net.specs.hazard_core.StageValues.{StageValues, asked};
 ghost use Rattle.overlay_net.specs.hazard_core.Overlay.{value_as};
 ghost use Rattle.overlay_net.specs.hazard_core.Tables.{TableState, decl_of};
 ghost use Rattle.overlay_net.specs.hazard_core.Commits.{word_at, word_count};
@@ -38,7 +38,7 @@ pub fn word_net<P: Copy>(
     requires word { HasBits 64 old }
     requires few { decl.now.value ≤ 64 }
     requires there { w < word_count decl.now.value }
-    ensures { (p : ProgramView) (t : TableState) (taken : List ℕ) (h : Held) (j : ℕ) (value : List ℕ) → IfOk result (λ n. Gives part (wires_of wires.old.items) (wires_of wires.new.items) (old ∷ all_read sites.now)
+    ensures { (p : ProgramView) (t : TableState) (taken : List ℕ) (h : StageValues) (j : ℕ) (value : List ℕ) → IfOk result (λ n. Gives part (wires_of wires.old.items) (wires_of wires.new.items) (old ∷ all_read sites.now)
         (λ v. Commits v p t taken h j sites.now × (decl_of t.decls (site_at p.sites j).map ≡ decl.now) × IsBytes decl.now.value value × (number_in v old ≡ word_at value w))
         (λ v. word_at (value_as (asked t.decls h (site_at p.sites j)) value) w) (word_width decl.now.value w) (Operand.Net n (word_width decl.now.value w))) }
 {

@@ -27,7 +27,7 @@ use Rattle.control_net.specs.Control.{State, Signals, returns, some_returns, old
 use Rattle.control_net.specs.Block.{lap_word, slot_word, code, Sees}
 use Rattle.control_net.specs.Trees.{before, wire, kept, by_place, advance, pass, resume, move, move_lap, move_slot, control_tree}
 use Rattle.control_net.proofs.Lists.{before_next, first_and_rest, listed, words, all_set}
-use Rattle.control_net.proofs.Sweeping.{past, swept_length}
+use Rattle.control_net.proofs.Flushing.{past, flushed_length}
 use Rattle.control_net.proofs.Sound.{shifted_length, shifted_first, shifted_at}
 use Rattle.control_net.proofs.Shown.{counters, bit_at, slot_shown, lap_shown, passed_shown, number_lap_shown, number_slot_shown, kept_shown, wire_shown}
 
@@ -90,30 +90,30 @@ module _ {P : Type 0} (c : ControlShape) (part of : P) (v : Env (Name P)) where
   resume_done k n false s e l q =
       ap (λ (x : Word). cond (x.value == 0) (code c s) (record { registers = slice_set (slice_set (code c s).registers 4 (v.net (lap_name c part k))) 5 (v.net (slot_name c part k)); memories = [] })) e
 
-  module _ (due : ℕ → Bool) where
+  module _ (reload : ℕ → Bool) where
     resumes_done : (hs : List Bool) (ns : List ℕ) (a : ℕ) (s : State) → a + length ns ≡ suc c.commit → length ns ≤ length hs
-        → ((j : ℕ) → j < length ns → v.net (back_name c of (a + j)) ≡ bit (some_returns c due (a + j) (drop j hs)))
+        → ((j : ℕ) → j < length ns → v.net (back_name c of (a + j)) ≡ bit (some_returns c reload (a + j) (drop j hs)))
         → ((j : ℕ) → j < length ns → (v.net (lap_name c part (a + j)) ≡ lap_word c (get_or ns j 0)) × (v.net (slot_name c part (a + j)) ≡ slot_word c (get_or ns j 0)))
-        → all_done v (listed (resume c part of) a (length ns)) (code c s) ≡ code c (record s { injected = cond (some_returns c due a hs) (oldest c due a hs ns) s.injected })
+        → all_done v (listed (resume c part of) a (length ns)) (code c s) ≡ code c (record s { injected = cond (some_returns c reload a hs) (oldest c reload a hs ns) s.injected })
     resumes_done hs [] a s l m b n =
-        let none = past c due hs a (omega (arith, l)) in
-        ap (λ t. code c (record s { injected = cond t (oldest c due a hs []) s.injected })) (sym none)
+        let none = past c reload hs a (omega (arith, l)) in
+        ap (λ t. code c (record s { injected = cond t (oldest c reload a hs []) s.injected })) (sym none)
     resumes_done [] (x ∷ ns) a s l m b n = absurd (omega (arith, m))
     resumes_done (h ∷ hs) (x ∷ ns) a s l m b n =
         let z : a + 0 ≡ a = omega arith in
-        let here = some_returns c due a (h ∷ hs) in
-        let further = some_returns c due (suc a) hs in
-        let sends : v.net (back_name c of a) ≡ bit here = subst (λ k. v.net (back_name c of k) ≡ bit (some_returns c due k (h ∷ hs))) z (b 0 (omega arith)) in
+        let here = some_returns c reload a (h ∷ hs) in
+        let further = some_returns c reload (suc a) hs in
+        let sends : v.net (back_name c of a) ≡ bit here = subst (λ k. v.net (back_name c of k) ≡ bit (some_returns c reload k (h ∷ hs))) z (b 0 (omega arith)) in
         let own : (v.net (lap_name c part a) ≡ lap_word c x) × (v.net (slot_name c part a) ≡ slot_word c x) = subst (λ k. (v.net (lap_name c part k) ≡ lap_word c x) × (v.net (slot_name c part k) ≡ slot_word c x)) z (n 0 (omega arith)) in
         let s1 : State = record s { injected = cond here x s.injected } in
-        let b' : (j : ℕ) → j < length ns → v.net (back_name c of (suc a + j)) ≡ bit (some_returns c due (suc a + j) (drop j hs)) =
-        λ j q. let k : a + suc j ≡ suc a + j = omega arith in subst (λ k. v.net (back_name c of k) ≡ bit (some_returns c due k (drop j hs))) k (b (suc j) (omega (arith, q))) in
+        let b' : (j : ℕ) → j < length ns → v.net (back_name c of (suc a + j)) ≡ bit (some_returns c reload (suc a + j) (drop j hs)) =
+        λ j q. let k : a + suc j ≡ suc a + j = omega arith in subst (λ k. v.net (back_name c of k) ≡ bit (some_returns c reload k (drop j hs))) k (b (suc j) (omega (arith, q))) in
         let n' : (j : ℕ) → j < length ns → (v.net (lap_name c part (suc a + j)) ≡ lap_word c (get_or ns j 0)) × (v.net (slot_name c part (suc a + j)) ≡ slot_word c (get_or ns j 0)) =
         λ j q. let k : a + suc j ≡ suc a + j = omega arith in subst (λ k. (v.net (lap_name c part k) ≡ lap_word c (get_or ns j 0)) × (v.net (slot_name c part k) ≡ slot_word c (get_or ns j 0))) k (n (suc j) (omega (arith, q))) in
         ap (λ xs. all_done v (statements_before xs SEnd) (code c s)) (first_and_rest (resume c part of) a (length ns))
         ∙ ap (all_done v (listed (resume c part of) (suc a) (length ns))) (resume_done a x here s sends own.0 own.1)
         ∙ resumes_done hs ns (suc a) s1 (omega (arith, l)) (omega (arith, m)) b' n'
-        ∙ ap (λ m. code c (record s { injected = m })) (later_wins (returns c due a h) further (oldest c due (suc a) hs ns) x s.injected)
+        ∙ ap (λ m. code c (record s { injected = m })) (later_wins (returns c reload a h) further (oldest c reload (suc a) hs ns) x s.injected)
 
   -- ---- what moves on, or stays
   before_value : (e : Tree (Name P)) (g : ℕ → Tree (Name P)) (x : Word) (ws : List Word) (k : ℕ) → k < length ws → value v e ≡ x → ((j : ℕ) → j < length ws → value v (g j) ≡ get_or ws j nothing) → value v (before e g k) ≡ get_or (shifted x ws) k nothing
@@ -137,7 +137,7 @@ module _ {P : Type 0} (c : ControlShape) (part of : P) (nets : ControlNets P) (i
   rs = rest c i s
 
   rs_length : length rs ≡ suc c.stages
-  rs_length = swept_length c i.due s.holds 0 ∙ h.places
+  rs_length = flushed_length c i.reload s.holds 0 ∙ h.places
 
   abbrev held : Bool → List Bool
   held st = cond st rs (shifted (injects c i s) rs)
@@ -193,7 +193,7 @@ module _ {P : Type 0} (c : ControlShape) (part of : P) (nets : ControlNets P) (i
       (λ j q. number_slot_shown c part of nets i s v h e j (omega (arith, q, m)) ∙ sym (get_or-map (slot_word c) s.numbers j 0 nothing (omega (arith, q, m, h.numbered))))
       ∙ ap (λ xs. words (front ++ (xs ++ back))) (map_cond (slot_word c) i.stalls s.injected s.numbers)
 
-  -- all registers behind the counters, one list after another
+  -- all registers after the counters, one list after another
   stored_done : (t : State) → t.holds ≡ s.holds → t.numbers ≡ s.numbers
       → all_done v (statements_before (by_place (move c part of) (suc c.stages) ∷ SIf (wire part Advances) (by_place (move_lap c part) (suc c.commit)) ∷ SIf (wire part Advances) (by_place (move_slot c part) (suc c.commit)) ∷ []) SEnd) (code c t)
       ≡ code c (record t { holds = held i.stalls; numbers = cond i.stalls s.numbers (shifted s.injected s.numbers) })
@@ -249,11 +249,11 @@ module _ {P : Type 0} (c : ControlShape) (part of : P) (nets : ControlNets P) (i
       ∙ ap (all_done v m3) (counts c part of v Injected s.injected Injects (injects c i s) (code c s2) (laps Injected) (slots Injected) (tells Injects) ∙ injected_done c part of v (injects c i s) s2)
       ∙ ap (all_done v m4) (counts c part of v Gathered s.gathered Ends (ends c i s) (code c s3) (laps Gathered) (slots Gathered) (tells Ends) ∙ gathered_done c part of v (ends c i s) s3)
       ∙ ap (all_done v m5) (pass_done c part of v (passes c i s) s4 (tells Passes) (passed_shown c part of nets i s v h e) h.passed)
-      ∙ ap (all_done v m6) (ap (λ n. all_done v (listed (resume c part of) 0 n) (code c s5)) (sym h.numbered) ∙ resumes_done c part of v i.due s.holds s.numbers 0 s5 (omega (arith, h.numbered)) (omega (arith, h.numbered, h.places, c.within)) sends numbered)
+      ∙ ap (all_done v m6) (ap (λ n. all_done v (listed (resume c part of) 0 n) (code c s5)) (sym h.numbered) ∙ resumes_done c part of v i.reload s.holds s.numbers 0 s5 (omega (arith, h.numbered)) (omega (arith, h.numbered, h.places, c.within)) sends numbered)
       ∙ stored_done s6 refl refl
     where
-      sends : (j : ℕ) → j < length s.numbers → v.net (back_name c of (0 + j)) ≡ bit (some_returns c i.due (0 + j) (drop j s.holds))
-      sends j q = let z : 0 + j ≡ j = omega arith in subst (λ k. v.net (back_name c of k) ≡ bit (some_returns c i.due k (drop j s.holds))) (sym z) (e.back j (omega (arith, q, h.numbered)))
+      sends : (j : ℕ) → j < length s.numbers → v.net (back_name c of (0 + j)) ≡ bit (some_returns c i.reload (0 + j) (drop j s.holds))
+      sends j q = let z : 0 + j ≡ j = omega arith in subst (λ k. v.net (back_name c of k) ≡ bit (some_returns c i.reload k (drop j s.holds))) (sym z) (e.back j (omega (arith, q, h.numbered)))
 
       numbered : (j : ℕ) → j < length s.numbers → (v.net (lap_name c part (0 + j)) ≡ lap_word c (get_or s.numbers j 0)) × (v.net (slot_name c part (0 + j)) ≡ slot_word c (get_or s.numbers j 0))
       numbered j q =

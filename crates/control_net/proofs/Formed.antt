@@ -22,13 +22,14 @@ use Rattle.block_core.specs.Parts.{Within}
 use Rattle.block_core.specs.Order.{Reads, IsBefore, InOrder}
 use Rattle.block_core.specs.Formed.{block_registers, block_wires, block_wires_typed, name_width, names_scope, IsTypedBlock, StatementReads, IsThere}
 use Rattle.block_core.specs.BlockForms.WellFormed.{wire_spelled}
+use Rattle.block_core.proofs.list_laws_laws.BoolLaws.{by_test}
+use Rattle.block_core.proofs.OrderLaws.{still_before}
 use Rattle.control_net.specs.declared.ring_net.shape.ControlShape.{ControlShape}
 use Rattle.control_net.specs.declared.ring_net.names.Counter.{Counter}
 use Rattle.control_net.specs.declared.ring_net.names.Counter.TheVariants.{Given, Answered, Injected, Gathered}
 use Rattle.control_net.specs.declared.ring_net.names.Register.TheVariants.{Lap, Slot, Passed, Holds}
 use Rattle.control_net.specs.RingNet.Names.{register_number}
 use Rattle.control_net.specs.RingNet.Trees.{register, compared, both, at_end, counting}
-use Rattle.control_net.proofs.RingNet.Cases.{by_test}
 use Rattle.control_net.proofs.RingNet.Formed.{same_self, test_self, choice_self, sum_self, const_fits, one_small}
 use Rattle.control_net.specs.declared.names.Wire.{Wire}
 use Rattle.control_net.specs.declared.names.Wire.TheVariants.{Ready, Over, Ends, Advances, Injects, Exits, Passes, Shown, Taken, Gone}
@@ -36,7 +37,7 @@ use Rattle.control_net.specs.declared.names.ControlNets.{ControlNets}
 use Rattle.control_net.specs.Names.{lap_number, slot_number, lap_name, slot_name, wire_number, back_name}
 use Rattle.control_net.specs.Block.{register_widths, AreNets}
 use Rattle.control_net.specs.Trees.{before, by_place, wire, back_read, kept, enters, pass, resume, move, move_lap, move_slot, zeros, control_wires, control_statements, control_tree, all_of}
-use Rattle.control_net.proofs.Lists.{by_before, before_more, all_typed, all_deep, all_elses, all_pass, all_flat, all_read, all_within}
+use Rattle.control_net.proofs.Lists.{by_before, all_typed, all_deep, all_elses, all_pass, all_flat, all_read, all_within}
 use Rattle.control_net.proofs.Shown.{zeros_length}
 use Rattle.control_net.proofs.Widths.{registers_are, lap_width, slot_width, holds_width, number_lap_width, number_slot_width, zeros_fit, bits, wire_width}
 
@@ -168,15 +169,15 @@ module _ {P : Type 0} (c : ControlShape) (part of : P) (nets : ControlNets P) (d
   pub in_order : (before : List P) → AreNets (IsBefore d before part 0) c of nets → InOrder d before part 0 (control_wires c part of nets)
   in_order bs n =
       let two : (Among part d.parts × Among part d.parts) × (Among part d.parts × Among part d.parts) = ((own, own), (own, own)) in
-      let back = λ (at k : ℕ) (l : k ≤ c.commit). before_more d bs part at (back_name c of k) (n.back k l) in
+      let back = λ (at k : ℕ) (l : k ≤ c.commit). still_before d bs part at (back_name c of k) (n.back k l) in
       let keeps = λ (at k : ℕ). by_place_kept c part of (Reads (IsBefore d bs part at)) k (λ l. (own, back at k l)) own in (
-        (before_more d bs part 0 nets.partial n.partial, two),
+        (still_before d bs part 0 nets.partial n.partial, two),
         (
           (tt, inl (refl, omega arith)),
           (
             (inl (refl, omega arith), tt),
             (
-              before_more d bs part 3 nets.stalls n.stalls,
+              still_before d bs part 3 nets.stalls n.stalls,
               (
                 ((inl (refl, omega arith), back 4 0 (omega arith)), two),
                 (
@@ -187,7 +188,7 @@ module _ {P : Type 0} (c : ControlShape) (part of : P) (nets : ControlNets P) (d
                       two,
                       (
                         (inl (refl, omega arith), tt),
-                        ((inl (refl, omega arith), before_more d bs part 9 nets.last n.last), tt),
+                        ((inl (refl, omega arith), still_before d bs part 9 nets.last n.last), tt),
                       ),
                     ),
                   ),

@@ -1,5 +1,5 @@
 pub mod Lists
-pub mod Sweeping
+pub mod Flushing
 pub mod Sound
 pub mod Told
 pub mod Returning

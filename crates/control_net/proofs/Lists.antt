@@ -3,8 +3,7 @@ use Rattle.std.specs.Prelude.{◌≡◌, ◌≢◌, ℕ, zero, suc, ◌+◌, ◌
 use Rattle.std.specs.List.{list_all, range_with_len}
 use Rattle.std.proofs.Common.{get_or, refl, sym, subst, ap, ◌∙◌, arith, append_assoc, length-append, ◌⊎◌, inl, inr}
 use Rattle.std.proofs.lemmas.Bool.{and_from, cases_lt, ne_eqb}
-use Rattle.std.proofs.lemmas.List.{map-append, set_at}
-use Rattle.std.proofs.lemmas.List.FromFn.{map-range_with_len_more}
+use Rattle.std.proofs.lemmas.List.{set_at}
 use Rattle.net_core.specs.declared.tree.Word.{Word}
 use Rattle.net_core.specs.Nets.{Tree, StatementTree, SSet, SEnd, StatementTrees}
 use Rattle.net_core.specs.Chains.{statements_before}
@@ -21,19 +20,11 @@ use Rattle.block_core.specs.Order.{RightReads, IsBefore, InOrder}
 use Rattle.block_core.specs.Formed.{block_wire_width, block_wires_typed, StatementReads, StatementsRead}
 use Rattle.control_net.specs.Trees.{before}
 
--- one more in a loop over numbers
-pub pushed_as : {X Y : Type 0} (g : Y → X) (f : ℕ → X) (all new : List Y) (y : Y) (i : ℕ) → new ≡ all ++ y ∷ [] → g y ≡ f i → map g all ≡ map f (range_with_len 0 i) → map g new ≡ map f (range_with_len 0 (i + 1))
-pushed_as g f all new y i n e h = (ap (map g) n ∙ map-append g all (y ∷ [])) ∙ (λ j. h j ++ e j ∷ []) ∙ sym (map-range_with_len_more f 0 i i (omega arith))
-
--- one more behind known ones
-pub pushed : {X : Type 0} {xs ys known : List X} {x y : X} → xs ≡ known → ys ≡ xs ++ x ∷ [] → x ≡ y → ys ≡ known ++ y ∷ []
-pushed h k e = k ∙ (λ i. h i ++ e i ∷ [])
-
 -- where the loop ends
 pub ended : {X : Type 0} (f : ℕ → X) (xs : List X) (i n : ℕ) → xs ≡ map f (range_with_len 0 i) → i ≡ suc n → xs ≡ map f (range_with_len 0 (suc n))
 ended f xs i n h e = h ∙ ap (λ m. map f (range_with_len 0 m)) e
 
--- no number behind another is 0
+-- no number after another is 0
 pub not_zero : (k : ℕ) → (suc k == 0) ≡ false
 not_zero k = let o : suc k ≢ 0 = omega arith in ne_eqb (suc k) 0 o
 
@@ -48,14 +39,6 @@ by_before q e g (suc k) h f = subst q (sym (before_next e g k)) (f k (omega arit
 -- the first of such a list, and the others
 pub first_and_rest : {X : Type 0} (f : ℕ → X) (a n : ℕ) → map f (range_with_len a (suc n)) ≡ f a ∷ map f (range_with_len (suc a) n)
 first_and_rest f a n = let e : a + 1 ≡ suc a = omega arith in ap (λ m. f a ∷ map f (range_with_len m n)) e
-
--- what stands before the first wire of a part stands before any
-pub before_more : {P : Type 0} (d : Whole P) (before : List P) (p : P) (k : ℕ) (n : Name P) → IsBefore d before p 0 n → IsBefore d before p k n
-before_more d before p k (name.Port i) h = tt
-before_more d before p k (name.Register q i) h = h
-before_more d before p k (name.Memory q i) h = h
-before_more d before p k (name.Wire q i) (inl h) = absurd (omega (arith, h.1))
-before_more d before p k (name.Wire q i) (inr h) = inr h
 
 -- ---- statements
 module _ {N : Type 0} (f : ℕ → StatementTree N) where

@@ -9,9 +9,11 @@ use Rattle.net_core.specs.declared.tree.Op.TheVariants.{And, Or, Equal, NotEqual
 use Rattle.net_core.specs.declared.tree.UnaryOp.TheVariants.{Not}
 use Rattle.net_core.specs.Nets.{TUnary}
 use Rattle.net_core.specs.Value.{word, bit, nothing, apply, apply_unary, Env, value}
+use Rattle.net_core.proofs.BitLaws.{and_bits, or_bits, not_bit}
 use Rattle.block_core.specs.declared.name.Name.{Name}
 use Rattle.block_core.specs.declared.name.Name.TheVariants as name
 use Rattle.block_core.specs.Parts.{Solve}
+use Rattle.block_core.proofs.list_laws_laws.BoolLaws.{by_test}
 use Rattle.control_net.specs.declared.ring_net.shape.ControlShape.{ControlShape}
 use Rattle.control_net.specs.declared.ring_net.names.Counter.{Counter}
 use Rattle.control_net.specs.declared.ring_net.names.Counter.TheVariants.{Given, Answered, Injected, Gathered}
@@ -19,8 +21,7 @@ use Rattle.control_net.specs.declared.ring_net.names.Register.TheVariants.{Lap, 
 use Rattle.control_net.specs.RingNet.Names.{register_name}
 use Rattle.control_net.specs.RingNet.Ring.{slot, lap, IsNear}
 use Rattle.control_net.specs.RingNet.Trees.{register, compared, both}
-use Rattle.control_net.proofs.RingNet.Cases.{by_test}
-use Rattle.control_net.proofs.RingNet.Values.{or_bits, and_bits, not_bit, differ_value, room_value}
+use Rattle.control_net.proofs.RingNet.Values.{differ_value, room_value}
 use Rattle.control_net.specs.declared.names.Wire.{Wire}
 use Rattle.control_net.specs.declared.names.Wire.TheVariants.{Ready, Over, Ends, Advances, Injects, Exits, Passes, Shown, Taken, Gone}
 use Rattle.control_net.specs.declared.names.ControlNets.{ControlNets}
@@ -28,7 +29,7 @@ use Rattle.control_net.specs.Names.{lap_number, slot_number, lap_name, slot_name
 use Rattle.control_net.specs.Control.{State, Signals, some_returns, count, back, rest, ready, over, ends, advances, injects, exits, passes, shown, taken, gone, told, IsSound}
 use Rattle.control_net.specs.Block.{lap_word, slot_word, stored_words, Sees, Shows}
 use Rattle.control_net.specs.Trees.{zeros, back_read, kept, enters, control_wires, control_tree}
-use Rattle.control_net.proofs.Sweeping.{kept_at, kept_past}
+use Rattle.control_net.proofs.Flushing.{kept_at, kept_past}
 
 pub zeros_length : (c : ControlShape) → length (zeros c) ≡ 12 + c.stages + c.commit + c.commit
 zeros_length c =
@@ -68,9 +69,6 @@ module _ {P : Type 0} (c : ControlShape) (part of : P) (nets : ControlNets P) (i
 
   laps_length : length laps ≡ suc c.commit
   laps_length = length-map s.numbers (lap_word c) ∙ h.numbered
-
-  slots_length : length slots ≡ suc c.commit
-  slots_length = length-map s.numbers (slot_word c) ∙ h.numbered
 
   at : (k : ℕ) → k < 12 + c.stages + c.commit + c.commit → v.net (name.Register part k) ≡ get_or (stored_words c s) k nothing
   at k l = e.register k (omega (arith, zeros_length c, l))
@@ -131,8 +129,8 @@ module _ {P : Type 0} (c : ControlShape) (part of : P) (nets : ControlNets P) (i
       let z : k ≡ 0 + k = omega arith in
       (λ j. apply And (holds_shown k l j) (not_back k low j))
       ∙ and_bits (get_or s.holds k false) (not (back c i s k))
-      ∙ ap bit (ap (λ n. get_or s.holds k false && not (some_returns c i.due n (drop k s.holds))) z ∙ sym (kept_at c i.due s.holds k 0)))
-      (λ f. holds_shown k l ∙ ap bit (sym (kept_past c i.due s.holds k (leb-false k c.commit f))))
+      ∙ ap bit (ap (λ n. get_or s.holds k false && not (some_returns c i.reload n (drop k s.holds))) z ∙ sym (kept_at c i.reload s.holds k 0)))
+      (λ f. holds_shown k l ∙ ap bit (sym (kept_past c i.reload s.holds k (leb-false k c.commit f))))
 
   solved : Solve v part 0 (control_wires c part of nets)
   solved = e.wires

@@ -3,21 +3,17 @@ use Rattle.std.specs.Prelude.{◌≡◌, ℕ, zero, suc, ◌+◌, ◌<◌, ◌�
 use Rattle.std.proofs.Common.{get_or, not, refl, sym, ap, ◌∙◌, arith, inl, inr}
 use Rattle.std.proofs.lemmas.Bool.{false≢true, ltb-true, and_parts, and_left, and_right, or_cases, not-true, not_from_true}
 use Rattle.std.proofs.lemmas.List.{length-replicate}
+use Rattle.block_core.proofs.list_laws_laws.PlaceLaws.{no_mark}
+use Rattle.block_core.proofs.list_laws_laws.BoolLaws.{by_test}
 use Rattle.net_core.specs.Value.{number_of}
 use Rattle.control_net.specs.declared.ring_net.shape.ControlShape.{ControlShape}
 use Rattle.control_net.specs.RingNet.Control.{packets, counted}
-use Rattle.control_net.proofs.RingNet.Cases.{by_test}
 use Rattle.control_net.specs.Control.{State, Signals, oldest, back, rest, ready, over, ends, advances, injects, exits, shown, taken, gone, shifted, injected_after, step, partial_after, IsSound, StartsSound, StaysSound}
-use Rattle.control_net.proofs.Sweeping.{swept_length, all_kept, held_before, older_kept, fewer_kept, oldest_is}
+use Rattle.control_net.proofs.Flushing.{flushed_length, all_kept, held_before, older_kept, fewer_kept, oldest_is}
 
 none_inside : (n : ℕ) → packets (replicate n false) ≡ 0
 none_inside zero = refl
 none_inside (suc n) = let i = none_inside n in omega arith
-
-none_held : (n k : ℕ) → get_or (replicate n false) k false ≡ false
-none_held zero k = refl
-none_held (suc n) zero = refl
-none_held (suc n) (suc k) = none_held n k
 
 pub starts_sound : StartsSound
 starts_sound c = record {
@@ -29,7 +25,7 @@ starts_sound c = record {
   places = length-replicate (suc c.stages) false;
   numbered = length-replicate (suc c.commit) 0;
   inside = omega (arith, none_inside (suc c.stages));
-  numbers = λ k l e. absurd (false≢true (sym (none_held (suc c.stages) k) ∙ e));
+  numbers = λ k l e. absurd (false≢true (sym (no_mark (suc c.stages) k) ∙ e));
   passed = omega arith;
 }
 
@@ -55,7 +51,7 @@ moved_inside x (h ∷ []) (suc k) e = absurd (omega arith)
 moved_inside x (h ∷ g ∷ hs) zero e = absurd (omega arith)
 moved_inside x (h ∷ g ∷ hs) (suc k) e = let i = moved_inside h (g ∷ hs) k (omega arith) in omega arith
 
--- behind the place that a packet moves to are those that were behind it, but for the one that leaves
+-- after the place that a packet moves to are those that were after it, but for the one that leaves
 moved_behind : (x : Bool) (hs : List Bool) (s k : ℕ) → length hs ≡ suc s → k ≤ s → packets (drop (suc k) (shifted x hs)) + number_of (get_or hs s false) ≡ packets (drop k hs)
 moved_behind x [] s k e l = absurd (omega arith)
 moved_behind x (h ∷ hs) s zero e l = let i = moved_inside x (h ∷ hs) s e in omega (arith, i)
@@ -147,25 +143,25 @@ module _ (c : ControlShape) (i : Signals) (s : State) (h : IsSound c i.partial s
 
   -- ---- those that are not sent back
   rest_length : length (rest c i s) ≡ suc c.stages
-  rest_length = swept_length c i.due s.holds 0 ∙ h.places
+  rest_length = flushed_length c i.reload s.holds 0 ∙ h.places
 
   rest_numbers : (k : ℕ) → k ≤ c.commit → get_or (rest c i s) k false ≡ true → get_or s.numbers k 0 ≡ s.answered + packets (drop (suc k) (rest c i s))
-  rest_numbers k l e = h.numbers k l (held_before c i.due s.holds 0 k e) ∙ ap (λ hs. s.answered + packets hs) (sym (older_kept c i.due s.holds 0 k e))
+  rest_numbers k l e = h.numbers k l (held_before c i.reload s.holds 0 k e) ∙ ap (λ hs. s.answered + packets hs) (sym (older_kept c i.reload s.holds 0 k e))
 
   all_rest : back c i s 0 ≡ false → s.injected ≡ s.answered + packets (rest c i s)
-  all_rest e = sym h.inside ∙ ap (λ hs. s.answered + packets hs) (sym (all_kept c i.due s.holds 0 e))
+  all_rest e = sym h.inside ∙ ap (λ hs. s.answered + packets hs) (sym (all_kept c i.reload s.holds 0 e))
 
   injected_is : injected_after c i s ≡ s.answered + packets (rest c i s) + number_of (injects c i s)
-  injected_is = by_test (λ b. cond b (oldest c i.due 0 s.holds s.numbers) (counted (injects c i s) s.injected) ≡ s.answered + packets (rest c i s) + number_of (injects c i s)) (back c i s 0)
+  injected_is = by_test (λ b. cond b (oldest c i.reload 0 s.holds s.numbers) (counted (injects c i s) s.injected) ≡ s.answered + packets (rest c i s) + number_of (injects c i s)) (back c i s 0)
       (λ e.
-      let o = oldest_is c i.due s.answered s.holds s.numbers 0 (omega (arith, h.numbered)) (λ j l. h.numbers j (omega (arith, l))) e in
+      let o = oldest_is c i.reload s.answered s.holds s.numbers 0 (omega (arith, h.numbered)) (λ j l. h.numbers j (omega (arith, l))) e in
       let z : number_of (injects c i s) ≡ 0 = ap number_of (and_left (advances i && not (back c i s 0)) (nat_lt s.injected s.gathered) (and_right (advances i) (not (back c i s 0)) (not_from_true (back c i s 0) e))) in
       omega (arith, o, z))
       (λ e. let k = counted_is (injects c i s) s.injected in let a = all_rest e in omega (arith, k, a))
 
   waiting : s.answered + packets (rest c i s) + number_of (injects c i s) ≤ s.gathered
   waiting =
-      let f = fewer_kept c i.due s.holds 0 in
+      let f = fewer_kept c i.reload s.holds 0 in
       let u = step_up (injects c i s) s.injected s.gathered injects_some h.injected in
       omega (arith, f, u, h.inside)
 

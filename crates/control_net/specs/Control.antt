@@ -41,37 +41,37 @@ pub record Signals : Type 0 where
   pub out_ready : Bool
   pub last : Bool
   pub stalls : Bool
-  pub due : ℕ → Bool
+  pub reload : ℕ → Bool
 
 -- ---- sending back
 
 -- place k, which holds a packet or not, sends one back: no place past the commit place does
 abbrev pub returns : ControlShape → (ℕ → Bool) → ℕ → Bool → Bool
-returns c due k h = nat_le k c.commit && (h && due k)
+returns c reload k h = nat_le k c.commit && (h && reload k)
 
 -- one of these places, from place k on, sends back
 abbrev pub some_returns : ControlShape → (ℕ → Bool) → ℕ → List Bool → Bool
-some_returns c due k [] = false
-some_returns c due k (h ∷ hs) = returns c due k h || some_returns c due (suc k) hs
+some_returns c reload k [] = false
+some_returns c reload k (h ∷ hs) = returns c reload k h || some_returns c reload (suc k) hs
 
 -- Where a place sends back, it and all younger ones are emptied.
-abbrev pub swept : ControlShape → (ℕ → Bool) → ℕ → List Bool → List Bool
-swept c due k [] = []
-swept c due k (h ∷ hs) = (h && not (some_returns c due k (h ∷ hs))) ∷ swept c due (suc k) hs
+abbrev pub flushed : ControlShape → (ℕ → Bool) → ℕ → List Bool → List Bool
+flushed c reload k [] = []
+flushed c reload k (h ∷ hs) = (h && not (some_returns c reload k (h ∷ hs))) ∷ flushed c reload (suc k) hs
 
 -- the number of the oldest packet that is sent back, where one is
 abbrev pub oldest : ControlShape → (ℕ → Bool) → ℕ → List Bool → List ℕ → ℕ
-oldest c due k [] ns = 0
-oldest c due k (h ∷ hs) [] = 0
-oldest c due k (h ∷ hs) (n ∷ ns) = if some_returns c due (suc k) hs then oldest c due (suc k) hs ns else n
+oldest c reload k [] ns = 0
+oldest c reload k (h ∷ hs) [] = 0
+oldest c reload k (h ∷ hs) (n ∷ ns) = if some_returns c reload (suc k) hs then oldest c reload (suc k) hs ns else n
 
 -- place k or an older one sends back
 abbrev pub back : ControlShape → Signals → State → ℕ → Bool
-back c i s k = some_returns c i.due k (drop k s.holds)
+back c i s k = some_returns c i.reload k (drop k s.holds)
 
 -- which places hold a packet that is not sent back
 abbrev pub rest : ControlShape → Signals → State → List Bool
-rest c i s = swept c i.due 0 s.holds
+rest c i s = flushed c i.reload 0 s.holds
 
 -- ---- what happens in a clock
 
@@ -129,7 +129,7 @@ shifted x (n ∷ ns) = x ∷ shifted n ns
 
 -- Frames are injected again from the oldest one that is sent back on.
 abbrev pub injected_after : ControlShape → Signals → State → ℕ
-injected_after c i s = if back c i s 0 then oldest c i.due 0 s.holds s.numbers else counted (injects c i s) s.injected
+injected_after c i s = if back c i s 0 then oldest c i.reload 0 s.holds s.numbers else counted (injects c i s) s.injected
 
 abbrev pub step : ControlShape → Signals → State → State
 step c i s = record {

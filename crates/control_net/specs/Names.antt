@@ -1,4 +1,4 @@
--- The nets of control by their numbers. Registers of counters, of packets that have passed and of places are those of `ring_net`; behind them stand those of
+-- The nets of control by their numbers. Registers of counters, of packets that have passed and of places are those of `ring_net`; after them stand those of
 -- the packets' numbers, first their laps and then their slots, by place.
 use Rattle.std.specs.Prelude.{ℕ, ◌+◌, ◌-◌}
 use Rattle.block_core.specs.declared.name.Name.{Name}

@@ -2,19 +2,19 @@
 use Rattle.std.specs.Prelude.{◌≡◌, ℕ, suc, nat_le, Bool, false, ◌&&◌, ◌||◌, if◌then◌else◌, Option, Some, None, is_some, List, [], ◌∷◌, map}
 use Rattle.std.proofs.Common.{get_or}
 use Rattle.control_net.specs.declared.ring_net.shape.ControlShape.{ControlShape}
-use Rattle.control_net.specs.Control.{some_returns, swept, shifted}
+use Rattle.control_net.specs.Control.{some_returns, flushed, shifted}
 
 -- whether a place sends back, by what a packet there has to say
 abbrev pub sends : {X : Type 0} → ControlShape → (ℕ → X → Bool) → ℕ → Option X → Bool
-sends c is_due k None = false
-sends c is_due k (Some x) = nat_le k c.commit && is_due k x
+sends c must_reload k None = false
+sends c must_reload k (Some x) = nat_le k c.commit && must_reload k x
 
--- The places are swept: from place k on, one of these sends back, and where a place does, it and all younger ones are emptied.
-pub record IsSweep {X : Type 0} (c : ControlShape) (is_due : ℕ → X → Bool) (some_send : ℕ → List (Option X) → Bool) (sweep : ℕ → List (Option X) → List (Option X)) : Type 0 where
+-- The places are flushed: from place k on, one of these sends back, and where a place does, it and all younger ones are emptied.
+pub record IsFlush {X : Type 0} (c : ControlShape) (must_reload : ℕ → X → Bool) (some_send : ℕ → List (Option X) → Bool) (flush : ℕ → List (Option X) → List (Option X)) : Type 0 where
   pub none_sends : (k : ℕ) → some_send k [] ≡ false
-  pub one_sends : (k : ℕ) (x : Option X) (xs : List (Option X)) → some_send k (x ∷ xs) ≡ (sends c is_due k x || some_send (suc k) xs)
-  pub none_swept : (k : ℕ) → sweep k [] ≡ []
-  pub one_swept : (k : ℕ) (x : Option X) (xs : List (Option X)) → sweep k (x ∷ xs) ≡ (if some_send k (x ∷ xs) then None else x) ∷ sweep (suc k) xs
+  pub one_sends : (k : ℕ) (x : Option X) (xs : List (Option X)) → some_send k (x ∷ xs) ≡ (sends c must_reload k x || some_send (suc k) xs)
+  pub none_flushed : (k : ℕ) → flush k [] ≡ []
+  pub one_flushed : (k : ℕ) (x : Option X) (xs : List (Option X)) → flush k (x ∷ xs) ≡ (if some_send k (x ∷ xs) then None else x) ∷ flush (suc k) xs
 
 -- Packets move: each place takes what the one before held, which stays a packet there.
 pub record IsMove {X : Type 0} (move : ℕ → Option X → List (Option X) → List (Option X)) : Type 0 where
@@ -22,13 +22,13 @@ pub record IsMove {X : Type 0} (move : ℕ → Option X → List (Option X) → 
   pub one_moves : (k : ℕ) (x y : Option X) (ys : List (Option X)) → map is_some (move k x (y ∷ ys)) ≡ is_some x ∷ map is_some (move (suc k) y ys)
 
 -- the signals of places are those of the packets there
-abbrev pub TellsDue : (X : Type 0) → (ℕ → Bool) → (ℕ → X → Bool) → List (Option X) → Type 0
-TellsDue X due is_due places = (k : ℕ) (x : X) → get_or places k None ≡ Some x → due k ≡ is_due k x
+abbrev pub TellsReload : (X : Type 0) → (ℕ → Bool) → (ℕ → X → Bool) → List (Option X) → Type 0
+TellsReload X reload must_reload places = (k : ℕ) (x : X) → get_or places k None ≡ Some x → reload k ≡ must_reload k x
 
 -- control sends back where places do, and knows of each whether it still holds a packet
-abbrev pub SweepsPlaces : Type 0 → Type 0
-SweepsPlaces X = (c : ControlShape) (due : ℕ → Bool) (is_due : ℕ → X → Bool) (some_send : ℕ → List (Option X) → Bool) (sweep : ℕ → List (Option X) → List (Option X)) (places : List (Option X))
-    → IsSweep c is_due some_send sweep → TellsDue X due is_due places → (some_returns c due 0 (map is_some places) ≡ some_send 0 places) × (swept c due 0 (map is_some places) ≡ map is_some (sweep 0 places))
+abbrev pub FlushesPlaces : Type 0 → Type 0
+FlushesPlaces X = (c : ControlShape) (reload : ℕ → Bool) (must_reload : ℕ → X → Bool) (some_send : ℕ → List (Option X) → Bool) (flush : ℕ → List (Option X) → List (Option X)) (places : List (Option X))
+    → IsFlush c must_reload some_send flush → TellsReload X reload must_reload places → (some_returns c reload 0 (map is_some places) ≡ some_send 0 places) × (flushed c reload 0 (map is_some places) ≡ map is_some (flush 0 places))
 
 -- and after they have moved on
 abbrev pub MovesPlaces : Type 0 → Type 0
@@ -36,4 +36,4 @@ MovesPlaces X = (move : ℕ → Option X → List (Option X) → List (Option X)
 
 -- Where none is sent back, each place holds what it held.
 abbrev pub KeepsPlaces : Type 0
-KeepsPlaces = (c : ControlShape) (due : ℕ → Bool) (holds : List Bool) → some_returns c due 0 holds ≡ false → swept c due 0 holds ≡ holds
+KeepsPlaces = (c : ControlShape) (reload : ℕ → Bool) (holds : List Bool) → some_returns c reload 0 holds ≡ false → flushed c reload 0 holds ≡ holds

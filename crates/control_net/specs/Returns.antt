@@ -21,17 +21,17 @@ use Rattle.control_net.specs.Names.{back_name}
 use Rattle.control_net.specs.Control.{some_returns}
 
 -- the net by which a place says that a packet there is to be sent back
-abbrev pub due_name : {P : Type 0} → List (Name P) → ℕ → Name P
-due_name due k = get_or due k (name.Port 0)
+abbrev pub reload_name : {P : Type 0} → List (Name P) → ℕ → Name P
+reload_name reload k = get_or reload k (name.Port 0)
 
 -- The block: wires alone, one for each place up to the commit place. It is well typed and in order where control has its places, and the nets of other parts
 -- are there. A wire is 1 where its place or an older one sends back.
-pub record IsReturns {P : Type 0} (c : ControlShape) (part control : P) (due : List (Name P)) (b : BlockTree (Name P)) : Type 0 where
+pub record IsReturns {P : Type 0} (c : ControlShape) (part control : P) (reload : List (Name P)) (b : BlockTree (Name P)) : Type 0 where
   pub registers : b.registers ≡ []
   pub memories : b.memories ≡ []
   pub wires : block_wires b ≡ replicate (suc c.commit) 1
-  pub typed : (d : Whole P) → d.block part ≡ b → ((k : ℕ) → k ≤ c.commit → name_width d port_list (register_name control (Holds k)) ≡ 1) → ((k : ℕ) → k ≤ c.commit → name_width d port_list (due_name due k) ≡ 1) → IsTypedBlock d port_list b
-  pub ordered : (d : Whole P) (before : List P) → Among control d.parts → ((k : ℕ) → k ≤ c.commit → IsBefore d before part 0 (due_name due k)) → InOrder d before part 0 b.wires
+  pub typed : (d : Whole P) → d.block part ≡ b → ((k : ℕ) → k ≤ c.commit → name_width d port_list (register_name control (Holds k)) ≡ 1) → ((k : ℕ) → k ≤ c.commit → name_width d port_list (reload_name reload k) ≡ 1) → IsTypedBlock d port_list b
+  pub ordered : (d : Whole P) (before : List P) → Among control d.parts → ((k : ℕ) → k ≤ c.commit → IsBefore d before part 0 (reload_name reload k)) → InOrder d before part 0 b.wires
   pub reads : (d : Whole P) → StatementReads (IsThere d) b.statement
   pub within : Within 0 0 b.statement
   pub wires_spelled : IsTrue (list_all wire_spelled b.wires)
@@ -39,5 +39,5 @@ pub record IsReturns {P : Type 0} (c : ControlShape) (part control : P) (due : L
   pub free : IsFree b
   pub goes : (v : Env (Name P)) → Goes v b.wires
   pub stays : (v : Env (Name P)) (s : Stored) → done v b.statement s ≡ s
-  pub shows : (v : Env (Name P)) (holds : List Bool) (is_due : ℕ → Bool) → Solve v part 0 b.wires → ((k : ℕ) → k ≤ c.commit → v.net (register_name control (Holds k)) ≡ bit (get_or holds k false)) → ((k : ℕ) → k ≤ c.commit → v.net (due_name due k) ≡ bit (is_due k))
-      → (k : ℕ) → k ≤ c.commit → v.net (back_name c part k) ≡ bit (some_returns c is_due k (drop k holds))
+  pub shows : (v : Env (Name P)) (holds : List Bool) (must_reload : ℕ → Bool) → Solve v part 0 b.wires → ((k : ℕ) → k ≤ c.commit → v.net (register_name control (Holds k)) ≡ bit (get_or holds k false)) → ((k : ℕ) → k ≤ c.commit → v.net (reload_name reload k) ≡ bit (must_reload k))
+      → (k : ℕ) → k ≤ c.commit → v.net (back_name c part k) ≡ bit (some_returns c must_reload k (drop k holds))

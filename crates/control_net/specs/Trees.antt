@@ -40,17 +40,17 @@ by_place f n = all_of (map f (range_with_len 0 n))
 -- ---- the part that says which places send back; of each place it reads whether control holds a packet there, and a net of another part
 
 abbrev pub sent : {P : Type 0} → P → List (Name P) → ℕ → Tree (Name P)
-sent control due k = both (register control (Holds k)) (TRead (get_or due k (name.Port 0)))
+sent control reload k = both (register control (Holds k)) (TRead (get_or reload k (name.Port 0)))
 
 -- of the place that is so many before the commit place
 abbrev pub back_tree : {P : Type 0} → ControlShape → P → P → List (Name P) → ℕ → Tree (Name P)
-back_tree c part control due i = if i == 0 then sent control due (c.commit - i) else TBinary Or (sent control due (c.commit - i)) (TRead (name.Wire part (i - 1)))
+back_tree c part control reload i = if i == 0 then sent control reload (c.commit - i) else TBinary Or (sent control reload (c.commit - i)) (TRead (name.Wire part (i - 1)))
 
 abbrev pub back_wire : {P : Type 0} → ControlShape → P → P → List (Name P) → ℕ → BlockWireTree (Name P)
-back_wire c part control due i = bit_wire (back_tree c part control due i)
+back_wire c part control reload i = bit_wire (back_tree c part control reload i)
 
 abbrev pub returns_tree : {P : Type 0} → ControlShape → P → P → List (Name P) → BlockTree (Name P)
-returns_tree c part control due = record { registers = []; memories = []; wires = map (back_wire c part control due) (range_with_len 0 (suc c.commit)); statement = SBlock SEnd }
+returns_tree c part control reload = record { registers = []; memories = []; wires = map (back_wire c part control reload) (range_with_len 0 (suc c.commit)); statement = SBlock SEnd }
 
 -- ---- control; it reads the wires of that part, `of`
 

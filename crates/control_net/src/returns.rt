@@ -23,12 +23,12 @@ pub fn returns<P: Copy>(
     part: P,
     shape: &ControlShape,
     control: P,
-    due: &[Name<P>],
+    reload: &[Name<P>],
 ) -> Result<Block<Name<P>>, AllocError>
-    requires { length due.now ≡ suc shape.now.commit }
-    ensures { IfOk result (λ b. IsReturns shape.now part control due.now (block_of b)) }
+    requires { length reload.now ≡ suc shape.now.commit }
+    ensures { IfOk result (λ b. IsReturns shape.now part control reload.now (block_of b)) }
 {
-    let wires = wires(alloc, part, shape, control, due)?;
+    let wires = wires(alloc, part, shape, control, reload)?;
     let statement = block(alloc, Stmts::End)?;
     Ok(Block {
         registers: Vec::new(alloc),
@@ -43,14 +43,14 @@ fn wires<P: Copy>(
     part: P,
     shape: &ControlShape,
     control: P,
-    due: &[Name<P>],
+    reload: &[Name<P>],
 ) -> Result<Vec<BlockWire<Name<P>>>, AllocError>
-    requires { length due.now ≡ suc shape.now.commit }
-    ensures { IfOk result (λ r. map block_wire_of r.items ≡ map (trees.back_wire shape.now part control due.now) (range_with_len 0 (suc shape.now.commit))) }
+    requires { length reload.now ≡ suc shape.now.commit }
+    ensures { IfOk result (λ r. map block_wire_of r.items ≡ map (trees.back_wire shape.now part control reload.now) (range_with_len 0 (suc shape.now.commit))) }
 {
     let mut all = Vec::new(alloc);
     for i in 0..shape.commit + 1 {
-        all.push(back_wire(alloc, part, shape, control, due, i)?)?;
+        all.push(back_wire(alloc, part, shape, control, reload, i)?)?;
     }
     Ok(all)
 }
@@ -61,14 +61,14 @@ fn back_wire<P: Copy>(
     part: P,
     shape: &ControlShape,
     control: P,
-    due: &[Name<P>],
+    reload: &[Name<P>],
     i: u32,
 ) -> Result<BlockWire<Name<P>>, AllocError>
-    requires count { length due.now ≡ suc shape.now.commit }
+    requires count { length reload.now ≡ suc shape.now.commit }
     requires there { i ≤ shape.now.commit }
-    ensures { IfOk result (λ w. block_wire_of w ≡ trees.back_wire shape.now part control due.now i) }
+    ensures { IfOk result (λ w. block_wire_of w ≡ trees.back_wire shape.now part control reload.now i) }
 {
-    let own = sent(alloc, control, due, shape.commit - i)?;
+    let own = sent(alloc, control, reload, shape.commit - i)?;
     if i == 0 {
         return Ok(bit_wire(own));
     }
@@ -81,16 +81,16 @@ fn back_wire<P: Copy>(
 fn sent<P: Copy>(
     alloc: Global,
     control: P,
-    due: &[Name<P>],
+    reload: &[Name<P>],
     k: u32,
 ) -> Result<Expr<Name<P>>, AllocError>
-    requires there { k < length due.now }
+    requires there { k < length reload.now }
     requires few { k < 2 ^ 16 }
-    ensures { IfOk result (λ e. tree_of e ≡ trees.sent control due.now k) }
+    ensures { IfOk result (λ e. tree_of e ≡ trees.sent control reload.now k) }
 {
     let holds = Expr::Read(register_name(control, Register::Holds(k)));
-    let is_due = Expr::Read(due[k as usize]);
-    binary(alloc, Op::And, holds, is_due)
+    let must_reload = Expr::Read(reload[k as usize]);
+    binary(alloc, Op::And, holds, must_reload)
 }
 
 /// A wire of one bit.

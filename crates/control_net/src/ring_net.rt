@@ -5,6 +5,5 @@
 //! than a slot.
 
 pub mod control;
-pub mod laws;
 pub mod names;
 pub mod shape;

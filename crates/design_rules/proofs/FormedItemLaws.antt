@@ -117,7 +117,7 @@ block_keep d k a h =
     let f = four (statement_spelled a) (block_known d a) (targets_free (take k d.always) a) (block_fits d a) Syntax Unknown Twice Width h in
     record { spelled = f.first; known = f.second; free = f.third; fits = f.fourth }
 
--- the sections of a well-formed design, and what stands behind them
+-- the sections of a well-formed design, and what stands after them
 record Whole (d : Netlist) : Type 0 where
   declared : section_fault (declared_rules d) 0 0 d.declared ≡ None
   wires : section_fault (wire_rules d) (wires_start d) 0 d.wires ≡ None

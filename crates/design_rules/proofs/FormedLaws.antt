@@ -1,9 +1,9 @@
 -- What a writer and a reader of texts ask of a well-formed design: its names, the places of nets' names, depths.
-use Rattle.std.specs.Prelude.{◌≡◌, ◌≢◌, ◌⊎◌, ℕ, zero, suc, ◌+◌, ◌-◌, ◌<◌, ◌≤◌, nat_le, if◌then◌else◌, Bool, true, false, ◌&&◌, List, [], ◌∷◌, length, take, count_by, IsTrue}
+use Rattle.std.specs.Prelude.{◌≡◌, ◌≢◌, ◌⊎◌, ℕ, zero, suc, ◌+◌, ◌-◌, ◌<◌, ◌≤◌, if◌then◌else◌, Bool, true, false, ◌&&◌, List, [], ◌∷◌, length, take, count_by, IsTrue}
 use Rattle.std.specs.Str.{bytes_eq}
 use Rattle.std.specs.List.{list_any}
 use Rattle.std.proofs.Common.{get_or, not, refl, sym, subst, ap, ◌∙◌, inl, inr, arith}
-use Rattle.std.proofs.lemmas.Bool.{and_parts, or_parts, leb-true, ltb-true, cases_lt}
+use Rattle.std.proofs.lemmas.Bool.{and_parts, or_parts, ltb-true, cases_lt}
 use Rattle.std.proofs.lemmas.List.{get_or-take, take-take, get_or_default, get_or_past, length-take}
 use Rattle.std.proofs.lemmas.List.Recursion.{is_count_by}
 use Rattle.std.proofs.lemmas.Slice.Eq.{bytes_eq-Decides}
@@ -13,10 +13,10 @@ use Rattle.net_core.specs.declared.design.Declared.TheVariants as declared
 use Rattle.net_core.specs.declared.tree.Net.{Net}
 use Rattle.net_core.specs.declared.tree.Net.TheVariants.{Port, Register, Memory, Wire}
 use Rattle.net_core.specs.declared.design.Port as port
-use Rattle.net_core.specs.Nets.{Tree, TConst, RPlain, StatementTree, WireTree, Netlist}
+use Rattle.net_core.specs.Nets.{TConst, RPlain, WireTree, Netlist}
 use Rattle.net_core.specs.Ports.{port_names}
 use Rattle.net_core.specs.Names.{is_register, is_memory, place_of, name_place}
-use Rattle.design_rules.specs.FormedSyntax.{is_name, depth, prefixes_apart, tree_spelled, statement_depth, elses_placed, trees_pass, statement_spelled}
+use Rattle.design_rules.specs.FormedSyntax.{is_name}
 use Rattle.design_rules.specs.FormedScope.{is_input, is_value, is_words, registers_of, memories_of}
 use Rattle.design_rules.specs.Formed.{IsWellFormed, declared_place, wire_place}
 use Rattle.design_rules.proofs.FormedItemLaws.{declared_kept, wire_kept, last_kept, negated}
@@ -149,19 +149,3 @@ words_named d h (Port k) v = cc
 words_named d h (Register k) v = cc
 words_named d h (Memory k) v = omega (arith, (last_kept d h).names, place_of_below is_memory d.declared k (ltb-true k (memories_of d) v))
 words_named d h (Wire k) v = cc
-
--- what the grammar has of an expression and of a statement
-pub tree_depth : {N : Type 0} (t : Tree N) → IsTrue (tree_spelled t) → depth t ≤ 64
-tree_depth t h = leb-true (depth t) 64 (and_parts (nat_le (depth t) 64) (prefixes_apart t) h).0
-
-pub tree_apart : {N : Type 0} (t : Tree N) → IsTrue (tree_spelled t) → IsTrue (prefixes_apart t)
-tree_apart t h = (and_parts (nat_le (depth t) 64) (prefixes_apart t) h).1
-
-pub statement_nests : {N : Type 0} (a : StatementTree N) → IsTrue (statement_spelled a) → statement_depth a ≤ 64
-statement_nests a h = leb-true (statement_depth a) 64 (and_parts (nat_le (statement_depth a) 64) (elses_placed a && trees_pass tree_spelled a) h).0
-
-pub statement_elses : {N : Type 0} (a : StatementTree N) → IsTrue (statement_spelled a) → IsTrue (elses_placed a)
-statement_elses a h = (and_parts (elses_placed a) (trees_pass tree_spelled a) (and_parts (nat_le (statement_depth a) 64) (elses_placed a && trees_pass tree_spelled a) h).1).0
-
-pub statement_trees : {N : Type 0} (a : StatementTree N) → IsTrue (statement_spelled a) → IsTrue (trees_pass tree_spelled a)
-statement_trees a h = (and_parts (elses_placed a) (trees_pass tree_spelled a) (and_parts (nat_le (statement_depth a) 64) (elses_placed a && trees_pass tree_spelled a) h).1).1

@@ -1,12 +1,9 @@
 -- Lists that are compared place by place, and outputs that are asked one by one.
-use Rattle.std.specs.Prelude.{◌≡◌, ◌≢◌, ℕ, zero, suc, ◌+◌, ◌<◌, if◌then◌else◌, Bool, true, false, ◌&&◌, List, [], ◌∷◌, length, drop, map}
+use Rattle.std.specs.Prelude.{◌≡◌, ◌≢◌, ℕ, zero, suc, ◌+◌, ◌<◌, Bool, true, false, ◌&&◌, List, [], ◌∷◌, length, drop, map}
 use Rattle.std.specs.Borrow.{Bor}
 use Rattle.std.specs.Cmp.Lexicographic.{pointwise}
 use Rattle.std.proofs.Common.{get_or, refl, sym, ap, ◌∙◌, add-one, arith}
 use Rattle.std.proofs.lemmas.Bool.{and_right}
-use Rattle.net_core.specs.declared.design.Port.{Port}
-use Rattle.net_core.specs.Nets.{AssignTree}
-use Rattle.net_core.specs.Width.{is_assigned, all_assigned}
 
 pub pointwise_length : {A B : Type 0} (E : A → B → Bool) (xs : List A) (ys : List B) → length xs ≢ length ys → pointwise E xs ys ≡ false
 pointwise_length E [] [] h = absurd (h refl)
@@ -20,12 +17,6 @@ pointwise_drop E [] ys k d e h l = absurd (omega arith)
 pointwise_drop E (x ∷ xs) [] k d e h l = absurd (omega arith)
 pointwise_drop E (x ∷ xs) (y ∷ ys) zero d e h l = refl
 pointwise_drop E (x ∷ xs) (y ∷ ys) (suc k) d e h l = pointwise_drop E xs ys k d e (omega arith) (omega arith)
-
-pub assigned_from : (made : List AssignTree) (at k : ℕ) (ports : List Port) (d : Port) → k < length ports
-    → all_assigned made at (drop k ports) ≡ ((if (get_or ports k d).output then is_assigned made at else true) && all_assigned made (suc at) (drop (suc k) ports))
-assigned_from made at k [] d h = absurd (omega arith)
-assigned_from made at zero (p ∷ ports) d h = refl
-assigned_from made at (suc k) (p ∷ ports) d h = assigned_from made at k ports d (omega arith)
 
 -- one step of a comparison
 pub pointwise_here : {A B : Type 0} (E : A → B → Bool) (xs : List A) (ys : List B) (k : ℕ) (d : A) (e : B) → k < length xs → k < length ys

@@ -1,7 +1,7 @@
 -- One step through a section, whose items are seen by a view.
-use Rattle.std.specs.Prelude.{◌≡◌, ℕ, suc, ◌+◌, ◌<◌, ◌≤◌, Some, None, List, length, map, drop}
+use Rattle.std.specs.Prelude.{◌≡◌, ℕ, suc, ◌+◌, ◌<◌, Some, None, List, length, map, drop}
 use Rattle.std.proofs.Common.{get_or, sym, ap, ◌∙◌, add-one, arith}
-use Rattle.std.proofs.lemmas.List.{drop_more, drop_all, get_or-map, length-map}
+use Rattle.std.proofs.lemmas.List.{drop_more, get_or-map, length-map}
 use Rattle.design_rules.specs.declared.formed.Why.{Why}
 use Rattle.design_rules.specs.Formed.{Rule, first_broken, fault_at, or_else, section_fault}
 
@@ -12,9 +12,6 @@ section_step view rules start xs k x h e =
     ap (section_fault rules start k) (drop_more (map view xs) k (view x) l)
     ∙ ap (λ y. or_else (fault_at (start + k) (first_broken (rules k y))) (section_fault rules start (suc k) (drop (k + 1) (map view xs)))) (get_or-map view xs k x (view x) h ∙ ap view (sym e))
     ∙ ap (λ n. or_else (fault_at (start + k) (first_broken (rules k (view x)))) (section_fault rules start n (drop (k + 1) (map view xs)))) (sym (add-one k))
-
-pub section_end : {A B : Type 0} (view : A → B) (rules : ℕ → B → List Rule) (start : ℕ) (xs : List A) (k : ℕ) → length xs ≤ k → section_fault rules start k (drop k (map view xs)) ≡ None
-section_end view rules start xs k h = ap (section_fault rules start k) (drop_all k (map view xs) (omega (arith, h, length-map xs view)))
 
 -- the item keeps its rules
 pub section_more : {A B : Type 0} (view : A → B) (rules : ℕ → B → List Rule) (start : ℕ) (xs : List A) (k : ℕ) (x : A) → k < length xs → x ≡ get_or xs k x

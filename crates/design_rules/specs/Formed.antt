@@ -117,7 +117,7 @@ ports_match d = pointwise same_port d.ports port_list
 abbrev pub port_names_match : Netlist → Bool
 port_names_match d = pointwise bytes_eq (take (length port_names) d.names) port_names
 
--- What is asked behind the items: each name is that of a port or an item, the ports are those that every design has,
+-- What is asked after the items: each name is that of a port or an item, the ports are those that every design has,
 -- and each output is assigned.
 abbrev pub last_rules : Netlist → List Rule
 last_rules d =

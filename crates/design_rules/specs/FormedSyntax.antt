@@ -102,7 +102,7 @@ abbrev mutual
   statements_depth SEnd = 0
   statements_depth (SThen a more) = max (statement_depth a) (statements_depth more)
 
--- ends with an `if` that would take an `else` behind it
+-- ends with an `if` that would take an `else` after it
 abbrev pub ends_open : {N : Type 0} → StatementTree N → Bool
 ends_open (SBlock more) = false
 ends_open (SIf c a) = true

@@ -10,7 +10,7 @@ use Rattle.operator_cells.specs.Making.{Makes}
 use Rattle.operator_cells.specs.declared.held_cells.way.Way.{Way}
 use Rattle.operator_cells.specs.declared.held_cells.way.Exit.{Exit}
 use Rattle.operator_cells.specs.HeldCells.Paths.{GraphView, Stage, At, Over, Nowhere, stands_at}
-use Rattle.operator_cells.specs.HeldCells.Held.{PointerView}
+use Rattle.operator_cells.specs.HeldCells.RegisterCells.{PointerView}
 use Rattle.operator_cells.specs.HeldCells.Carrying.{IsKnown}
 use Rattle.operator_cells.specs.HeldCells.Steps.{Leads, IsGood}
 use Rattle.edge_cells.specs.Meeting.{first_on}
@@ -31,15 +31,6 @@ on_first v (a ∷ b ∷ more) (suc i) d l h = by (on (v a.bit)) refl (on_first v
     by : (t : Bool) → on (v a.bit) ≡ t → IsOn v (b ∷ more) d (first_on v (b ∷ more)) → IsOn v (a ∷ b ∷ more) d (if t then 0 else suc (first_on v (b ∷ more)))
     by true e rest = (omega arith, e)
     by false e rest = (omega (arith, rest.0), rest.1)
-
-pub first_below : (v : ℕ → ℕ) (here : List Way) → 1 ≤ length here → first_on v here < length here
-first_below v [] h = absurd (omega arith)
-first_below v (a ∷ []) h = omega arith
-first_below v (a ∷ b ∷ more) h = by (on (v a.bit)) (first_below v (b ∷ more) (omega arith))
-  where
-    by : (t : Bool) → first_on v (b ∷ more) < length (b ∷ more) → (if t then 0 else suc (first_on v (b ∷ more))) < length (a ∷ b ∷ more)
-    by true rest = omega arith
-    by false rest = omega (arith, rest)
 
 -- some edge is on
 any_some : (v : ℕ → ℕ) (here : List Way) → any_on v here ≡ true → (e : Way) × Contains here e × (on (v e.bit) ≡ true)

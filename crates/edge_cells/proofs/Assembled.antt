@@ -16,9 +16,9 @@ use Rattle.kind_core.specs.Describes.{World, Describes, DescribesMachine}
 use Rattle.kind_core.specs.Soundness.{Stands}
 use Rattle.cell_core.specs.Cells.{CellView, IsRun}
 use Rattle.operator_cells.specs.Making.{Grows}
-use Rattle.operator_cells.specs.declared.held_cells.held.Held.{Held}
+use Rattle.operator_cells.specs.declared.held_cells.machine_cells.RegisterCells.{RegisterCells}
 use Rattle.operator_cells.specs.declared.held_cells.way.Way.{Way}
-use Rattle.operator_cells.specs.HeldCells.Held.{PointerView, Holds, AreHeld}
+use Rattle.operator_cells.specs.HeldCells.RegisterCells.{PointerView, Holds, AreHeld}
 use Rattle.operator_cells.specs.HeldCells.Carrying.{IsKnown}
 use Rattle.edge_cells.specs.declared.part.Part.{Part}
 use Rattle.edge_cells.specs.declared.part.Part.TheVariants.{Register, Slot, Byte, Target}
@@ -27,7 +27,7 @@ use Rattle.edge_cells.specs.Meeting.{IsPart, held_at, kind_at, IsSaid, Extends, 
 use Rattle.edge_cells.specs.Joining.{Guards, Joins}
 use Rattle.operator_cells.proofs.MakingLaws.{grown}
 use Rattle.edge_cells.proofs.ExtendingLaws.{extends_none, holds_later, part_counts, inside_from_parts}
-use Rattle.edge_cells.proofs.Arriving.{first_below}
+use Rattle.edge_cells.proofs.WayLaws.{first_below}
 
 number-wider : (w : World) (maps : MapState) (n : Number) (x : Value) → Describes w maps (Num n) x → Describes w maps (Num Unknown) x
 number-wider w maps Unknown x h = h
@@ -72,7 +72,7 @@ part-said w k m (Slot s) d = said w m.maps (get_or k.slots s Unset) (get_or m.st
 part-said w k m (Byte i) d = tt
 part-said w k m Target d = tt
 
-part-held : (decls : List MapDecl) (packet : PacketIn) (v : ℕ → ℕ) (ps : List PointerView) (h : Held) (k : Kinds) (m : Machine) (part : Part) → IsPart part → AreHeld decls packet v ps h k m
+part-held : (decls : List MapDecl) (packet : PacketIn) (v : ℕ → ℕ) (ps : List PointerView) (h : RegisterCells) (k : Kinds) (m : Machine) (part : Part) → IsPart part → AreHeld decls packet v ps h k m
     → Holds decls v ps (kind_at part k) (held_at part h) (value_at part m)
 part-held decls packet v ps h k m (Register r) l a = a.registers r l
 part-held decls packet v ps h k m (Slot s) l a = a.slots s l
@@ -80,13 +80,13 @@ part-held decls packet v ps h k m (Byte i) l a = ap is.Number (a.window i l)
 part-held decls packet v ps h k m Target l a = ap is.Number a.target
 
 -- what is asked of the parts of what is held
-abbrev pub AreMet : List MapDecl → List CellView → List PointerView → List Way → Kinds → Held → Type 0
+abbrev pub AreMet : List MapDecl → List CellView → List PointerView → List Way → Kinds → RegisterCells → Type 0
 AreMet decls cells ps here k h = (part : Part) → IsPart part → Meets decls cells ps here part (kind_at part k) (held_at part h)
 
 number-in : (a b : ℕ) → is.Number a ≡ is.Number b → a ≡ b
 number-in a b e = cc
 
-known-here : (decls : List MapDecl) (old new : List CellView) (ps qs : List PointerView) (here : List Way) (k : Kinds) (h : Held) → 1 ≤ length here → Extends ps qs → AreWays decls old ps here
+known-here : (decls : List MapDecl) (old new : List CellView) (ps qs : List PointerView) (here : List Way) (k : Kinds) (h : RegisterCells) → 1 ≤ length here → Extends ps qs → AreWays decls old ps here
     → All (λ e. AreWider k e.kinds) here → AreFilled k → AreMet decls new qs here k h
     → (packet : PacketIn) (v : ℕ → ℕ) (node : ℕ) (d : Way) (m : Machine) → IsRun packet new v
     → IsKnown decls packet v ps node (get_or here (first_on v here) d).kinds (get_or here (first_on v here) d).held m → IsKnown decls packet v qs node k h m
@@ -118,7 +118,7 @@ known-here decls old new ps qs here k h some more ways wider filled met packet v
       };
     }
 
-pub joins_met : (decls : List MapDecl) (old mid new : List CellView) (ps qs : List PointerView) (here : List Way) (k : Kinds) (guard : ℕ) (h : Held) → 1 ≤ length here → AreWays decls old ps here
+pub joins_met : (decls : List MapDecl) (old mid new : List CellView) (ps qs : List PointerView) (here : List Way) (k : Kinds) (guard : ℕ) (h : RegisterCells) → 1 ≤ length here → AreWays decls old ps here
     → All (λ e. AreWider k e.kinds) here → AreFilled k → Guards old mid here guard → Grows mid new → Extends ps qs → AreMet decls new qs here k h → Joins decls old new ps qs here k guard h
 joins_met decls old mid new ps qs here k guard h some ways wider filled guards grows more met = record {
   guards = record {

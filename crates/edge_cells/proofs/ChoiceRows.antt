@@ -9,12 +9,12 @@ use Rattle.cell_core.specs.Rows.{AreRows, greatest}
 use Rattle.operator_cells.specs.declared.joining.Arm.{Arm}
 use Rattle.operator_cells.specs.Joining.{flat}
 use Rattle.operator_cells.specs.Rising.{GrowsTo, Rises, RiseAll}
-use Rattle.operator_cells.proofs.RisingLaws.{Stand, stand_none, stand_more, stand_all, rises_then}
+use Rattle.operator_cells.proofs.RisingLaws.{Stand, stand_none, stand_more, stand_all, rises_then, grown_to}
 use Rattle.kind_core.specs.declared.number.Number.{Number}
 use Rattle.kind_core.specs.declared.kind.Kinds.{Kinds}
-use Rattle.operator_cells.specs.declared.held_cells.held.Held.{Held}
+use Rattle.operator_cells.specs.declared.held_cells.machine_cells.RegisterCells.{RegisterCells}
 use Rattle.operator_cells.specs.declared.held_cells.way.Way.{Way}
-use Rattle.operator_cells.specs.HeldCells.Held.{PointerView}
+use Rattle.operator_cells.specs.HeldCells.RegisterCells.{PointerView}
 use Rattle.operator_cells.specs.HeldCells.Rows.{cells_of_pointer, number_row, held_row, bits_row, brought_row, chosen_row}
 use Rattle.edge_cells.specs.declared.part.Part.{Part}
 use Rattle.edge_cells.specs.Meeting.{held_at, kind_at, number_in, cell_in}
@@ -22,9 +22,6 @@ use Rattle.edge_cells.specs.Rows.{choice_row}
 use Rattle.edge_cells.proofs.Choices.{AreArms}
 
 -- ---- new cells
-
-pub grows_then : {a b d : List CellView} {P : (ℕ → ℕ) → Type 0} {last f : (ℕ → ℕ) → ℕ} → Stand a b P last → GrowsTo b d f → ((row : ℕ → ℕ) → P row → f row ≤ last row) → GrowsTo a d last
-grows_then s g h = (stand_all {cs = []} s (record { grows = g; results = λ row rows. omega arith }) h).grows
 
 pub so_far : {a b : List CellView} {last : (ℕ → ℕ) → ℕ} → GrowsTo a b last → Stand a b (λ row. Unit {0}) last
 so_far g = record { grows = g; known = λ row rows. tt }
@@ -101,7 +98,7 @@ pub arms_to_more : {old mid new : List CellView} {arms more : List Arm} {here : 
     → ArmsTo old mid arms here brings n → Rises mid new a.cell f → ((row : ℕ → ℕ) → f row ≤ brings row (get_or here n e)) → more ≡ arms ++ a ∷ [] → length arms ≡ n → n < length here
     → ArmsTo old new more here brings (n + 1)
 arms_to_more {old} {mid} {new} {arms} {more} {here} {brings} {n} {f} a e sofar r low is count range = record {
-  grows = grows_then (so_far sofar.grows) r.grows (λ row p. omega (arith, low row, choice_above row brings here n e range));
+  grows = grown_to (so_far sofar.grows) r.grows (λ row p. omega (arith, low row, choice_above row brings here n e range));
   each = λ row rows i b d l. subst (λ (xs : List Arm). row (get_or xs i b).cell ≤ brings row (get_or here i d)) (sym is) (by row rows i b d (cases_lt i n) l);
 }
   where
@@ -130,7 +127,7 @@ choice_rises {old} {mid} {new} {arms} {here} {value} {brings} {n} l m are to r =
 
 -- ---- what one edge brings
 
-pub number_low : (row : ℕ → ℕ) (part : Part) (k : Kinds) (h : Held) (a : Number) (c : ℕ) → a ≡ number_in (kind_at part k) → c ≡ held_at part h → number_row row a c ≤ number_row row (number_in (kind_at part k)) (held_at part h)
+pub number_low : (row : ℕ → ℕ) (part : Part) (k : Kinds) (h : RegisterCells) (a : Number) (c : ℕ) → a ≡ number_in (kind_at part k) → c ≡ held_at part h → number_row row a c ≤ number_row row (number_in (kind_at part k)) (held_at part h)
 number_low row part k h a c f g = same_le (ap (λ (n : Number). number_row row n c) f ∙ ap (number_row row (number_in (kind_at part k))) g)
   where
     same_le : {x y : ℕ} → x ≡ y → x ≤ y

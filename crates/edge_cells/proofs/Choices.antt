@@ -12,13 +12,13 @@ use Rattle.operator_cells.specs.Joining.{chosen, AreThere}
 use Rattle.operator_cells.specs.declared.held_cells.way.Way.{Way}
 use Rattle.kind_core.specs.declared.number.Number.{Number}
 use Rattle.kind_core.specs.declared.kind.Kinds.{Kinds}
-use Rattle.operator_cells.specs.declared.held_cells.held.Held.{Held}
-use Rattle.operator_cells.specs.HeldCells.Held.{number_of}
+use Rattle.operator_cells.specs.declared.held_cells.machine_cells.RegisterCells.{RegisterCells}
+use Rattle.operator_cells.specs.HeldCells.RegisterCells.{number_of}
 use Rattle.edge_cells.specs.declared.part.Part.{Part}
 use Rattle.edge_cells.specs.Meeting.{Picks, first_on, kind_at, held_at, number_in}
 use Rattle.operator_cells.proofs.MakingLaws.{grown, grown_none}
 
--- a cell has what an edge brings, behind its bit
+-- a cell has what an edge brings, after its bit
 pub record IsArm (cells : List CellView) (a : Arm) (e : Way) (brings : (ℕ → ℕ) → Way → ℕ) : Type 0 where
   pub bit : a.bit ≡ e.bit
   pub there : a.cell < length cells
@@ -100,6 +100,6 @@ pub arms_all : (old new : List CellView) (arms : List Arm) (here : List Way) (br
 arms_all old new arms here brings n l m a = let e : n ≡ length here = omega arith in subst (λ (k : ℕ). AreArms old new arms here brings k) e a
 
 -- the number that an edge brings
-pub number_same : (v : ℕ → ℕ) (part : Part) (k : Kinds) (h : Held) (a : Number) (c : ℕ) → a ≡ number_in (kind_at part k) → c ≡ held_at part h
+pub number_same : (v : ℕ → ℕ) (part : Part) (k : Kinds) (h : RegisterCells) (a : Number) (c : ℕ) → a ≡ number_in (kind_at part k) → c ≡ held_at part h
     → number_of v a c ≡ number_of v (number_in (kind_at part k)) (held_at part h)
 number_same v part k h a c e f = ap (λ (n : Number). number_of v n c) e ∙ ap (λ (n : ℕ). number_of v (number_in (kind_at part k)) n) f

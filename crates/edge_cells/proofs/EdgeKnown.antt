@@ -24,8 +24,8 @@ use Rattle.kind_core.specs.declared.kind.Kinds.{Kinds}
 use Rattle.kind_core.specs.Kinds.{register}
 use Rattle.kind_core.specs.Effects.{operand}
 use Rattle.kind_core.specs.Describes.{World, Describes}
-use Rattle.operator_cells.specs.declared.held_cells.held.Held.{Held}
-use Rattle.operator_cells.specs.HeldCells.Held.{PointerView, Holds, number_of}
+use Rattle.operator_cells.specs.declared.held_cells.machine_cells.RegisterCells.{RegisterCells}
+use Rattle.operator_cells.specs.HeldCells.RegisterCells.{PointerView, Holds, number_of}
 use Rattle.operator_cells.specs.HeldCells.Carrying.{IsKnown}
 use Rattle.edge_cells.specs.Testing.{IsRead}
 use Rattle.edge_cells.specs.Leaving.{operand_held, JumpsAreTested, EndsAreLeft}
@@ -52,14 +52,14 @@ read w maps decls packet v ps (Maybe q n) c x f r d h = h
 read w maps decls packet v ps (Entry q o) c x f r d h = h
 read w maps decls packet v ps k c x f r d h = tt
 
-pub register_read : (decls : List MapDecl) (packet : PacketIn) (v : ℕ → ℕ) (ps : List PointerView) (node : ℕ) (k : Kinds) (h : Held) (m : Machine) (r : ℕ) → r ≤ 10 → IsKnown decls packet v ps node k h m
+pub register_read : (decls : List MapDecl) (packet : PacketIn) (v : ℕ → ℕ) (ps : List PointerView) (node : ℕ) (k : Kinds) (h : RegisterCells) (m : Machine) (r : ℕ) → r ≤ 10 → IsKnown decls packet v ps node k h m
     → IsRead decls packet v ps (register k r) (slice_index h.registers r) (machine.register m.registers r)
 register_read decls packet v ps node k h m r l known =
     read known.world m.maps decls packet v ps (register k r) (slice_index h.registers r) (machine.register m.registers r) (sym known.stands.described.frame ∙ known.held.length_is)
     (subst (λ (ds : List MapDecl). InRange ds (machine.register m.registers r)) known.decls_are (in-range m.maps.decls m.registers r known.in_range.registers))
     (known.stands.described.registers r) (known.held.registers r l)
 
-operand-read : (decls : List MapDecl) (packet : PacketIn) (v : ℕ → ℕ) (ps : List PointerView) (node : ℕ) (k : Kinds) (h : Held) (m : Machine) (i : Insn) (s : Src) → i.src ≤ 10 → IsKnown decls packet v ps node k h m
+operand-read : (decls : List MapDecl) (packet : PacketIn) (v : ℕ → ℕ) (ps : List PointerView) (node : ℕ) (k : Kinds) (h : RegisterCells) (m : Machine) (i : Insn) (s : Src) → i.src ≤ 10 → IsKnown decls packet v ps node k h m
     → IsRead decls packet v ps (operand k i s) (operand_held h i s) (step.operand m.registers i s)
 operand-read decls packet v ps node k h m i K l known = refl
 operand-read decls packet v ps node k h m i X l known = register_read decls packet v ps node k h m i.src l known

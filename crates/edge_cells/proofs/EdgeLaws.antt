@@ -24,8 +24,8 @@ use Rattle.kind_core.specs.Edges.{changed, changed_if, transferred}
 use Rattle.kind_core.specs.Describes.{World, Describes, DescribesMachine}
 use Rattle.kind_core.specs.Soundness.{Stands, IsPresent, ConditionsAreSound, LaterDescribes}
 use Rattle.cell_core.specs.Cells.{on}
-use Rattle.operator_cells.specs.declared.held_cells.held.Held.{Held}
-use Rattle.operator_cells.specs.HeldCells.Held.{PointerView, pointer_at, key_of, Holds, Counts}
+use Rattle.operator_cells.specs.declared.held_cells.machine_cells.RegisterCells.{RegisterCells}
+use Rattle.operator_cells.specs.HeldCells.RegisterCells.{PointerView, pointer_at, key_of, Holds, Counts}
 use Rattle.operator_cells.specs.HeldCells.Carrying.{IsKnown}
 use Rattle.edge_cells.specs.Leaving.{EdgesAreKnown, EdgesAreInside, SingleEdgesAreKnown}
 use Rattle.edge_cells.proofs.JumpKindLaws.{Along, same, null, entry, IsEdge, edge_of, edge-any, single_edge}
@@ -68,7 +68,7 @@ placed-range m place r = record { registers = r.registers; stack = r.stack; fram
 abbrev at_node : World → ℕ → World
 at_node w node = record { frame = w.frame; node = node; gave = w.gave }
 
-known-along : {P : ℕ → Type 0} (decls : List MapDecl) (packet : PacketIn) (v : ℕ → ℕ) (ps : List PointerView) (node to place : ℕ) (k j : Kinds) (h : Held) (m : Machine) → (known : IsKnown decls packet v ps node k h m)
+known-along : {P : ℕ → Type 0} (decls : List MapDecl) (packet : PacketIn) (v : ℕ → ℕ) (ps : List PointerView) (node to place : ℕ) (k j : Kinds) (h : RegisterCells) (m : Machine) → (known : IsKnown decls packet v ps node k h m)
     → node ≤ to → DescribesMachine (at_node known.world node) j m → IsEdge P k j → IsKnown decls packet v ps to j h (record m { place = place })
 known-along decls packet v ps node to place k j h m known l d e = record {
   world = at_node known.world node;

@@ -11,10 +11,10 @@ use Rattle.kind_core.specs.declared.kind.Kind.TheVariants.{Unset, Num, Packet, E
 use Rattle.kind_core.specs.declared.kind.Kinds.{Kinds}
 use Rattle.cell_core.specs.Cells.{CellView, on}
 use Rattle.operator_cells.specs.Making.{Grows}
-use Rattle.operator_cells.specs.declared.held_cells.held.Held.{Held}
+use Rattle.operator_cells.specs.declared.held_cells.machine_cells.RegisterCells.{RegisterCells}
 use Rattle.operator_cells.specs.declared.held_cells.way.Way.{Way}
 use Rattle.xdp_machine.specs.Values as is
-use Rattle.operator_cells.specs.HeldCells.Held.{PointerView, no_pointer, pointer_at, key_of, entry_or_null, Holds, Counts, IsPointer, AreInside}
+use Rattle.operator_cells.specs.HeldCells.RegisterCells.{PointerView, no_pointer, pointer_at, key_of, entry_or_null, Holds, Counts, IsPointer, AreInside}
 use Rattle.edge_cells.specs.declared.part.Part.{Part}
 use Rattle.edge_cells.specs.declared.part.Part.TheVariants.{Register, Slot, Byte, Target}
 use Rattle.edge_cells.specs.Meeting.{Extends, AreWays, Meets, IsPart, kind_at, held_at}
@@ -70,13 +70,13 @@ holds_later decls n v ps qs Stale c x e k h = tt
 holds_later decls n v ps qs Mixed c x e k h = tt
 
 -- a part of what is there
-pub part_counts : (decls : List MapDecl) (n : ℕ) (ps : List PointerView) (h : Held) (k : Kinds) (part : Part) → IsPart part → AreInside decls n ps h k → Counts decls n ps (kind_at part k) (held_at part h)
+pub part_counts : (decls : List MapDecl) (n : ℕ) (ps : List PointerView) (h : RegisterCells) (k : Kinds) (part : Part) → IsPart part → AreInside decls n ps h k → Counts decls n ps (kind_at part k) (held_at part h)
 part_counts decls n ps h k (Register r) l inside = inside.registers r l
 part_counts decls n ps h k (Slot s) l inside = inside.slots s l
 part_counts decls n ps h k (Byte i) l inside = inside.window i l
 part_counts decls n ps h k Target l inside = inside.target
 
-pub inside_from_parts : (decls : List MapDecl) (n : ℕ) (ps : List PointerView) (h : Held) (k : Kinds) → ((part : Part) → IsPart part → Counts decls n ps (kind_at part k) (held_at part h)) → AreInside decls n ps h k
+pub inside_from_parts : (decls : List MapDecl) (n : ℕ) (ps : List PointerView) (h : RegisterCells) (k : Kinds) → ((part : Part) → IsPart part → Counts decls n ps (kind_at part k) (held_at part h)) → AreInside decls n ps h k
 inside_from_parts decls n ps h k all = record {
   registers = λ r l. all (Register r) l;
   slots = λ s l. all (Slot s) l;
@@ -84,7 +84,7 @@ inside_from_parts decls n ps h k all = record {
   target = all Target tt;
 }
 
-pub inside_later : (decls : List MapDecl) (n m : ℕ) (ps qs : List PointerView) (h : Held) (k : Kinds) → n ≤ m → Extends ps qs → AreInside decls n ps h k → AreInside decls m qs h k
+pub inside_later : (decls : List MapDecl) (n m : ℕ) (ps qs : List PointerView) (h : RegisterCells) (k : Kinds) → n ≤ m → Extends ps qs → AreInside decls n ps h k → AreInside decls m qs h k
 inside_later decls n m ps qs h k l e inside = inside_from_parts decls m qs h k (λ part p. counts_later decls n m ps qs (kind_at part k) (held_at part h) l e (part_counts decls n ps h k part p inside))
 
 pub ways_later : (decls : List MapDecl) (old new : List CellView) (ps qs : List PointerView) (here : List Way) → Grows old new → Extends ps qs → AreWays decls old ps here → AreWays decls new qs here

@@ -11,12 +11,12 @@ use Rattle.kind_core.specs.declared.kind.Kinds.{Kinds}
 use Rattle.cell_core.specs.Cells.{CellView}
 use Rattle.cell_core.specs.Rows.{AreRows, greatest}
 use Rattle.operator_cells.specs.Rising.{GrowsTo, Rises}
-use Rattle.operator_cells.proofs.RisingLaws.{stand_none, stand_more}
+use Rattle.operator_cells.proofs.RisingLaws.{stand_none, stand_more, grown_to}
 use Rattle.operator_cells.specs.row_rules.PlaceRows.Origins.{is_open}
 use Rattle.operator_cells.proofs.row_rules_laws.PlaceRows.PlaceLaws.{greatest_above, greatest_within}
-use Rattle.operator_cells.specs.declared.held_cells.held.Held.{Held}
+use Rattle.operator_cells.specs.declared.held_cells.machine_cells.RegisterCells.{RegisterCells}
 use Rattle.operator_cells.specs.declared.held_cells.way.Way.{Way}
-use Rattle.operator_cells.specs.HeldCells.Held.{PointerView, Counts}
+use Rattle.operator_cells.specs.HeldCells.RegisterCells.{PointerView, Counts}
 use Rattle.operator_cells.specs.HeldCells.Rows as places
 use Rattle.operator_cells.specs.HeldCells.Rows.{cells_of_pointer, value_row, number_at, held_row, bits_row, brought_row, hold_one, met_row, choosing_row, JoinsTo}
 use Rattle.operator_cells.proofs.HeldCells.RowLaws.{grows_by}
@@ -25,7 +25,7 @@ use Rattle.edge_cells.specs.declared.part.Part.TheVariants.{Register, Slot, Byte
 use Rattle.edge_cells.specs.Meeting.{IsPart, held_at, kind_at, Extends, AreWays, MeetsMore, MeetRow}
 use Rattle.edge_cells.specs.Rows.{data_place, choosing_rows, MetTo, MeetsTo, MeetRowTo}
 use Rattle.edge_cells.proofs.ExtendingLaws.{extended, same_pointer, part_counts}
-use Rattle.edge_cells.proofs.ChoiceRows.{grows_then, so_far}
+use Rattle.edge_cells.proofs.ChoiceRows.{so_far}
 use Rattle.edge_cells.proofs.PartRows.{number_there, row_there}
 
 -- ---- places
@@ -125,7 +125,7 @@ pub row_more_to : (decls : List MapDecl) (old mid new : List CellView) (ps qs rs
     → AreWays decls old ps here → MeetRow decls old mid ps qs here k part n held → MeetsMore decls mid new qs rs here (part n) (kind_at (part n) k) c
     → MeetRowTo old mid ps qs here k part n held → MeetsTo mid new qs rs here k (part n) c → MeetRowTo old new ps rs here k part (n + 1) (set held n c)
 row_more_to decls old mid new ps qs rs here k part n c held range is_part ways met_row_is one_is row one = record {
-  grows = grows_then (so_far row.grows) one.grows (λ r p. choosing_again decls old r ps qs here k met_row_is.extends ways (data_place (part n)) (place_inside (part n) is_part));
+  grows = grown_to (so_far row.grows) one.grows (λ r p. choosing_again decls old r ps qs here k met_row_is.extends ways (data_place (part n)) (place_inside (part n) is_part));
   each = λ i l. by i (cases_lt i n) l;
 }
   where
@@ -148,10 +148,10 @@ row_from decls old a b ps qs rs here k part n held e ways parts row = record {
 -- ---- all of it
 
 -- what is held at a node, part by part
-abbrev AreMetTo : List CellView → List PointerView → List PointerView → List Way → Kinds → Held → Type 0
+abbrev AreMetTo : List CellView → List PointerView → List PointerView → List Way → Kinds → RegisterCells → Type 0
 AreMetTo cells ps qs here k h = (part : Part) → IsPart part → MetTo cells ps qs here k part (held_at part h)
 
-joined_to : (old mid new : List CellView) (ps qs : List PointerView) (here : List Way) (k : Kinds) (guard : ℕ) (h : Held) → Rises old mid guard (λ row. bits_row row here)
+joined_to : (old mid new : List CellView) (ps qs : List PointerView) (here : List Way) (k : Kinds) (guard : ℕ) (h : RegisterCells) → Rises old mid guard (λ row. bits_row row here)
     → GrowsTo old new (λ row. max (bits_row row here) (choosing_rows row ps here k)) → ((row : ℕ → ℕ) → AreRows new row → AreRows mid row) → AreMetTo new ps qs here k h → JoinsTo old new ps qs here k guard h
 unfolding choosing_rows
 joined_to old mid new ps qs here k guard h guarded grows before met = record {
@@ -170,7 +170,7 @@ joined_to old mid new ps qs here k guard h guarded grows before met = record {
         ap (number_at h) (sym at.2) ∙ number_there h at.0 at.1
         ∙ (met at.0 at.1).same (ap (hold_one here) at.2 ∙ one) i d m ∙ ap (number_at (get_or here i d).held) at.2
 
-pub joins_to : (decls : List MapDecl) (a b c d e f : List CellView) (p q r s t : List PointerView) (here : List Way) (k : Kinds) (guard : ℕ) (h : Held) → AreWays decls a p here
+pub joins_to : (decls : List MapDecl) (a b c d e f : List CellView) (p q r s t : List PointerView) (here : List Way) (k : Kinds) (guard : ℕ) (h : RegisterCells) → AreWays decls a p here
     → Rises a b guard (λ row. bits_row row here)
     → MeetRow decls b c p q here k Register 11 h.registers → MeetRowTo b c p q here k Register 11 h.registers
     → MeetRow decls c d q r here k Slot 64 h.slots → MeetRowTo c d q r here k Slot 64 h.slots
@@ -201,16 +201,16 @@ joins_to decls a b c d e f p q r s t here k guard h ways guarded registers regis
     last = grows_by target_to.grows (λ row. choosing_again decls a row p s here k to_window ways 331 (omega arith))
 
     behind_slots : GrowsTo d f (λ row. choosing_rows row p here k)
-    behind_slots = grows_then (so_far own_window.grows) last (λ row u. same_le refl)
+    behind_slots = grown_to (so_far own_window.grows) last (λ row u. same_le refl)
 
     behind_registers : GrowsTo c f (λ row. choosing_rows row p here k)
-    behind_registers = grows_then (so_far own_slots.grows) behind_slots (λ row u. same_le refl)
+    behind_registers = grown_to (so_far own_slots.grows) behind_slots (λ row u. same_le refl)
 
     behind_guard : GrowsTo b f (λ row. choosing_rows row p here k)
-    behind_guard = grows_then (so_far registers_to.grows) behind_registers (λ row u. same_le refl)
+    behind_guard = grown_to (so_far registers_to.grows) behind_registers (λ row u. same_le refl)
 
     grown_all : GrowsTo a f (λ row. max (bits_row row here) (choosing_rows row p here k))
-    grown_all = grows_then (stand_more {last = λ row. max (bits_row row here) (choosing_rows row p here k)} stand_none guarded (λ row u. left _ _)) behind_guard (λ row u. right _ _)
+    grown_all = grown_to (stand_more {last = λ row. max (bits_row row here) (choosing_rows row p here k)} stand_none guarded (λ row u. left _ _)) behind_guard (λ row u. right _ _)
       where
         left : (x y : ℕ) → x ≤ max x y
         left x y = omega arith

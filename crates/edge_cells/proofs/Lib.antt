@@ -1,8 +1,9 @@
-pub mod Growth
+pub mod GrowthLaws
 pub mod Choices
 pub mod ExtendingLaws
 pub mod Words
 pub mod Widened
+pub mod WayLaws
 pub mod Arriving
 pub mod PartsMet
 pub mod Pointed

@@ -11,8 +11,8 @@ use Rattle.kind_core.specs.declared.kind.Kind.TheVariants.{Num, Maybe}
 use Rattle.kind_core.specs.declared.kind.Kinds.{Kinds}
 use Rattle.kind_core.specs.Kinds.{register}
 use Rattle.kind_core.specs.Effects.{operand}
-use Rattle.operator_cells.specs.declared.held_cells.held.Held.{Held}
-use Rattle.operator_cells.specs.HeldCells.Held.{PointerView, Counts, AreInside}
+use Rattle.operator_cells.specs.declared.held_cells.machine_cells.RegisterCells.{RegisterCells}
+use Rattle.operator_cells.specs.HeldCells.RegisterCells.{PointerView, Counts, AreInside}
 use Rattle.edge_cells.specs.Testing.{IsReady}
 use Rattle.edge_cells.specs.Leaving.{operand_held, OperandsAreReady}
 
@@ -22,7 +22,7 @@ ready decls n ps (Num (Known a)) c h = tt
 ready decls n ps (Maybe q j) c h = (h.0, h.1.found)
 ready decls n ps k c h = tt
 
-operand-ready : (decls : List MapDecl) (n : ℕ) (ps : List PointerView) (k : Kinds) (h : Held) (i : Insn) (s : Src) → AreInside decls n ps h k → i.src ≤ 10 → IsReady n ps (operand k i s) (operand_held h i s)
+operand-ready : (decls : List MapDecl) (n : ℕ) (ps : List PointerView) (k : Kinds) (h : RegisterCells) (i : Insn) (s : Src) → AreInside decls n ps h k → i.src ≤ 10 → IsReady n ps (operand k i s) (operand_held h i s)
 operand-ready decls n ps k h i K inside l = tt
 operand-ready decls n ps k h i X inside l = ready decls n ps (register k i.src) (slice_index h.registers i.src) (inside.registers i.src l)
 

@@ -15,9 +15,9 @@ use Rattle.operator_cells.specs.Rising.{Rises, RiseAll}
 use Rattle.operator_cells.proofs.RisingLaws.{stand_none}
 use Rattle.operator_cells.specs.row_rules.PlaceRows.Origins.{is_open}
 use Rattle.operator_cells.specs.row_rules.PlaceRows.Reading as reading
-use Rattle.operator_cells.specs.declared.held_cells.held.Held.{Held}
+use Rattle.operator_cells.specs.declared.held_cells.machine_cells.RegisterCells.{RegisterCells}
 use Rattle.operator_cells.specs.declared.held_cells.way.Way.{Way}
-use Rattle.operator_cells.specs.HeldCells.Held.{PointerView, pointer_at}
+use Rattle.operator_cells.specs.HeldCells.RegisterCells.{PointerView, pointer_at}
 use Rattle.operator_cells.specs.HeldCells.Rows as places
 use Rattle.operator_cells.specs.HeldCells.Rows.{cells_of_pointer, number_row, value_row, number_at, held_row, bits_row, brought_row, holds_at, hold_one, chosen_row, met_row, choosing_row}
 use Rattle.operator_cells.proofs.HeldCells.RowLaws.{grows_by}
@@ -39,7 +39,7 @@ kind_there k (Slot s) l =
 kind_there k (Byte i) l = rw (le-ltb (75 + i) 11 (omega arith), le-ltb (75 + i) 75 (omega arith), lt-ltb (75 + i) 332 (omega (arith, l))) refl
 kind_there k Target l = refl
 
-pub number_there : (h : Held) (part : Part) → IsPart part → number_at h (data_place part) ≡ held_at part h
+pub number_there : (h : RegisterCells) (part : Part) → IsPart part → number_at h (data_place part) ≡ held_at part h
 number_there h (Register r) l = rw (lt-ltb r 11 (omega (arith, l))) refl
 number_there h (Slot s) l =
     let same : 11 + s - 11 ≡ s = omega arith in
@@ -49,7 +49,7 @@ number_there h (Byte i) l =
     rw (le-ltb (75 + i) 11 (omega arith), le-ltb (75 + i) 75 (omega arith), lt-ltb (75 + i) 331 (omega (arith, l)), same) refl
 number_there h Target l = refl
 
-pub row_there : (row : ℕ → ℕ) (ps : List PointerView) (h : Held) (k : Kinds) (part : Part) → IsPart part → held_row row ps h k (data_place part) ≡ value_row row ps (kind_at part k) (held_at part h)
+pub row_there : (row : ℕ → ℕ) (ps : List PointerView) (h : RegisterCells) (k : Kinds) (part : Part) → IsPart part → held_row row ps h k (data_place part) ≡ value_row row ps (kind_at part k) (held_at part h)
 row_there row ps h k part p = ap (λ (x : Kind). value_row row ps x (number_at h (data_place part))) (kind_there k part p) ∙ ap (value_row row ps (kind_at part k)) (number_there h part p)
 
 -- ---- whether all edges hold one

@@ -15,7 +15,7 @@ use Rattle.kind_core.specs.declared.kind.Kinds.{Kinds}
 use Rattle.kind_core.specs.Kinds.{key_bytes}
 use Rattle.cell_core.specs.Cells.{CellView, IsRun, on}
 use Rattle.operator_cells.specs.declared.held_cells.way.Way.{Way}
-use Rattle.operator_cells.specs.HeldCells.Held.{PointerView, pointer_at, key_of, Holds, Counts, IsPointer, number_of, IsThere}
+use Rattle.operator_cells.specs.HeldCells.RegisterCells.{PointerView, pointer_at, key_of, Holds, Counts, IsPointer, number_of, IsThere}
 use Rattle.edge_cells.specs.declared.part.Part.{Part}
 use Rattle.edge_cells.specs.declared.part.Part.TheVariants.{Register, Slot, Byte, Target}
 use Rattle.edge_cells.specs.Widening.{Widens, AreWider}
@@ -23,7 +23,7 @@ use Rattle.edge_cells.specs.Meeting.{IsPart, held_at, kind_at, number_in, number
 use Rattle.operator_cells.proofs.MakingLaws.{grown_none}
 use Rattle.edge_cells.proofs.Words.{bytes_same}
 use Rattle.edge_cells.proofs.ExtendingLaws.{extends_none, extended, same_pointer, pointer_new, part_counts}
-use Rattle.edge_cells.proofs.Arriving.{first_below}
+use Rattle.edge_cells.proofs.WayLaws.{first_below}
 
 pub part_wider : (k j : Kinds) (part : Part) → AreWider k j → Widens (kind_at part k) (kind_at part j)
 part_wider k j (Register r) w = w.registers r

@@ -7,15 +7,15 @@ use Rattle.std.proofs.lemmas.Bool.{cases_lt}
 use Rattle.std.proofs.lemmas.List.{length-map, get_or-map}
 use Rattle.cell_core.specs.Cells.{CellView}
 use Rattle.operator_cells.specs.Making.{Grows}
-use Rattle.operator_cells.specs.declared.held_cells.held.Pointer.{Pointer}
+use Rattle.operator_cells.specs.declared.held_cells.machine_cells.Pointer.{Pointer}
 use Rattle.operator_cells.specs.declared.held_cells.way.Way.{Way}
-use Rattle.operator_cells.specs.HeldCells.Held.{PointerView, pointer_of, pointed, pointer_at, no_pointer}
+use Rattle.operator_cells.specs.HeldCells.RegisterCells.{PointerView, pointer_of, pointed, pointer_at, no_pointer}
 use Rattle.edge_cells.specs.declared.part.Part.{Part}
 use Rattle.edge_cells.specs.Meeting.{held_at, cell_in, cell_brought, BringCells, Picks, PickWords}
 use Rattle.kind_core.specs.declared.kind.Kind.{Kind}
 use Rattle.kind_core.specs.declared.kind.Kind.TheVariants.{Maybe}
 use Rattle.edge_cells.specs.Testing.{HasPointer, found_of}
-use Rattle.edge_cells.proofs.Growth.{picks_after, picks_before}
+use Rattle.edge_cells.proofs.GrowthLaws.{picks_after, picks_before}
 use Rattle.operator_cells.proofs.MakingLaws.{grown}
 
 pub pointed_length : (ps : List Pointer) → length (pointed ps) ≡ length ps

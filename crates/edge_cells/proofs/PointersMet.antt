@@ -12,9 +12,9 @@ use Rattle.kind_core.specs.Kinds.{key_bytes}
 use Rattle.cell_core.specs.Cells.{CellView}
 use Rattle.operator_cells.specs.Making.{Grows}
 use Rattle.operator_cells.proofs.MakingLaws.{grown}
-use Rattle.operator_cells.specs.declared.held_cells.held.Held.{Held}
+use Rattle.operator_cells.specs.declared.held_cells.machine_cells.RegisterCells.{RegisterCells}
 use Rattle.operator_cells.specs.declared.held_cells.way.Way.{Way}
-use Rattle.operator_cells.specs.HeldCells.Held.{PointerView, pointer_at, key_of, Counts}
+use Rattle.operator_cells.specs.HeldCells.RegisterCells.{PointerView, pointer_at, key_of, Counts}
 use Rattle.operator_cells.specs.HeldCells.Rows as places
 use Rattle.operator_cells.specs.HeldCells.Rows.{number_at}
 use Rattle.operator_cells.specs.HeldCells.Pointing.{Pointing, pointing_as, pointing_at, IsSamePointer}
@@ -23,12 +23,12 @@ use Rattle.edge_cells.specs.declared.part.Part.TheVariants.{Register, Slot, Byte
 use Rattle.edge_cells.specs.Meeting.{IsPart, held_at, kind_at, cell_brought, PicksPointer, words_of, is_known, map_of, Extends, AreWays, Meets, MeetsMore, MeetRow, first_on}
 use Rattle.edge_cells.specs.Rows.{data_place}
 use Rattle.edge_cells.specs.Pointing.{Follows, MeetsPointer, MeetRowPoints, JoinPoints}
-use Rattle.edge_cells.proofs.Growth.{followed_before}
-use Rattle.edge_cells.proofs.Arriving.{first_below}
+use Rattle.edge_cells.proofs.GrowthLaws.{followed_before}
 use Rattle.edge_cells.proofs.ExtendingLaws.{extended, same_pointer, pointer_new, part_counts}
 use Rattle.edge_cells.proofs.PartsMet.{AreAt, widened, same_kind, keys_same}
 use Rattle.edge_cells.proofs.PartRows.{kind_there, number_there}
 use Rattle.edge_cells.proofs.JoinRows.{part_at}
+use Rattle.edge_cells.proofs.WayLaws.{first_below}
 
 -- ---- one part
 
@@ -133,7 +133,7 @@ row_more_points decls old mid new ps qs rs here k part n c held range is_part so
         subst (λ (j : ℕ). MeetsPointer decls new ps rs here (part j) (kind_at (part j) k) (slice_index (set held n c) j)) same
         (subst (λ (x : ℕ). MeetsPointer decls new ps rs here (part n) (kind_at (part n) k) x) (sym (get_or-set_same held n c 0 range)) (points_from old some is_part met_row.extends ways one))
 
-pub rows_points : (decls : List MapDecl) (a b c d e f : List CellView) (p q r s t : List PointerView) (here : List Way) (k : Kinds) (h : Held) → 1 ≤ length here → AreWays decls a p here
+pub rows_points : (decls : List MapDecl) (a b c d e f : List CellView) (p q r s t : List PointerView) (here : List Way) (k : Kinds) (h : RegisterCells) → 1 ≤ length here → AreWays decls a p here
     → MeetRow decls b c p q here k Register 11 h.registers → MeetRowPoints decls c p q here k Register 11 h.registers
     → MeetRow decls c d q r here k Slot 64 h.slots → MeetRowPoints decls d q r here k Slot 64 h.slots
     → MeetRow decls d e r s here k Byte 256 h.window → MeetsMore decls e f s t here Target (kind_at Target k) h.target
@@ -148,17 +148,17 @@ rows_points decls a b c d e f p q r s t here k h some ways registers registers_p
 nowhere : (k : Kinds) (place : ℕ) → 332 ≤ place → places.kind_at k place ≡ Unset
 nowhere k place l = rw (le-ltb place 11 (omega (arith, l)), le-ltb place 75 (omega (arith, l)), le-ltb place 332 l) refl
 
-place_of : (k : Kinds) (h : Held) (y : Pointing) (place : ℕ) → pointing_at k h place ≡ Some y → place < 332
+place_of : (k : Kinds) (h : RegisterCells) (y : Pointing) (place : ℕ) → pointing_at k h place ≡ Some y → place < 332
 place_of k h y place is = by (cases_lt place 332)
   where
     by : (place < 332) ⊎ (332 ≤ place) → place < 332
     by (inl l) = l
     by (inr l) = let bad : None ≡ Some y = ap (λ (a : Kind). pointing_as a (number_at h place)) (sym (nowhere k place l)) ∙ is in absurd (cc bad)
 
-pointing_there : (k : Kinds) (h : Held) (part : Part) → IsPart part → pointing_at k h (data_place part) ≡ pointing_as (kind_at part k) (held_at part h)
+pointing_there : (k : Kinds) (h : RegisterCells) (part : Part) → IsPart part → pointing_at k h (data_place part) ≡ pointing_as (kind_at part k) (held_at part h)
 pointing_there k h part l = ap (λ (a : Kind). pointing_as a (number_at h (data_place part))) (kind_there k part l) ∙ ap (pointing_as (kind_at part k)) (number_there h part l)
 
-pub join_points : {decls : List MapDecl} {new : List CellView} {ps qs : List PointerView} {here : List Way} {k : Kinds} {h : Held}
+pub join_points : {decls : List MapDecl} {new : List CellView} {ps qs : List PointerView} {here : List Way} {k : Kinds} {h : RegisterCells}
     → ((part : Part) → IsPart part → MeetsPointer decls new ps qs here part (kind_at part k) (held_at part h)) → JoinPoints decls new ps qs here k h
 join_points {here = here} {k = k} {h = h} met packet v u d run all y holds =
     let f : Way = get_or here (first_on v here) d in

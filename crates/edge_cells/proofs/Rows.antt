@@ -6,13 +6,12 @@ use Rattle.std.proofs.lemmas.Bool.{cases_lt}
 use Rattle.xdp_machine.specs.xdp_maps.declared.decl.MapDecl.{MapDecl}
 use Rattle.kind_core.specs.declared.kind.Kinds.{Kinds}
 use Rattle.cell_core.specs.Cells.{CellView}
-use Rattle.operator_cells.specs.Making.{Grows}
-use Rattle.operator_cells.specs.declared.held_cells.held.Held.{Held}
+use Rattle.operator_cells.specs.declared.held_cells.machine_cells.RegisterCells.{RegisterCells}
 use Rattle.operator_cells.specs.declared.held_cells.way.Way.{Way}
-use Rattle.operator_cells.specs.HeldCells.Held.{PointerView}
+use Rattle.operator_cells.specs.HeldCells.RegisterCells.{PointerView}
 use Rattle.edge_cells.specs.declared.part.Part.{Part}
 use Rattle.edge_cells.specs.declared.part.Part.TheVariants.{Register, Slot, Byte, Target}
-use Rattle.edge_cells.specs.Meeting.{kind_at, Extends, Meets, MeetsMore, MeetRow}
+use Rattle.edge_cells.specs.Meeting.{kind_at, Meets, MeetsMore, MeetRow}
 use Rattle.operator_cells.proofs.MakingLaws.{grown}
 use Rattle.edge_cells.proofs.ExtendingLaws.{extended, meets_later}
 use Rattle.edge_cells.proofs.Assembled.{AreMet}
@@ -32,12 +31,8 @@ row_more decls old mid new ps qs rs here k part n c held range row one = record 
         subst (λ (j : ℕ). Meets decls new rs here (part j) (kind_at (part j) k) (slice_index (set held n c) j)) same
         (subst (λ (x : ℕ). Meets decls new rs here (part n) (kind_at (part n) k) x) (sym (get_or-set_same held n c 0 range)) one.meets)
 
-pub row_later : {decls : List MapDecl} {old mid new : List CellView} {ps qs rs : List PointerView} {here : List Way} {k : Kinds} {part : ℕ → Part} {n : ℕ} {held : List ℕ}
-    → MeetRow decls old mid ps qs here k part n held → Grows mid new → Extends qs rs → MeetRow decls old new ps rs here k part n held
-row_later row g e = record { grows = grown row.grows g; extends = extended row.extends e; each = λ i l. meets_later g e (row.each i l) }
-
 -- all parts
-pub rows_met : (decls : List MapDecl) (a b c d e : List CellView) (p q r s t : List PointerView) (here : List Way) (k : Kinds) (h : Held) → MeetRow decls a b p q here k Register 11 h.registers
+pub rows_met : (decls : List MapDecl) (a b c d e : List CellView) (p q r s t : List PointerView) (here : List Way) (k : Kinds) (h : RegisterCells) → MeetRow decls a b p q here k Register 11 h.registers
     → MeetRow decls b c q r here k Slot 64 h.slots → MeetRow decls c d r s here k Byte 256 h.window → MeetsMore decls d e s t here Target (kind_at Target k) h.target
     → AreMet decls e t here k h
 rows_met decls a b c d e p q r s t here k h registers slots window target (Register i) l =

@@ -20,8 +20,8 @@ use Rattle.cell_core.specs.CellLaws.{ValuesFit}
 use Rattle.cell_core.specs.Formed.{AreFormed}
 use Rattle.cell_core.specs.declared.operator.Operator.TheVariants.{Constant}
 use Rattle.operator_cells.specs.Making.{Makes, operated}
-use Rattle.operator_cells.specs.HeldCells.Held.{PointerView, pointer_at, key_of, number_of, IsThere}
-use Rattle.edge_cells.specs.Testing.{is_order, is_equality, is_equal, is_open, null_holds, place_of, found_of, HasPointer, IsReady, is_number, Tests}
+use Rattle.operator_cells.specs.HeldCells.RegisterCells.{PointerView, pointer_at, key_of, number_of}
+use Rattle.edge_cells.specs.Testing.{is_order, is_equality, is_equal, is_open, null_holds, place_of, found_of, is_number, Tests}
 use Rattle.edge_cells.specs.Meeting.{number_in}
 use Rattle.operator_cells.proofs.MakingLaws.{grown}
 use Rattle.operator_cells.proofs.MakingLaws.{not_bit}
@@ -89,14 +89,6 @@ null_right ps w code a p (Maybe r n) q old new c f e needed made =
     let is : f ≡ (pointer_at ps q).found = cc in
     right_null ps w code a p r n q old new c needed (subst (λ (x : ℕ). Makes old new c (λ packet v. bit (null_holds code (on (v x))))) is made)
 null_right ps w code a p b q old new c f e needed made = absurd (cc)
-
-pub found_there : (n : ℕ) (ps : List PointerView) (a : Kind) (p f : ℕ) → found_of ps a p ≡ Some f → IsReady n ps a p → f < n
-found_there n ps (Maybe r j) p f e h = let is : f ≡ (pointer_at ps p).found = cc in omega (arith, is, h.1)
-found_there n ps a p f e h = absurd (cc)
-
-pub has_pointer : (n : ℕ) (ps : List PointerView) (a : Kind) (p : ℕ) → IsReady n ps a p → HasPointer (length ps) a p
-has_pointer n ps (Maybe r j) p h = h.0
-has_pointer n ps a p h = tt
 
 not_not : (b : Bool) → not (not b) ≡ b
 not_not true = refl
@@ -207,9 +199,6 @@ number_open ps Bits64 code Unknown b q none needed = absurd (cc)
 pub both_numbers : (ps : List PointerView) (w : Width) (code : JumpCode) (a b : Kind) (q : ℕ) → is_number a ≡ true → found_of ps b q ≡ None → is_open w code a b ≡ true → (a ≡ Num (number_in a)) × (b ≡ Num (number_in b))
 both_numbers ps w code (Num x) b q h none needed = let y = number_open ps w code x b q none needed in (refl, y.1 ∙ ap (λ (k : Kind). Num (number_in k)) (sym y.1))
 both_numbers ps w code a b q h none needed = absurd (cc)
-
-pub number_ready : (n : ℕ) (ps : List PointerView) (a : Kind) (p : ℕ) → a ≡ Num (number_in a) → IsReady n ps a p → IsThere n (number_in a) p
-number_ready n ps a p e h = subst (λ (k : Kind). IsReady n ps k p) e h
 
 tests_both : (ps : List PointerView) (w : Width) (code : JumpCode) (a : Kind) (p : ℕ) (b : Kind) (q : ℕ) (old new : List CellView) (c : ℕ) → (a ≡ Num (number_in a)) × (b ≡ Num (number_in b))
     → Makes old new c (λ packet v. bit (holds code (bits_in w) (low (bits_in w) (number_of v (number_in a) p)) (low (bits_in w) (number_of v (number_in b) q)))) → Tests ps w code a p b q old new c

@@ -6,11 +6,11 @@ use Rattle.xdp_machine.specs.State.{PacketIn, Machine}
 use Rattle.kind_core.specs.declared.kind.Kinds.{Kinds}
 use Rattle.cell_core.specs.Cells.{CellView, IsRun, on, bit}
 use Rattle.operator_cells.specs.Making.{Grows}
-use Rattle.operator_cells.specs.declared.held_cells.held.Held.{Held}
+use Rattle.operator_cells.specs.declared.held_cells.machine_cells.RegisterCells.{RegisterCells}
 use Rattle.operator_cells.specs.declared.held_cells.way.Way.{Way}
 use Rattle.operator_cells.specs.declared.held_cells.way.Exit.{Exit}
 use Rattle.operator_cells.specs.HeldCells.Paths.{GraphView, Stage, node_at}
-use Rattle.operator_cells.specs.HeldCells.Held.{PointerView, AreInside}
+use Rattle.operator_cells.specs.HeldCells.RegisterCells.{PointerView, AreInside}
 use Rattle.operator_cells.specs.HeldCells.Carrying.{IsKnown}
 use Rattle.operator_cells.specs.HeldCells.Steps.{IsGood, IsHere}
 use Rattle.edge_cells.specs.Meeting.{first_on, Extends}
@@ -27,7 +27,7 @@ pub record Guards (old new : List CellView) (here : List Way) (guard : ℕ) : Ty
 
 -- Where edges meet: more cells and pointers, the guard, which is 1 where an edge is on, and what is held: where what the first edge that
 -- is on holds is a machine's, so is this.
-pub record Joins (decls : List MapDecl) (old new : List CellView) (ps qs : List PointerView) (here : List Way) (k : Kinds) (guard : ℕ) (h : Held) : Type 0 where
+pub record Joins (decls : List MapDecl) (old new : List CellView) (ps qs : List PointerView) (here : List Way) (k : Kinds) (guard : ℕ) (h : RegisterCells) : Type 0 where
   pub guards : Guards old new here guard
   pub extends : Extends ps qs
   pub inside : AreInside decls (length new) qs h k
@@ -43,6 +43,6 @@ pub record LeadTo (k : ℕ) (ways here : List Way) : Type 0 where
 -- Where things are good before a node, its guard is 1 exactly where the run stands there, and what is held is what its machine holds.
 abbrev pub HereIsRight : Type 0
 HereIsRight =
-    (g : GraphView) (packet : PacketIn) (v : ℕ → ℕ) (ps qs : List PointerView) (k : ℕ) (old new : List CellView) (ways here : List Way) (exits : List Exit) (guard : ℕ) (h : Held) (s : Stage)
+    (g : GraphView) (packet : PacketIn) (v : ℕ → ℕ) (ps qs : List PointerView) (k : ℕ) (old new : List CellView) (ways here : List Way) (exits : List Exit) (guard : ℕ) (h : RegisterCells) (s : Stage)
     → Joins g.decls old new ps qs here (node_at g.nodes k).kinds guard h → LeadTo k ways here → IsRun packet new v → IsGood g packet v ps k ways exits s
     → IsHere g packet v qs k guard h s

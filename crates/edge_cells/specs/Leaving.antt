@@ -23,21 +23,21 @@ use Rattle.kind_core.specs.Effects.{effect_of, verdict, operand}
 use Rattle.kind_core.specs.Edges.{agrees, decided, transferred}
 use Rattle.cell_core.specs.Cells.{CellView, IsRun, on, bit}
 use Rattle.operator_cells.specs.Making.{Grows}
-use Rattle.operator_cells.specs.declared.held_cells.held.Held.{Held}
+use Rattle.operator_cells.specs.declared.held_cells.machine_cells.RegisterCells.{RegisterCells}
 use Rattle.operator_cells.specs.declared.held_cells.way.Way.{Way}
 use Rattle.operator_cells.specs.declared.held_cells.way.Exit.{Exit}
-use Rattle.operator_cells.specs.HeldCells.Held.{PointerView, AreInside}
+use Rattle.operator_cells.specs.HeldCells.RegisterCells.{PointerView, AreInside}
 use Rattle.operator_cells.specs.HeldCells.Carrying.{IsKnown}
 use Rattle.operator_cells.specs.HeldCells.Steps.{IsLeft}
 use Rattle.edge_cells.specs.Testing.{is_open, IsReady, Tests}
 
 -- the cell of the second operand, or its pointer; an immediate number has none
-abbrev pub operand_held : Held → Insn → Src → ℕ
+abbrev pub operand_held : RegisterCells → Insn → Src → ℕ
 operand_held h i K = 0
 operand_held h i X = slice_index h.registers i.src
 
 -- The condition of a jump at a node tests what its kinds and cells say of its operands.
-abbrev pub TestsJump : List PointerView → Kinds → Held → Insn → Width → JumpCode → Src → List CellView → List CellView → ℕ → Type 0
+abbrev pub TestsJump : List PointerView → Kinds → RegisterCells → Insn → Width → JumpCode → Src → List CellView → List CellView → ℕ → Type 0
 TestsJump ps k h i w c s old new condition = Tests ps w c (register k i.dst) (slice_index h.registers i.dst) (operand k i s) (operand_held h i s) old new condition
 
 -- whether a jump goes along an edge by its condition; without one it goes along the only edge
@@ -65,8 +65,8 @@ pub record Branches (old new : List CellView) (guard : ℕ) (condition : Option 
   pub there : c < length new
   pub value : (packet : PacketIn) (v : ℕ → ℕ) → IsRun packet new v → v guard < 2 → IsBit v condition → v c ≡ bit (on (v guard) && goes v condition taken)
 
--- An edge of a jump: its bit, the kinds behind the jump, and what is held at the node.
-pub record IsBranch (decls : List MapDecl) (old new : List CellView) (node : ℕ) (k : Kinds) (h : Held) (guard : ℕ) (i : Insn) (condition : Option ℕ) (taken : Bool) (to : ℕ) (e : Way) : Type 0 where
+-- An edge of a jump: its bit, the kinds after the jump, and what is held at the node.
+pub record IsBranch (decls : List MapDecl) (old new : List CellView) (node : ℕ) (k : Kinds) (h : RegisterCells) (guard : ℕ) (i : Insn) (condition : Option ℕ) (taken : Bool) (to : ℕ) (e : Way) : Type 0 where
   pub branches : Branches old new guard condition taken e.bit
   pub leads : e.to ≡ to
   pub kinds_are : e.kinds ≡ transferred decls k i node false taken
@@ -81,21 +81,21 @@ UndecidedAreOpen =
 -- Where a machine is known at a node the bit of a jump's condition is 1 exactly where the machine takes the jump.
 abbrev pub JumpsAreTested : Type 0
 JumpsAreTested =
-    (decls : List MapDecl) (packet : PacketIn) (v : ℕ → ℕ) (ps : List PointerView) (node : ℕ) (k : Kinds) (h : Held) (m : Machine) (i : Insn) (w : Width) (c : JumpCode) (s : Src) (old new : List CellView) (condition : ℕ) (taken : Bool)
+    (decls : List MapDecl) (packet : PacketIn) (v : ℕ → ℕ) (ps : List PointerView) (node : ℕ) (k : Kinds) (h : RegisterCells) (m : Machine) (i : Insn) (w : Width) (c : JumpCode) (s : Src) (old new : List CellView) (condition : ℕ) (taken : Bool)
     → TestsJump ps k h i w c s old new condition → IsRun packet new v → IsKnown decls packet v ps node k h m → i.dst ≤ 10 → i.src ≤ 10
     → compared w c (machine.register m.registers i.dst) (step.operand m.registers i s) ≡ Some taken → v condition ≡ bit taken
 
 -- What is held at a jump is there along its edges.
 abbrev pub EdgesAreInside : Type 0
 EdgesAreInside =
-    (decls : List MapDecl) (n : ℕ) (ps : List PointerView) (k : Kinds) (h : Held) (i : Insn) (node : ℕ) (w : Width) (c : JumpCode) (s : Src) (taken : Bool)
+    (decls : List MapDecl) (n : ℕ) (ps : List PointerView) (k : Kinds) (h : RegisterCells) (i : Insn) (node : ℕ) (w : Width) (c : JumpCode) (s : Src) (taken : Bool)
     → i.op ≡ Jump w c s → AreInside decls n ps h k → AreInside decls n ps h (transferred decls k i node false taken)
 
 -- What is known at an allowed jump and held there is known and held along the edge that the machine takes: of what a lookup answered, that
 -- it is null or an entry.
 abbrev pub EdgesAreKnown : Type 0
 EdgesAreKnown =
-    (decls : List MapDecl) (packet : PacketIn) (v : ℕ → ℕ) (ps : List PointerView) (node to place : ℕ) (k : Kinds) (h : Held) (m : Machine) (i : Insn) (w : Width) (c : JumpCode) (s : Src) (taken : Bool)
+    (decls : List MapDecl) (packet : PacketIn) (v : ℕ → ℕ) (ps : List PointerView) (node to place : ℕ) (k : Kinds) (h : RegisterCells) (m : Machine) (i : Insn) (w : Width) (c : JumpCode) (s : Src) (taken : Bool)
     → IsKnown decls packet v ps node k h m → node ≤ to → i.op ≡ Jump w c s → verdict (effect_of decls k i) ≡ passed
     → compared w c (machine.register m.registers i.dst) (step.operand m.registers i s) ≡ Some taken
     → IsKnown decls packet v ps to (transferred decls k i node false taken) h (record m { place = place })
@@ -103,13 +103,13 @@ EdgesAreKnown =
 -- The same along the edge of a jump without a condition.
 abbrev pub SingleEdgesAreKnown : Type 0
 SingleEdgesAreKnown =
-    (decls : List MapDecl) (packet : PacketIn) (v : ℕ → ℕ) (ps : List PointerView) (node to place : ℕ) (k : Kinds) (h : Held) (m : Machine) (i : Insn) (w : Width) (taken : Bool)
+    (decls : List MapDecl) (packet : PacketIn) (v : ℕ → ℕ) (ps : List PointerView) (node to place : ℕ) (k : Kinds) (h : RegisterCells) (m : Machine) (i : Insn) (w : Width) (taken : Bool)
     → IsKnown decls packet v ps node k h m → node ≤ to → i.op ≡ Ja w → IsKnown decls packet v ps to (transferred decls k i node false taken) h (record m { place = place })
 
 -- What the operands of a jump take is there.
 abbrev pub OperandsAreReady : Type 0
 OperandsAreReady =
-    (decls : List MapDecl) (n : ℕ) (ps : List PointerView) (k : Kinds) (h : Held) (i : Insn) (s : Src) → AreInside decls n ps h k → i.dst ≤ 10 → i.src ≤ 10
+    (decls : List MapDecl) (n : ℕ) (ps : List PointerView) (k : Kinds) (h : RegisterCells) (i : Insn) (s : Src) → AreInside decls n ps h k → i.dst ≤ 10 → i.src ≤ 10
     → IsReady n ps (register k i.dst) (slice_index h.registers i.dst) × IsReady n ps (operand k i s) (operand_held h i s)
 
 -- The cells of an end hold what the packet leaves there.

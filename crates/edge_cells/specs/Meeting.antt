@@ -12,9 +12,9 @@ use Rattle.kind_core.specs.declared.kind.Kind.TheVariants.{Unset, Num, Maybe, En
 use Rattle.kind_core.specs.declared.kind.Kinds.{Kinds}
 use Rattle.cell_core.specs.Cells.{CellView, IsRun, on}
 use Rattle.operator_cells.specs.Making.{Grows}
-use Rattle.operator_cells.specs.declared.held_cells.held.Held.{Held}
+use Rattle.operator_cells.specs.declared.held_cells.machine_cells.RegisterCells.{RegisterCells}
 use Rattle.operator_cells.specs.declared.held_cells.way.Way.{Way}
-use Rattle.operator_cells.specs.HeldCells.Held.{PointerView, pointer_at, Holds, Counts, AreInside, number_of, IsThere}
+use Rattle.operator_cells.specs.HeldCells.RegisterCells.{PointerView, pointer_at, Holds, Counts, AreInside, number_of, IsThere}
 use Rattle.edge_cells.specs.declared.part.Part.{Part}
 use Rattle.edge_cells.specs.declared.part.Part.TheVariants.{Register, Slot, Byte, Target}
 
@@ -25,7 +25,7 @@ IsPart (Byte i) = i < 256
 IsPart Target = Unit {0}
 
 -- the cell of a part, or the number of its pointer
-abbrev pub held_at : Part → Held → ℕ
+abbrev pub held_at : Part → RegisterCells → ℕ
 held_at (Register r) h = slice_index h.registers r
 held_at (Slot s) h = slice_index h.slots s
 held_at (Byte i) h = slice_index h.window i

@@ -6,9 +6,9 @@ use Rattle.kind_core.specs.declared.kind.Kind.{Kind}
 use Rattle.kind_core.specs.declared.kind.Kinds.{Kinds}
 use Rattle.cell_core.specs.Cells.{CellView, IsRun}
 use Rattle.operator_cells.specs.Following.{IsFollowed}
-use Rattle.operator_cells.specs.declared.held_cells.held.Held.{Held}
+use Rattle.operator_cells.specs.declared.held_cells.machine_cells.RegisterCells.{RegisterCells}
 use Rattle.operator_cells.specs.declared.held_cells.way.Way.{Way}
-use Rattle.operator_cells.specs.HeldCells.Held.{PointerView}
+use Rattle.operator_cells.specs.HeldCells.RegisterCells.{PointerView}
 use Rattle.operator_cells.specs.HeldCells.Pointing.{Pointing, pointing_as, HoldsPointer, IsSamePointer}
 use Rattle.edge_cells.specs.declared.part.Part.{Part}
 use Rattle.edge_cells.specs.Meeting.{held_at, kind_at, first_on}
@@ -27,7 +27,7 @@ pub record MeetRowPoints (decls : List MapDecl) (new : List CellView) (ps qs : L
   pub each : (i : ℕ) → i < n → MeetsPointer decls new ps qs here (part i) (kind_at (part i) k) (slice_index held i)
 
 -- For any values of cells each pointer that is held is one that the first edge that is on holds.
-abbrev pub JoinPoints : List MapDecl → List CellView → List PointerView → List PointerView → List Way → Kinds → Held → Type 0
+abbrev pub JoinPoints : List MapDecl → List CellView → List PointerView → List PointerView → List Way → Kinds → RegisterCells → Type 0
 JoinPoints decls new ps qs here k h =
     (packet : PacketIn) (v u : ℕ → ℕ) (d : Way) → IsRun packet new v → IsFollowed new v u → (y : Pointing) → HoldsPointer k h y
     → (x : Pointing) × HoldsPointer (get_or here (first_on v here) d).kinds (get_or here (first_on v here) d).held x × IsSamePointer decls v u ps qs x y

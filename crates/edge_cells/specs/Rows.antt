@@ -6,7 +6,7 @@ use Rattle.cell_core.specs.Rows.{AreRows, greatest, numbers}
 use Rattle.operator_cells.specs.Rising.{GrowsTo}
 use Rattle.operator_cells.specs.row_rules.PlaceRows.Spans.{slot, byte}
 use Rattle.operator_cells.specs.declared.held_cells.way.Way.{Way}
-use Rattle.operator_cells.specs.HeldCells.Held.{PointerView, pointer_at}
+use Rattle.operator_cells.specs.HeldCells.RegisterCells.{PointerView, pointer_at}
 use Rattle.operator_cells.specs.HeldCells.Rows.{cells_of_pointer, number_row, value_row, number_at, hold_one, met_row, choosing_row}
 use Rattle.edge_cells.specs.declared.part.Part.{Part}
 use Rattle.edge_cells.specs.declared.part.Part.TheVariants.{Register, Slot, Byte, Target}
@@ -36,7 +36,7 @@ pub record MetTo (cells : List CellView) (ps qs : List PointerView) (here : List
   pub value : (row : ℕ → ℕ) → AreRows cells row → value_row row qs (kind_at part k) c ≤ met_row row ps here (data_place part)
   pub same : hold_one here (data_place part) ≡ true → All (λ e. c ≡ number_at e.held (data_place part)) here
 
--- The same behind new cells, which stand in no later row than what is chosen at the part: none is made where all hold one.
+-- The same after new cells, which stand in no later row than what is chosen at the part: none is made where all hold one.
 pub record MeetsTo (old new : List CellView) (ps qs : List PointerView) (here : List Way) (k : Kinds) (part : Part) (c : ℕ) : Type 0 where
   pub grows : GrowsTo old new (λ row. choosing_row row ps here k (data_place part))
   pub met : MetTo new ps qs here k part c

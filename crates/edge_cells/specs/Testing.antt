@@ -14,7 +14,7 @@ use Rattle.kind_core.specs.declared.kind.Kind.{Kind}
 use Rattle.kind_core.specs.declared.kind.Kind.TheVariants.{Num, Packet, End, Maybe, Entry}
 use Rattle.cell_core.specs.Cells.{CellView, IsRun, bit}
 use Rattle.operator_cells.specs.Making.{Grows}
-use Rattle.operator_cells.specs.HeldCells.Held.{PointerView, pointer_at, Holds, number_of, IsThere}
+use Rattle.operator_cells.specs.HeldCells.RegisterCells.{PointerView, pointer_at, Holds, number_of, IsThere}
 
 -- places in the packet are compared by their order, and with null by whether they are equal
 abbrev pub is_order : JumpCode → Bool

@@ -4,7 +4,7 @@ ghost use Rattle.std.specs.Prelude.{◌≡◌, ◌<◌, ◌≤◌, length, IfOk,
 ghost use Rattle.cell_core.specs.Formed.{AreFormed};
 ghost use Rattle.operator_cells.specs.Making.{seen};
 ghost use Rattle.operator_cells.specs.Rising.{Rises};
-ghost use Rattle.operator_cells.specs.HeldCells.Held.{pointed};
+ghost use Rattle.operator_cells.specs.HeldCells.RegisterCells.{pointed};
 ghost use Rattle.operator_cells.specs.HeldCells.Rows.{bits_row, JoinsTo};
 ghost use Rattle.edge_cells.specs.Widening.{AreWider, AreFilled};
 ghost use Rattle.edge_cells.specs.Meeting.{AreWays, MeetRow};
@@ -16,7 +16,7 @@ use crate::meeting::meet;
 use crate::part::Part;
 use cell_core::cell::Cell;
 use kind_core::Kinds;
-use operator_cells::held_cells::held::{Held, Pointer};
+use operator_cells::held_cells::machine_cells::{Pointer, RegisterCells};
 use operator_cells::held_cells::way::Way;
 use operator_cells::joining::guard;
 use std::alloc::{AllocError, Global};
@@ -26,7 +26,7 @@ use xdp_machine::xdp_maps::decl::MapDecl;
 #[derive(Copy, Clone, Debug, PartialEq, Eq)]
 pub struct Here {
     pub guard: u32,
-    pub held: Held,
+    pub held: RegisterCells,
 }
 
 // The bits of edges.
@@ -144,7 +144,7 @@ pub fn join(
     let slots = meet_slots(cells, pointers, decls, ways, kinds)?;
     let window = meet_window(cells, pointers, decls, ways, kinds)?;
     let target = meet(cells, pointers, decls, ways, kinds, Part::Target)?;
-    let held = Held {
+    let held = RegisterCells {
         registers,
         slots,
         window,

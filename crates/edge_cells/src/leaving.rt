@@ -9,7 +9,7 @@ ghost use Rattle.operator_cells.specs.Making.{seen};
 ghost use Rattle.operator_cells.specs.Rising.{Rises};
 ghost use Rattle.operator_cells.specs.row_rules.PlaceRows.Spans.{one, span_row};
 ghost use Rattle.operator_cells.specs.row_rules.PlaceRows.Reading.{right_of};
-ghost use Rattle.operator_cells.specs.HeldCells.Held.{pointed};
+ghost use Rattle.operator_cells.specs.HeldCells.RegisterCells.{pointed};
 ghost use Rattle.operator_cells.specs.HeldCells.Rows.{held_row};
 ghost use Rattle.edge_cells.specs.Meeting.{number_in};
 ghost use Rattle.edge_cells.specs.Testing.{is_open, IsReady};
@@ -20,7 +20,7 @@ use crate::part::number_in;
 use crate::testing::condition;
 use cell_core::cell::Cell;
 use kind_core::{Kind, Kinds, Number, transfer};
-use operator_cells::held_cells::held::{Held, Pointer};
+use operator_cells::held_cells::machine_cells::{Pointer, RegisterCells};
 use operator_cells::held_cells::way::{Exit, Way};
 use operator_cells::leaving::edge;
 use std::alloc::AllocError;
@@ -39,7 +39,7 @@ fn operand(kinds: &Kinds, insn: &Insn, src: Src) -> Kind
 }
 
 // Its cell, or its pointer.
-fn operand_held(held: &Held, insn: &Insn, src: Src) -> u32
+fn operand_held(held: &RegisterCells, insn: &Insn, src: Src) -> u32
     requires { insn.now.src ≤ 10 }
     ensures { result ≡ operand_held held.now insn.now src }
 {
@@ -54,7 +54,7 @@ pub fn jump_condition(
     cells: &mut Vec<Cell>,
     pointers: &[Pointer],
     kinds: &Kinds,
-    held: &Held,
+    held: &RegisterCells,
     insn: &Insn,
     width: Width,
     code: JumpCode,

@@ -4,7 +4,7 @@ ghost use Rattle.std.specs.Prelude.{◌≡◌};
 ghost use Rattle.edge_cells.specs.Meeting.{IsPart, held_at, kind_at, number_in};
 
 use kind_core::{Kind, Kinds, Number};
-use operator_cells::held_cells::held::Held;
+use operator_cells::held_cells::machine_cells::RegisterCells;
 
 /// A part of a machine: a register, a slot of the stack, a byte of the packet, or the target of a redirect.
 #[derive(Copy, Clone)]
@@ -16,7 +16,7 @@ pub enum Part {
 }
 
 /// The cell of a part, or the number of its pointer.
-pub fn held_at(part: Part, held: &Held) -> u32
+pub fn held_at(part: Part, held: &RegisterCells) -> u32
     requires { IsPart part }
     ensures { result ≡ held_at part held.now }
 {

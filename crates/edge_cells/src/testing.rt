@@ -6,7 +6,7 @@ ghost use Rattle.cell_core.specs.Cells.{bit, on};
 ghost use Rattle.cell_core.specs.Formed.{AreFormed};
 ghost use Rattle.operator_cells.specs.Making.{seen, Makes};
 ghost use Rattle.operator_cells.specs.Rising.{Rises};
-ghost use Rattle.operator_cells.specs.HeldCells.Held.{pointed, number_of, IsThere};
+ghost use Rattle.operator_cells.specs.HeldCells.RegisterCells.{pointed, number_of, IsThere};
 ghost use Rattle.operator_cells.specs.HeldCells.Rows.{number_row, value_row};
 ghost use Rattle.edge_cells.specs.Testing.{is_open, is_equal, null_holds, place_of, found_of, HasPointer, IsReady, is_number, Tests};
 
@@ -17,7 +17,7 @@ use cell_core::operator::Operator;
 use kind_core::{Kind, Number};
 use operator_cells::cells::{constant, operate};
 use operator_cells::comparing::{compare, equal, not};
-use operator_cells::held_cells::held::Pointer;
+use operator_cells::held_cells::machine_cells::Pointer;
 use operator_cells::held_cells::operand::number_cell;
 use std::alloc::AllocError;
 use xdp_machine::bpf_isa::{JumpCode, Width};

@@ -2,7 +2,7 @@
 use Rattle.std.specs.Prelude.{◌≡◌, ℕ, zero, suc, ◌+◌, ◌≤◌, List, [], ◌∷◌}
 use Rattle.std.specs.List.{AllByRecursion}
 use Rattle.std.proofs.Common.{refl, sym, ap₂, subst, ◌∙◌, arith}
-use Rattle.net_core.specs.beat_core.Ports.{Arrival}
+use Rattle.beat_core.specs.Ports.{Arrival}
 use Rattle.xdp_object.specs.xdp_maps.State.{MapState, IsSound}
 use Rattle.xdp_object.specs.xdp_maps.Touched.{Resource}
 use Rattle.xdp_object.specs.xdp_machine.Program.{XdpProgram, IsProgram}
@@ -16,7 +16,7 @@ use Rattle.hazard_core.specs.cell_core.Sites.{ProgramView, leaves, touched}
 use Rattle.operator_cells.specs.HeldCells.Law.{IsLaw}
 use Rattle.pipe_runs.specs.pipe_core.Machine.{packet_of}
 use Rattle.pipe_runs.specs.pipe_core.Apart.{AllRun}
-use Rattle.pipe_runs.specs.realization.Bounds.{ReadOthers, AreApart}
+use Rattle.pipe_runs.specs.realization.Bounds.{ReadOthers, ConflictFree}
 use Rattle.pipe_runs.specs.realization.Realizes.{IsPacket}
 use Rattle.ehdl_build.specs.Compiled.{code_of, packets_in}
 use Rattle.ehdl_build.proofs.Sequential.{OneRun, is_packet, run_leaves}
@@ -45,6 +45,6 @@ read_fewer (suc n) zero writes ts low h = absurd (omega (arith, low))
 read_fewer (suc n) (suc m) writes [] low h = tt
 read_fewer (suc n) (suc m) writes (t ∷ ts) low h = (h.0, read_fewer n m writes ts (omega (arith, low)) h.1)
 
-pub apart_by_less : (n m : ℕ) (ts : List Touched) → n ≤ m → AreApart m ts → AreApart n ts
+pub apart_by_less : (n m : ℕ) (ts : List Touched) → n ≤ m → ConflictFree m ts → ConflictFree n ts
 apart_by_less n m [] low h = tt
 apart_by_less n m (t ∷ ts) low h = (read_fewer n m t.writes ts low h.0, apart_by_less n m ts low h.1)

@@ -1,5 +1,5 @@
 -- What holds of the bytes that an error is answered for, and that no other error was to come.
-use Rattle.std.specs.Prelude.{◌≡◌, ◌≢◌, ◌⊎◌, Result, Ok, Err, IfOk, IfErr, IsErrAnd, IsErrOf, ℕ, List}
+use Rattle.std.specs.Prelude.{◌≡◌, ◌≢◌, ◌⊎◌, Result, Ok, Err, IfErr, IsErrAnd, IsErrOf, ℕ, List}
 use Rattle.std.proofs.Common.{sym, ap, subst, inl, inr, ◌∙◌}
 use Rattle.xdp_object.specs.xdp_machine.Program.{XdpProgram}
 use Rattle.xdp_object.specs.declared.error.ObjectError.{ObjectError}
@@ -7,13 +7,13 @@ use Rattle.xdp_object.specs.declared.error.ObjectError.TheVariants.{NoMemory as 
 use Rattle.xdp_object.specs.Choice.{Chosen}
 use Rattle.xdp_object.specs.Object.{FirstFault, IsObject}
 use Rattle.xdp_object.proofs.OutcomeLaws.{one_outcome, never_both}
-use Rattle.kind_core.specs.declared.why.Refusal.{Refusal}
-use Rattle.kind_core.specs.declared.why.BuildError.{BuildError}
-use Rattle.kind_core.specs.declared.why.BuildError.TheVariants as build
+use Rattle.xdp_state.specs.declared.refusal.Refusal.{Refusal}
+use Rattle.xdp_state.specs.declared.refusal.BuildError.{BuildError}
+use Rattle.xdp_state.specs.declared.refusal.BuildError.TheVariants as build
 use Rattle.unfold_core.specs.declared.links.Edge.{Edge}
 use Rattle.unfold_core.specs.declared.unfolding.Unfolded.{Unfolded}
 use Rattle.unfold_core.specs.Unfolding.{IsUnfolded, Unfolds}
-use Rattle.unfold_core.specs.Acceptance as graphs
+use Rattle.unfold_core.proofs.AcceptanceLaws.{unfolds_of}
 use Rattle.row_rules.specs.NodeRows.Rows.{HasStages, IsTooLate, AreCounted}
 use Rattle.row_rules.specs.NodeRows.Acceptance.{IsAccepted, IsFirstRefusal}
 use Rattle.row_rules.proofs.NodeRows.OneOutcomeLaws.{has_one_outcome}
@@ -28,14 +28,7 @@ pub err_with : {T E : Type 0} (P : E → Type 0) (e : E) (r : Result T E) → Is
 err_with P e (Ok x) is h = tt
 err_with P e (Err f) is h = subst P (sym is) h
 
--- and what follows of it
-pub ok_more : {T E : Type 0} (P Q : T → Type 0) (r : Result T E) → ((x : T) → P x → Q x) → IfOk r P → IfOk r Q
-ok_more P Q (Ok x) f h = f x h
-ok_more P Q (Err e) f h = tt
-
 -- ---- what is counted
-abbrev pub unfolds_of : (p : XdpProgram) (u : Unfolded) → IsUnfolded p u → graphs.IsAccepted p
-unfolds_of p u is = record { loops = u.loops.items; graph = u.nodes.items; has_loops = is.loops; is_graph = is.graph }
 
 abbrev pub accepted_of : (p : XdpProgram) (c : Counted) → IsCounted p c → IsAccepted p
 accepted_of p c is = record {

@@ -2,28 +2,28 @@
 use Rattle.std.specs.Prelude.{◌≡◌, ℕ, ◌+◌, ◌≤◌, IsTrue, List, length}
 use Rattle.std.specs.List.{AllByRecursion}
 use Rattle.std.proofs.Common.{refl, sym, ap, subst, ◌∙◌, arith}
-use Rattle.net_core.specs.beat_core.declared.answer.Answer.{Answer}
-use Rattle.net_core.specs.beat_core.Ports.{Arrival}
+use Rattle.beat_core.specs.declared.answer.Answer.{Answer}
+use Rattle.beat_core.specs.Ports.{Arrival}
 use Rattle.xdp_object.specs.xdp_maps.declared.decl.MapDecl.{MapDecl}
 use Rattle.xdp_object.specs.xdp_maps.State.{MapState}
 use Rattle.xdp_object.specs.xdp_machine.Program.{XdpProgram, IsProgram}
 use Rattle.xdp_object.specs.xdp_machine.Touched.{Touched}
 use Rattle.net_core.specs.Nets.{Netlist}
 use Rattle.net_core.specs.Clock.{first_stored}
-use Rattle.net_core.specs.History.{NeverStops, stored_after}
+use Rattle.net_core.specs.Trace.{NeverStops, stored_after}
 use Rattle.pipe_runs.specs.realization.HostHistory.Host.{load}
 use Rattle.verilog_write.specs.VerilogGrammar.Spelling.{Spells}
 use Rattle.hazard_core.specs.cell_core.Rows.{record_count}
 use Rattle.hazard_core.specs.cell_core.Sites.{ProgramView}
 use Rattle.predicate_core.specs.ProgramGraph.Graphs.{graph_of}
 use Rattle.pipe_runs.specs.pipe_core.Machine.{Build}
-use Rattle.pipe_runs.specs.pipe_core.Pipeable.{IsSuited}
-use Rattle.ehdl_build.specs.ProgramPlan.Suited.{ProgramsAreSuited}
+use Rattle.pipe_runs.specs.pipe_core.Pipeable.{IsPipelinable}
+use Rattle.ehdl_build.specs.ProgramPlan.Pipelinable.{ProgramsArePipelinable}
 use Rattle.pipe_design.specs.pipe_parts.PipeDraft.Program.{build_of}
 use Rattle.pipe_runs.specs.pipe_net.PipePlaces.Entries.{AccessesLead}
 use Rattle.pipe_runs.specs.pipe_net.Layout.{last_of}
 use Rattle.pipe_runs.specs.pipe_net.PipeForms.Parts.{design, names_of}
-use Rattle.net_core.specs.ProductRules.Products.{products_apart}
+use Rattle.net_core.specs.ProductRules.Products.{no_product_chains}
 use Rattle.net_core.specs.SameClocks.Same.{ShowTheSame}
 use Rattle.net_core.proofs.SameClocks.SameLaws.{same_never_stops}
 use Rattle.pipe_runs.proofs.realization_laws.SameDesigns.MeetLaws.{same_designs_meet}
@@ -38,7 +38,7 @@ use Rattle.ehdl_build.specs.Steps.{IsPipelineOf}
 use Rattle.ehdl_build.proofs.Sequential.{in_sequence}
 use Rattle.ehdl_build.proofs.Apart.{runs_touch, apart_by_less}
 
-module _ (meet : PipelinesMeet) (suits : ProgramsAreSuited) (p : XdpProgram) (z : PipelineSize) (n : Netlist) (program : IsProgram p) (is : IsPipelineOf p z n) where
+module _ (meet : PipelinesMeet) (suits : ProgramsArePipelinable) (p : XdpProgram) (z : PipelineSize) (n : Netlist) (program : IsProgram p) (is : IsPipelineOf p z n) where
   made : IsDesignOf is.cells is.plan p.decls n
   made = is.pipeline.is
 
@@ -48,9 +48,9 @@ module _ (meet : PipelinesMeet) (suits : ProgramsAreSuited) (p : XdpProgram) (z 
   last : last_of made.layout ≡ is.plan.last
   last = ap (λ (b : Build). b.plan.last) build
 
-  suited : IsSuited made.layout.decls made.layout.build
-  suited = subst (λ (b : Build). IsSuited made.layout.decls b) (sym build)
-      (subst (λ (ds : List MapDecl). IsSuited ds (build_of is.cells is.plan)) (sym made.made.decls_are)
+  pipelinable : IsPipelinable made.layout.decls made.layout.build
+  pipelinable = subst (λ (b : Build). IsPipelinable made.layout.decls b) (sym build)
+      (subst (λ (ds : List MapDecl). IsPipelinable ds (build_of is.cells is.plan)) (sym made.made.decls_are)
       (suits (graph_of p is.are_cells.graph) is.cells is.plan (is.plan.last + 4) is.are_cells.law is.are_cells.buildable is.planned.is))
 
   -- the cells of packets are their sequential runs
@@ -70,7 +70,7 @@ module _ (meet : PipelinesMeet) (suits : ProgramsAreSuited) (p : XdpProgram) (z 
 
   loaded : (maps : MapState) → AreMapsOf p maps → MeetsLoaded made.layout maps n
   loaded maps are = subst (MeetsLoaded made.layout maps) (sym made.is)
-      (meet made.layout made.whole (names_of made.whole) made.made.pipeline (subst AccessesLead (sym build) is.prepared.leads) suited
+      (meet made.layout made.whole (names_of made.whole) made.made.pipeline (subst AccessesLead (sym build) is.prepared.leads) pipelinable
       (ap (λ (b : Build). b.slots) build ∙ ap (λ k. k + 4) (sym last)) maps (are.declared ∙ sym made.made.decls_are) are.sound (let few = ap length are.declared in omega (arith, few, program.maps)))
 
   meets : (maps : MapState) → AreMapsOf p maps → Meets n (stored_after n (first_stored n) (load maps)) (IsSequential p maps) (DoNotConflict p maps z.stages) z.stages z.records
@@ -81,7 +81,7 @@ module _ (meet : PipelinesMeet) (suits : ProgramsAreSuited) (p : XdpProgram) (z 
       (wanted maps are) (apart maps are) (omega (arith, last, is.planned.within)) (omega (arith, records, is.records)) (loaded maps are).meets
 
   -- a design that shows the same realizes the program, too
-  pub realizes : (m : Netlist) → ShowTheSame n m → IsTrue (products_apart m) → (text : List ℕ) → Spells text m → Realizes text p z
+  pub realizes : (m : Netlist) → ShowTheSame n m → IsTrue (no_product_chains m) → (text : List ℕ) → Spells text m → Realizes text p z
   realizes m same products text spells = record {
     design = m;
     spells = spells;

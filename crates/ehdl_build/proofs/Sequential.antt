@@ -3,9 +3,9 @@ use Rattle.std.specs.Prelude.{◌≡◌, ℕ, ◌<◌, All, List, [], ◌∷◌}
 use Rattle.std.specs.List.{AllByRecursion}
 use Rattle.std.proofs.Common.{refl, sym, ap, ap₂, ◌∙◌, arith}
 use Rattle.std.proofs.lemmas.List.{get_or_default}
-use Rattle.net_core.specs.beat_core.declared.answer.Answer.{Answer}
-use Rattle.net_core.specs.beat_core.Ports.{Arrival}
-use Rattle.net_core.specs.list_laws.Bytes.{IsBytes}
+use Rattle.beat_core.specs.declared.answer.Answer.{Answer}
+use Rattle.beat_core.specs.Ports.{Arrival}
+use Rattle.beat_core.specs.list_laws.Bytes.{IsBytes}
 use Rattle.xdp_object.specs.xdp_maps.State.{MapState, IsSound}
 use Rattle.xdp_object.specs.xdp_machine.Program.{XdpProgram, IsProgram}
 use Rattle.xdp_object.specs.xdp_machine.State.{start}

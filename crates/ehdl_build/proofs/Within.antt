@@ -1,20 +1,16 @@
 -- The last row of a plan is among the stages, and no plan is refused.
-use Rattle.std.specs.Prelude.{◌≢◌, ℕ, ◌≤◌, List, [], ◌∷◌, ◌++◌, slice_index}
+use Rattle.std.specs.Prelude.{◌≢◌, ℕ, ◌≤◌, slice_index}
 use Rattle.std.proofs.Common.{refl, ap, arith}
-use Rattle.kind_core.specs.declared.why.Refusal.{Refusal}
-use Rattle.kind_core.specs.declared.why.BuildError.{BuildError}
-use Rattle.kind_core.specs.declared.why.BuildError.TheVariants as build
-use Rattle.hazard_core.specs.cell_core.declared.program.Node.{Node}
+use Rattle.xdp_state.specs.declared.refusal.Refusal.{Refusal}
+use Rattle.xdp_state.specs.declared.refusal.BuildError.{BuildError}
+use Rattle.xdp_state.specs.declared.refusal.BuildError.TheVariants as build
 use Rattle.hazard_core.specs.cell_core.Sites.{ProgramView}
-use Rattle.hazard_core.specs.cell_core.Rows.{node_row, last_row}
+use Rattle.hazard_core.specs.cell_core.Rows.{last_row}
 use Rattle.row_plan.specs.Plan.{Plan, IsPlan, IsTooLate}
 use Rattle.row_plan.specs.Steps.{IsRefusedBy}
+use Rattle.row_plan.proofs.RowLaws.{below_last}
 use Rattle.ehdl_build.specs.Pipelines.{StandWithin}
 use Rattle.ehdl_build.specs.Steps.{IsPlanWithin}
-
-below_last : (row : ℕ → ℕ) (xs more : List Node) (n : Node) → node_row row n ≤ last_row row (xs ++ n ∷ more)
-below_last row [] more n = omega arith
-below_last row (x ∷ xs) more n = omega (arith, below_last row xs more n)
 
 pub plan_within : (stages : ℕ) (cells : ProgramView) (plan : Plan) → StandWithin stages cells → IsPlan cells plan → IsPlanWithin stages cells plan
 plan_within stages cells plan within planned = record { is = planned; within = omega (arith, planned.last, within (slice_index plan.rows) planned.rows) }

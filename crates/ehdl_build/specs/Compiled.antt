@@ -9,19 +9,20 @@ use Rattle.xdp_object.specs.xdp_machine.Runs.{Leaves, AreRuns}
 use Rattle.xdp_object.specs.xdp_machine.Touched.{Touched, AllTouch}
 use Rattle.net_core.specs.Nets.{Netlist}
 use Rattle.net_core.specs.Clock.{first_stored}
-use Rattle.net_core.specs.History.{Arrival, NeverStops, stored_after}
-use Rattle.net_core.specs.beat_core.declared.answer.Answer.{Answer}
+use Rattle.net_core.specs.Trace.{NeverStops, stored_after}
+use Rattle.beat_core.specs.Ports.{Arrival}
+use Rattle.beat_core.specs.declared.answer.Answer.{Answer}
 use Rattle.pipe_runs.specs.realization.HostHistory.Host.{load}
 use Rattle.verilog_write.specs.VerilogGrammar.Spelling.{Spells}
 use Rattle.ehdl_build.specs.declared.built.Built.{Built}
 use Rattle.ehdl_build.specs.declared.built.CompileError.{CompileError}
 use Rattle.ehdl_build.specs.declared.built.CompileError.TheVariants.{Object, Refused, NoMemory}
-use Rattle.kind_core.specs.declared.why.Refusal.{Refusal}
-use Rattle.kind_core.specs.declared.why.BuildError.{BuildError}
-use Rattle.kind_core.specs.declared.why.BuildError.TheVariants as build
+use Rattle.xdp_state.specs.declared.refusal.Refusal.{Refusal}
+use Rattle.xdp_state.specs.declared.refusal.BuildError.{BuildError}
+use Rattle.xdp_state.specs.declared.refusal.BuildError.TheVariants as build
 use Rattle.row_rules.specs.NodeRows.Acceptance.{IsAccepted, IsFirstRefusal}
-use Rattle.pipe_runs.specs.realization.Bounds.{AreApart}
-use Rattle.net_core.specs.ProductRules.Products.{products_apart}
+use Rattle.pipe_runs.specs.realization.Bounds.{ConflictFree}
+use Rattle.net_core.specs.ProductRules.Products.{no_product_chains}
 use Rattle.pipe_runs.specs.realization.Realizes.{Meets}
 
 -- what is run of a program
@@ -45,7 +46,7 @@ pub record IsSequential (p : XdpProgram) (maps : MapState) (packets : List Arriv
 -- The runs of packets touch this, and none reads what one of fewer than S + 4 before it wrote.
 pub record DoNotConflict (p : XdpProgram) (maps : MapState) (stages : ℕ) (packets : List Arrival) (ts : List Touched) : Type 0 where
   pub touch : AllTouch (code_of p) maps (packets_in packets) ts
-  pub apart : AreApart (stages + 3) ts
+  pub apart : ConflictFree (stages + 3) ts
 
 -- the last stage of a program's pipeline, the number of its record sites, and the nodes of its unfolded graph
 pub record PipelineSize : Type 0 where
@@ -70,7 +71,7 @@ pub record AreMapsOf (p : XdpProgram) (maps : MapState) : Type 0 where
 pub record Realizes (text : List ℕ) (p : XdpProgram) (z : PipelineSize) : Type 0 where
   pub design : Netlist
   pub spells : Spells text design
-  pub products : IsTrue (products_apart design)
+  pub products : IsTrue (no_product_chains design)
   pub loads : (maps : MapState) → AreMapsOf p maps → NeverStops design (first_stored design) (load maps)
   pub meets : (maps : MapState) → AreMapsOf p maps →
       Meets design (stored_after design (first_stored design) (load maps)) (IsSequential p maps) (DoNotConflict p maps z.stages) z.stages z.records

@@ -1,3 +1,3 @@
-pub mod Suited
+pub mod Pipelinable
 pub mod ReadCells
 pub mod Leading

@@ -3,9 +3,9 @@ use Rattle.std.specs.Prelude.{◌≡◌, ◌≤◌, ℕ, IsTrue, List, length}
 use Rattle.xdp_object.specs.xdp_maps.declared.decl.MapDecl.{MapDecl}
 use Rattle.xdp_object.specs.xdp_machine.Program.{XdpProgram}
 use Rattle.net_core.specs.Nets.{Netlist}
-use Rattle.net_core.specs.ProductRules.Products.{products_apart}
-use Rattle.kind_core.specs.declared.why.BuildError.{BuildError}
-use Rattle.kind_core.specs.declared.why.BuildError.TheVariants as build
+use Rattle.net_core.specs.ProductRules.Products.{no_product_chains}
+use Rattle.xdp_state.specs.declared.refusal.BuildError.{BuildError}
+use Rattle.xdp_state.specs.declared.refusal.BuildError.TheVariants as build
 use Rattle.unfold_core.specs.Unfolding.{IsUnfolded}
 use Rattle.row_rules.specs.NodeRows.Rows.{HasStages}
 use Rattle.row_rules.specs.NodeRows.Acceptance.{IsFirstRefusal}
@@ -39,7 +39,7 @@ pub record IsPlanWithin (stages : ℕ) (cells : ProgramView) (plan : Plan) : Typ
 -- a pipeline of planned cells with these maps, with products apart
 pub record IsSoundPipeline (cells : ProgramView) (plan : Plan) (decls : List MapDecl) (n : Netlist) : Type 0 where
   pub is : IsDesignOf cells plan decls n
-  pub apart : IsTrue (products_apart n)
+  pub apart : IsTrue (no_product_chains n)
 
 -- a pipeline of a program's cells, of this size at most
 pub record IsPipelineOf (p : XdpProgram) (z : PipelineSize) (n : Netlist) : Type 0 where

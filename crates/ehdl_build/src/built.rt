@@ -4,15 +4,15 @@ ghost use Rattle.std.specs.Prelude.{◌≡◌, ◌≢◌, ◌⊎◌, IfErr, IfOk
 ghost use Rattle.xdp_object.specs.declared.error.ObjectError.{ObjectError};
 ghost use Rattle.xdp_object.specs.Choice.{chosen_of};
 ghost use Rattle.xdp_object.specs.Object.{FirstFault};
-ghost use Rattle.kind_core.specs.declared.why.Refusal.{Refusal};
+ghost use Rattle.xdp_state.specs.declared.refusal.Refusal.{Refusal};
 ghost use Rattle.ehdl_build.specs.Compiled.{Compiles, FailsFor, IsRefused, compile_error};
 
 use crate::counted::count;
 use crate::pipelined::realize;
 use hazard_core::cell_core::xdp_state::xdp_maps::decl::MapDecl;
-use kind_core::{BuildError, Refusal};
 use std::alloc::{AllocError, Global};
 use xdp_object::{Choice, ObjectError, read_object};
+use xdp_state::{BuildError, Refusal};
 
 /// What an object was compiled to.
 #[derive(Debug, Drop)]

@@ -1,15 +1,15 @@
 // What is counted of a program: its graph and its stages.
 
 ghost use Rattle.std.specs.Prelude.{◌≡◌, ◌⊎◌, IfErr, IfOk, IsErrOf};
-ghost use Rattle.kind_core.specs.declared.why.Refusal.{Refusal};
+ghost use Rattle.xdp_state.specs.declared.refusal.Refusal.{Refusal};
 ghost use Rattle.row_rules.specs.NodeRows.Acceptance.{IsAccepted, IsFirstRefusal};
 ghost use Rattle.ehdl_build.specs.Steps.{IsCounted, FailsCounting};
 
-use kind_core::BuildError;
 use row_rules::node_rows::{Stages, count_stages};
 use std::alloc::Global;
 use unfold_core::{Unfolded, unfold};
 use xdp_object::Program;
+use xdp_state::BuildError;
 
 /// The graph of an accepted program, and its stages.
 #[derive(Drop)]

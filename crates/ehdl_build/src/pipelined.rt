@@ -2,6 +2,7 @@
 
 ghost use Rattle.std.specs.Prelude.{◌≡◌, ◌<◌, ◌≤◌, ◌^◌, length, IfOk};
 ghost use Rattle.xdp_object.specs.xdp_machine.Program.{IsProgram};
+ghost use Rattle.xdp_state.specs.Reasons.{most_stages};
 ghost use Rattle.net_core.specs.View.{netlist_of};
 ghost use Rattle.verilog_write.specs.design_rules.Formed.{IsWellFormed};
 ghost use Rattle.hazard_core.specs.cell_core.View.{program_of};
@@ -14,10 +15,9 @@ ghost use Rattle.ehdl_build.specs.Steps.{IsCounted, IsPlanWithin, IsSoundPipelin
 
 use crate::counted::Counted;
 use crate::pipe_programs::laws::programs_are_prepared;
-use crate::program_plan::laws::suited;
+use crate::program_plan::laws::pipelinable;
 use hazard_core::cell_core::program::CellProgram;
 use hazard_core::cell_core::xdp_state::xdp_maps::decl::MapDecl;
-use kind_core::BuildError;
 use net_core::design::Design;
 use net_optimize::optimized;
 use pipe_design::{PipelineError, pipeline};
@@ -27,12 +27,13 @@ use row_plan::{RowPlan, plan};
 use std::alloc::{AllocError, Global};
 use verilog_write::write_text;
 use xdp_object::Program;
+use xdp_state::BuildError;
 
 // The plan of cells, of so many stages at most.
 fn planned(alloc: Global, cells: &CellProgram, stages: u32) -> Result<RowPlan, AllocError>
     requires formed { AreFormed (program_of cells.now).cells }
     requires few { length cells.now.cells.items < 2 ^ 32 }
-    requires stages { stages ≤ 256 }
+    requires stages { stages ≤ most_stages }
     requires within { StandWithin stages (program_of cells.now) }
     ensures { IfOk result (IsPlanWithin stages (program_of cells.now)) }
 {
@@ -92,7 +93,7 @@ pub(crate) fn realize(
     requires counted { IsCounted program.now counted.now }
     ensures { IfOk result (λ text. Realizes text.items program.now (counted_size counted.now)) }
 {
-    suited();
+    pipelinable();
     pipelines_meet();
     let design = pipeline_of(alloc, program, counted)?;
     let shorter = optimized(alloc, design)?;

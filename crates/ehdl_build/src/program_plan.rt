@@ -1,3 +1,3 @@
-//! Programs are suited for the pipe: what the cells and the plan of a program say is all that the machine of `pipe_core` asks of them. There is no code.
+//! Programs are pipelinable: what the cells and the plan of a program say is all that the machine of `pipe_core` asks of them. There is no code.
 
 pub mod laws;

@@ -20,7 +20,7 @@ use Rattle.ehdl_top.proofs.FormLemmas.{inputs_sound}
 use Rattle.ehdl_top.proofs.OutcomeLemmas.{outcome_ready, ends_one}
 
 -- A command has ended with this status: a read failed; memory ran out, and nothing was written; an input is not in its form; a write
--- failed; all was written; all was written, and memory ran out behind it; all was written, and a put of the command's lines failed.
+-- failed; all was written; all was written, and memory ran out after it; all was written, and a put of the command's lines failed.
 pub data Ended (request : Request) (old new : ShelfState) (before after : SinkState) (result : Status) : Type 0 where
   AtRead : result ≡ status.ReadFault → OneUnread (inputs_of request old.held) old new → Changes [] old new → Ended request old new before after result
   Out : result ≡ status.NoMemory → Changes [] old new → Ended request old new before after result

@@ -25,7 +25,7 @@ use Rattle.xdp_object.specs.xdp_machine.State.{Code, PacketIn, start}
 use Rattle.xdp_object.specs.xdp_machine.Runs.{Leaves, Progress, IsRun, AreRuns}
 use Rattle.xdp_object.specs.xdp_machine.MachineLaws.{KeepsSizes}
 use Rattle.kind_core.proofs.xdp_machine_laws.RunLaws.{runs_keep_sizes}
-use Rattle.kind_core.specs.declared.why.Refusal.{Refusal}
+use Rattle.xdp_state.specs.declared.refusal.Refusal.{Refusal}
 use Rattle.row_rules.specs.NodeRows.Acceptance.{IsFirstRefusal}
 use Rattle.row_rules.proofs.NodeRows.OneOutcomeLaws.{has_one_outcome}
 use Rattle.port_drive.specs.realization.Bounds.{clock_bound, most_beats}

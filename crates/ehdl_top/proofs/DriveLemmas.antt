@@ -11,8 +11,10 @@ use Rattle.net_core.specs.Names.{name_place}
 use Rattle.net_core.specs.Value.{Env, stops}
 use Rattle.net_core.specs.Clock.{Stored, after, stopping, stopped_at, rights, env_of}
 use Rattle.net_core.specs.Ports.{words_of}
-use Rattle.net_core.specs.History.{Cycle, cycle_of, answers_given, given_out, goes_out, shown_beat, drive_inputs, left_after, owed_after, Drive, drive, and_then, Ended, Answered, Stopped, OutOfClocks}
-use Rattle.port_drive.proofs.DriveLaws.{done_drive, late_drive, stopped_drive, next_drive}
+use Rattle.realization.proofs.DriveLaws.{stopped_drive}
+use Rattle.net_core.specs.Trace.{Cycle, cycle_of}
+use Rattle.port_drive.specs.realization.History.{answers_given, given_out, goes_out, shown_beat, drive_inputs, left_after, owed_after, Drive, drive, and_then, Ended, Answered, Stopped, OutOfClocks}
+use Rattle.port_drive.proofs.DriveLaws.{done_drive, late_drive, next_drive}
 use Rattle.verilog_read.specs.design_rules.Formed.{IsWellFormed}
 use Rattle.verilog_read.proofs.design_rules_laws.FormedItemLaws.{last_kept}
 

@@ -46,7 +46,7 @@ module _ (request : Request) (old mid new : ShelfState) (e : CommandError) (kept
       let P : CommandError → Type 0 = StopsBy request old new in
       record { by = subst P (sym is) stops; kept = changes_within (outputs_of request) old new (changes_then [] old mid new kept same) }
 
-  -- memory ran out behind what was read
+  -- memory ran out after what was read
   pub ends_out : {T : Type 0} (r : Result T CommandError) → IsErrAnd r (λ f. f ≡ e) → e ≡ error.NoMemory → EndsIn request old new r
   ends_out r is memory = ends_stopped r is (OutOfMemory memory (changes_then [] old mid new kept same))
 

@@ -16,7 +16,7 @@ use Rattle.xdp_maps.specs.declared.decl.MapDecl.{MapDecl}
 use Rattle.xdp_maps.specs.State.{MapState}
 use Rattle.maps_text.specs.Text.{IsMapsText}
 use Rattle.maps_text.proofs.TextLaws.{never_both}
-use Rattle.kind_core.specs.declared.why.Refusal.{Refusal}
+use Rattle.xdp_state.specs.declared.refusal.Refusal.{Refusal}
 use Rattle.row_rules.proofs.NodeRows.OneOutcomeLaws.{has_one_outcome}
 use Rattle.shelf_core.specs.Shelf.{Holding}
 use Rattle.command_line.specs.Request.{Request, AskCompile, AskRun, AskSim, AskRef, AskReport, AskDemo}

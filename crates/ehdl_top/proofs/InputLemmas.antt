@@ -80,7 +80,7 @@ pub may_sound : (name : Option (List ℕ)) (form : InputForm) (after : List Inpu
 may_sound (Some name) form after sound more = (sound, more)
 may_sound None form after sound more = more
 
--- one that was not read, behind some that were
+-- one that was not read, after some that were
 pub unread_behind : (before : List Input) (i : Input) (after : List Input) (old new : ShelfState) → (IsTrue old.tells → AreReady before old.held) → Rose (old.read_faults i.name) (new.read_faults i.name) → OneUnread (before ++ i ∷ after) old new
 unread_behind [] i after old new ready rose = inl rose
 unread_behind (j ∷ before) i after old new ready rose = inr (λ told. (ready told).0, unread_behind before i after old new (λ told. (ready told).1) rose)

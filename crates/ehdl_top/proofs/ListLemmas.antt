@@ -1,4 +1,4 @@
--- The elements of a list before one, and behind it.
+-- The elements of a list before one, and after it.
 use Rattle.std.proofs.Common.{◌≡◌, ℕ, zero, suc, ◌<◌, List, [], ◌∷◌, ◌++◌, length, map, get_or, take, drop, Result, Ok, Err, OnErr, refl, ap, sym, ◌∙◌, arith}
 
 -- the image of one more
@@ -15,7 +15,7 @@ map_split f [] i d within = absurd (omega arith)
 map_split f (x ∷ xs) zero d within = refl
 map_split f (x ∷ xs) (suc i) d within = ap (λ l. f x ∷ l) (map_split f xs i d (omega arith))
 
--- those before it, itself, and those behind it
+-- those before it, itself, and those after it
 pub map_split_at : {X Y : Type 0} (f : X → Y) (xs : List X) (i : ℕ) (x : X) → i < length xs → x ≡ get_or xs i x → map f xs ≡ map f (take i xs) ++ f x ∷ map f (drop (suc i) xs)
 map_split_at f xs i x within is = map_split f xs i x within ∙ ap (λ y. map f (take i xs) ++ f y ∷ map f (drop (suc i) xs)) (sym is)
 

@@ -3,16 +3,16 @@ use Rattle.std.proofs.Common.{ℕ, List, [], ◌∷◌, arith}
 use Rattle.command_line.specs.Request.{Request, AskCompile, AskRun, AskSim, AskRef, AskReport, AskDemo, Names, files_of}
 use Rattle.command_line.specs.Means as words
 use Rattle.command_line.specs.AsksFor.{AsksFor}
-use Rattle.ehdl_top.specs.Steps.{AreApart, IsTextApart, NamesApart}
+use Rattle.ehdl_top.specs.Steps.{AreDistinct, IsTextApart, NamesApart}
 
-files_apart : (names : Names) → words.AreApart (files_of names) → AreApart names
+files_apart : (names : Names) → words.AreDistinct (files_of names) → AreDistinct names
 files_apart names apart = record {
   answer_verdicts = apart 2 3 [] (omega arith) (omega arith);
   answer_final = apart 2 4 [] (omega arith) (omega arith);
   verdicts_final = apart 3 4 [] (omega arith) (omega arith);
 }
 
-text_apart : (names : Names) (verilog : List ℕ) → words.AreApart (verilog ∷ files_of names) → IsTextApart names verilog
+text_apart : (names : Names) (verilog : List ℕ) → words.AreDistinct (verilog ∷ files_of names) → IsTextApart names verilog
 text_apart names verilog apart = record {
   answer = apart 0 3 [] (omega arith) (omega arith);
   verdicts = apart 0 4 [] (omega arith) (omega arith);

@@ -4,7 +4,7 @@ use Rattle.std.proofs.lemmas.List.{length-map}
 use Rattle.shelf_core.specs.Shelf.{Holding}
 use Rattle.pcap_core.specs.Format.{Packet, Content}
 use Rattle.net_core.specs.Nets.{Netlist}
-use Rattle.net_core.specs.History.{Arrival}
+use Rattle.port_drive.specs.realization.History.{Arrival}
 use Rattle.beat_core.specs.declared.answer.Answer.{Answer}
 use Rattle.beat_core.specs.declared.frame.Timed.{Timed}
 use Rattle.beat_core.specs.Laws.{arrival_of}
@@ -37,7 +37,7 @@ use Rattle.ehdl_top.specs.Simulation.{Simulation, simulation, final_text, given_
 use Rattle.ehdl_top.specs.Report.{report_lines}
 use Rattle.ehdl_top.specs.Outcome.{IsSimulated, IsReported, IsDemo}
 use Rattle.ehdl_top.specs.Requests.{inputs_of, outputs_of, IsOutcome, EndsItself}
-use Rattle.ehdl_top.specs.Steps.{IsRead, AreRead, IsBuiltOf, IsAcceptedBy, IsCaptureOf, IsRunOf, IsSimOf, IsReferenceOf, AreApart, IsTextApart, FailsWrite, WritesAll, write_of, stamp_of}
+use Rattle.ehdl_top.specs.Steps.{IsRead, AreRead, IsBuiltOf, IsAcceptedBy, IsCaptureOf, IsRunOf, IsSimOf, IsReferenceOf, AreDistinct, IsTextApart, FailsWrite, WritesAll, write_of, stamp_of}
 use Rattle.ehdl_top.proofs.StateLemmas.{tells_later}
 use Rattle.ehdl_top.proofs.ProgramLemmas.{accepted_of}
 use Rattle.ehdl_top.proofs.InputLemmas.{holds_both, ready_both}
@@ -211,7 +211,7 @@ compile_makes object verilog chosen old bytes pipeline ws read is e told = recor
   of = (inl refl, (inl refl, tt));
 }
 
-pub run_makes : (names : Names) (verilog : List ℕ) (chosen : Chosen) (ifindex : ℕ) (a b c : ShelfState) (object capture : List ℕ) (pipeline : Built) (first : MapState) (magic : ℕ) (packets : List Packet) (writes : List code.Write) → AreApart names → IsTextApart names verilog → Changes [] a b → Changes [] a c
+pub run_makes : (names : Names) (verilog : List ℕ) (chosen : Chosen) (ifindex : ℕ) (a b c : ShelfState) (object capture : List ℕ) (pipeline : Built) (first : MapState) (magic : ℕ) (packets : List Packet) (writes : List code.Write) → AreDistinct names → IsTextApart names verilog → Changes [] a b → Changes [] a c
     → IsRead (program_form chosen built) names.object a object → (is : IsBuiltOf chosen object pipeline) → AreRead names.maps is.program.decls b first → IsRead capture_form names.capture c capture → IsCaptured capture magic packets
     → IsRunOf names verilog pipeline.text.items is.program first ifindex magic packets writes → IsTrue a.tells → Makes (AskRun names verilog chosen ifindex) a.held None (map write_of writes)
 run_makes names verilog chosen ifindex a b c object capture pipeline first magic packets writes apart own same same' read is starts read' captured run told = record {
@@ -241,7 +241,7 @@ run_makes names verilog chosen ifindex a b c object capture pipeline first magic
   of = run_of names verilog pipeline.text.items magic packets run.answers (text_of run.final);
 }
 
-pub sim_makes : (names : Names) (verilog : List ℕ) (chosen : Chosen) (ifindex clocks : ℕ) (a b c d : ShelfState) (object text capture : List ℕ) (program : XdpProgram) (design : Netlist) (first : MapState) (magic : ℕ) (packets : List Packet) (simulated : Simulated) → AreApart names → Changes [] a b → Changes [] a c → Changes [] a d
+pub sim_makes : (names : Names) (verilog : List ℕ) (chosen : Chosen) (ifindex clocks : ℕ) (a b c d : ShelfState) (object text capture : List ℕ) (program : XdpProgram) (design : Netlist) (first : MapState) (magic : ℕ) (packets : List Packet) (simulated : Simulated) → AreDistinct names → Changes [] a b → Changes [] a c → Changes [] a d
     → IsRead (object_form chosen) names.object a object → IsObject chosen object program → IsRead text_form verilog b text → IsTextOf text design → AreRead names.maps program.decls c first → IsRead capture_form names.capture d capture → IsCaptured capture magic packets
     → IsSimOf names design first ifindex clocks magic packets simulated → IsTrue a.tells → Makes (AskSim names verilog chosen ifindex clocks) a.held simulated.end (map write_of simulated.writes.items)
 sim_makes names verilog chosen ifindex clocks a b c d object text capture program design first magic packets simulated apart same same' same'' read is read' spells starts read'' captured sim told = record {
@@ -266,7 +266,7 @@ sim_makes names verilog chosen ifindex clocks a b c d object text capture progra
   of = result_names names magic packets sim.given.answers (final_text sim.given.end);
 }
 
-pub ref_makes : (names : Names) (chosen : Chosen) (ifindex : ℕ) (a b c : ShelfState) (object capture : List ℕ) (program : XdpProgram) (first : MapState) (magic : ℕ) (packets : List Packet) (writes : List code.Write) → AreApart names → Changes [] a b → Changes [] a c
+pub ref_makes : (names : Names) (chosen : Chosen) (ifindex : ℕ) (a b c : ShelfState) (object capture : List ℕ) (program : XdpProgram) (first : MapState) (magic : ℕ) (packets : List Packet) (writes : List code.Write) → AreDistinct names → Changes [] a b → Changes [] a c
     → IsRead (program_form chosen accepted) names.object a object → IsTaken chosen accepted object program → AreRead names.maps program.decls b first → IsRead capture_form names.capture c capture → IsCaptured capture magic packets
     → IsReferenceOf names program first ifindex magic packets writes → IsTrue a.tells → Makes (AskRef names chosen ifindex) a.held None (map write_of writes)
 ref_makes names chosen ifindex a b c object capture program first magic packets writes apart same same' read is starts read' captured ref told = record {

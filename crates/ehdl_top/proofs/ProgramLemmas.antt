@@ -1,20 +1,17 @@
 -- Programs that are accepted, by what is counted of them.
 use Rattle.std.proofs.Common.{◌≡◌, List, Result, Ok, Err, IfErr, IsErrAnd, subst, sym, inl, inr}
 use Rattle.xdp_object.specs.xdp_machine.Program.{XdpProgram}
-use Rattle.kind_core.specs.declared.why.Refusal.{Refusal}
-use Rattle.kind_core.specs.declared.why.BuildError.{BuildError}
-use Rattle.kind_core.specs.declared.why.BuildError.TheVariants.{Refused, NoMemory}
+use Rattle.xdp_state.specs.declared.refusal.Refusal.{Refusal}
+use Rattle.xdp_state.specs.declared.refusal.BuildError.{BuildError}
+use Rattle.xdp_state.specs.declared.refusal.BuildError.TheVariants.{Refused, NoMemory}
 use Rattle.unfold_core.specs.declared.links.Edge.{Edge}
 use Rattle.unfold_core.specs.declared.unfolding.Unfolded.{Unfolded}
 use Rattle.unfold_core.specs.Unfolding.{IsUnfolded, Unfolds}
-use Rattle.unfold_core.specs.Acceptance as graphs
+use Rattle.unfold_core.proofs.AcceptanceLaws.{unfolds_of}
 use Rattle.row_rules.specs.declared.node_rows.stages.Stages.{Stages}
 use Rattle.row_rules.specs.NodeRows.Rows.{HasStages, IsTooLate, AreCounted}
 use Rattle.row_rules.specs.NodeRows.Acceptance.{IsAccepted, HasTooManyStages}
 use Rattle.ehdl_top.specs.Steps.{FailsProgram}
-
-abbrev pub unfolds_of : (p : XdpProgram) (u : Unfolded) → IsUnfolded p u → graphs.IsAccepted p
-unfolds_of p u is = record { loops = u.loops.items; graph = u.nodes.items; has_loops = is.loops; is_graph = is.graph }
 
 abbrev pub accepted_of : (p : XdpProgram) (u : Unfolded) (s : Stages) → IsUnfolded p u → HasStages p u.nodes.items u.edges.items s → IsAccepted p
 accepted_of p u s is has = record { unfolds = unfolds_of p u is; stages = s; has_stages = subst (λ (es : List Edge). HasStages p u.nodes.items es s) is.edges has }

@@ -11,7 +11,7 @@ use Rattle.ehdl_top.specs.Ends.{ArePut, AreCutOff}
 use Rattle.ehdl_top.proofs.StateLemmas.{rose_from}
 
 -- ---- one line more
--- behind the lines so far, as one text
+-- after the lines so far, as one text
 joined : (old : Option (List ℕ)) (lines : List (List ℕ)) (line : List ℕ) (rest : List (List ℕ)) → (appended old (concat lines) ++ line) ++ concat rest ≡ appended old (concat (lines ++ line ∷ rest))
 joined old lines line rest =
     append_assoc (appended old (concat lines)) line (concat rest) ∙ append_assoc (content_of old) (concat lines) (line ++ concat rest)

@@ -10,7 +10,7 @@ use Rattle.beat_core.specs.Laws.{arrival_of}
 use Rattle.net_core.specs.declared.ports.Inputs.{Inputs}
 use Rattle.net_core.specs.Nets.{Netlist}
 use Rattle.net_core.specs.Clock.{Stored, first_stored}
-use Rattle.net_core.specs.History.{Answered, NeverStops, answers_given, stored_after, drive}
+use Rattle.net_core.specs.Trace.{NeverStops, stored_after}
 use Rattle.port_drive.specs.Hosting.{ClocksOrNone}
 use Rattle.port_drive.proofs.HostLaws.{never_stops}
 use Rattle.port_drive.specs.Reports.{full_drive, given_in}
@@ -25,6 +25,7 @@ use Rattle.xdp_object.specs.xdp_machine.State.{Code, PacketIn, start}
 use Rattle.xdp_object.specs.xdp_machine.Runs.{Leaves, Progress, IsRun, AreRuns}
 use Rattle.xdp_object.specs.xdp_machine.MachineLaws.{KeepsSizes}
 use Rattle.kind_core.proofs.xdp_machine_laws.RunLaws.{runs_keep_sizes}
+use Rattle.port_drive.specs.realization.History.{Answered, answers_given, drive}
 use Rattle.port_drive.specs.realization.HostHistory.Host.{load, ShowsMaps}
 use Rattle.ehdl_build.specs.declared.built.Built.{Built}
 use Rattle.port_drive.specs.realization.Bounds.{clock_bound, most_beats}

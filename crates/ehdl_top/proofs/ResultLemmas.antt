@@ -6,7 +6,7 @@ use Rattle.beat_core.specs.declared.answer.Answer.{Answer}
 use Rattle.command_line.specs.Request.{Names}
 use Rattle.ehdl_top.specs.Writes.{names_in, Write, Append}
 use Rattle.ehdl_top.specs.Results.{texts, record_at, line_at, answer_bytes, verdict_lines, line_of, no_answer, packet_writes, final_writes, result_writes, compile_outputs, result_outputs, run_outputs}
-use Rattle.ehdl_top.specs.Steps.{AreApart, IsTextApart}
+use Rattle.ehdl_top.specs.Steps.{AreDistinct, IsTextApart}
 use Rattle.ehdl_top.proofs.StateLemmas.{IsOneOf}
 use Rattle.ehdl_top.proofs.WriteLemmas.{AreOf, of_both, Adds, Builds, AreBuilt, adds_as, adds_both, Skips, skips_both, skips_adds, builds_after}
 
@@ -51,11 +51,11 @@ final_of names None those one = tt
 turned : (a b : List ℕ) → a ≢ b → b ≢ a
 turned a b apart e = apart (sym e)
 
--- what packets add, with no more of the name behind them
+-- what packets add, with no more of the name after them
 then_none : (ws vs : List Write) (name bytes : List ℕ) → Adds ws name bytes → Skips vs name → Adds (ws ++ vs) name bytes
 then_none ws vs name bytes adds skips = adds_as (ws ++ vs) name (bytes ++ []) bytes (append-nil bytes) (adds_both ws vs name bytes [] adds (skips_adds vs name skips))
 
-builds_answer : (names : Names) (magic : ℕ) (ps : List Packet) (rs : List Answer) (finals : Option (List ℕ)) → AreApart names → Builds (result_writes names magic ps rs finals) names.answer (answer_bytes magic ps rs)
+builds_answer : (names : Names) (magic : ℕ) (ps : List Packet) (rs : List Answer) (finals : Option (List ℕ)) → AreDistinct names → Builds (result_writes names magic ps rs finals) names.answer (answer_bytes magic ps rs)
 builds_answer names magic ps rs finals apart =
     inl (
       refl,
@@ -67,7 +67,7 @@ builds_answer names magic ps rs finals apart =
       ),
     )
 
-builds_lines : (names : Names) (magic : ℕ) (ps : List Packet) (rs : List Answer) (finals : Option (List ℕ)) → AreApart names → Builds (result_writes names magic ps rs finals) names.verdicts (verdict_lines rs)
+builds_lines : (names : Names) (magic : ℕ) (ps : List Packet) (rs : List Answer) (finals : Option (List ℕ)) → AreDistinct names → Builds (result_writes names magic ps rs finals) names.verdicts (verdict_lines rs)
 builds_lines names magic ps rs finals apart =
     let back : names.verdicts ≢ names.answer = turned names.answer names.verdicts apart.answer_verdicts in
     inr (
@@ -81,7 +81,7 @@ builds_lines names magic ps rs finals apart =
       ),
     )
 
-builds_final : (names : Names) (magic : ℕ) (ps : List Packet) (rs : List Answer) (text : List ℕ) → AreApart names → Builds (result_writes names magic ps rs (Some text)) names.final_maps text
+builds_final : (names : Names) (magic : ℕ) (ps : List Packet) (rs : List Answer) (text : List ℕ) → AreDistinct names → Builds (result_writes names magic ps rs (Some text)) names.final_maps text
 builds_final names magic ps rs text apart =
     let a : names.final_maps ≢ names.answer = turned names.answer names.final_maps apart.answer_final in
     let v : names.final_maps ≢ names.verdicts = turned names.verdicts names.final_maps apart.verdicts_final in
@@ -99,7 +99,7 @@ result_of names magic ps rs finals those a v f =
 pub compile_built : (verilog text : List ℕ) → AreBuilt (compile_outputs verilog text).files (compile_outputs verilog text).writes
 compile_built verilog text = (inl (refl, inl (refl, [], sym (append-nil text), refl)), tt)
 
-pub result_built : (names : Names) (magic : ℕ) (ps : List Packet) (rs : List Answer) (finals : Option (List ℕ)) → AreApart names → AreBuilt (result_outputs names magic ps rs finals).files (result_outputs names magic ps rs finals).writes
+pub result_built : (names : Names) (magic : ℕ) (ps : List Packet) (rs : List Answer) (finals : Option (List ℕ)) → AreDistinct names → AreBuilt (result_outputs names magic ps rs finals).files (result_outputs names magic ps rs finals).writes
 result_built names magic ps rs (Some text) apart =
     (builds_answer names magic ps rs (Some text) apart, (builds_lines names magic ps rs (Some text) apart, (builds_final names magic ps rs text apart, tt)))
 result_built names magic ps rs None apart = (builds_answer names magic ps rs None apart, (builds_lines names magic ps rs None apart, tt))
@@ -116,7 +116,7 @@ result_outputs_of names magic ps rs finals =
     let those : List (List ℕ) = names.answer ∷ names.verdicts ∷ names.final_maps ∷ [] in
     result_of names magic ps rs finals those (inl refl) (inr (inl refl)) (final_of names finals those (inr (inr (inl refl))))
 
-pub run_built : (names : Names) (verilog text : List ℕ) (magic : ℕ) (ps : List Packet) (rs : List Answer) (final : List ℕ) → AreApart names → IsTextApart names verilog → AreBuilt (run_outputs names verilog text magic ps rs final).files (run_outputs names verilog text magic ps rs final).writes
+pub run_built : (names : Names) (verilog text : List ℕ) (magic : ℕ) (ps : List Packet) (rs : List Answer) (final : List ℕ) → AreDistinct names → IsTextApart names verilog → AreBuilt (run_outputs names verilog text magic ps rs final).files (run_outputs names verilog text magic ps rs final).writes
 run_built names verilog text magic ps rs final apart own =
     let finals : Option (List ℕ) = Some final in
     let a : names.answer ≢ verilog = turned verilog names.answer own.answer in

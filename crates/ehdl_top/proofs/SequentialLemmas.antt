@@ -1,15 +1,12 @@
 -- Sequential execution, one packet after another.
-use Rattle.std.proofs.Common.{◌≡◌, ◌∙◌, ℕ, suc, ◌+◌, ◌<◌, List, [], ◌∷◌, ◌++◌, length, map, take, get_or, Err, refl, sym, ap, ap₂, subst, arith}
+use Rattle.std.proofs.Common.{◌≡◌, ◌∙◌, ℕ, suc, ◌+◌, ◌<◌, List, [], ◌∷◌, ◌++◌, length, map, take, get_or, refl, sym, ap, ap₂, subst, arith}
 use Rattle.std.proofs.Math.Seq.{take-suc}
 use Rattle.beat_core.specs.declared.answer.Answer.{Answer}
 use Rattle.beat_core.specs.declared.frame.Timed.{Timed}
 use Rattle.xdp_maps.specs.State.{MapState}
 use Rattle.xdp_object.specs.xdp_machine.State.{Code, PacketIn}
-use Rattle.xdp_object.specs.xdp_machine.Runs.{Leaves, Progress, Ended, IsRun, AreRuns}
+use Rattle.xdp_object.specs.xdp_machine.Runs.{Leaves, IsRun, AreRuns}
 use Rattle.xdp_object.specs.xdp_machine.Program.{XdpProgram, IsProgram, program_code}
-use Rattle.xdp_seq.specs.declared.run.SeqError.{SeqError}
-use Rattle.xdp_seq.specs.declared.run.SeqError.TheVariants.{Stuck, Spent}
-use Rattle.xdp_seq.specs.Answers.{Answers}
 use Rattle.unfold_core.specs.declared.unfolding.Unfolded.{Unfolded}
 use Rattle.unfold_core.specs.Unfolding.{IsUnfolded}
 use Rattle.unfold_core.specs.RunLaws.{RunsAreSound}
@@ -22,11 +19,6 @@ pub has_end : (sound : RunsAreSound) (p : XdpProgram) (u : Unfolded) (code : Cod
 has_end sound p u code packet maps program unfolded is decls =
     let s = sound p u packet maps program unfolded decls in
     subst (λ (c : Code). HasEnd c packet maps) (sym is) (s.left, s.ended 1048576 (omega (arith, unfolded.graph.few)))
-
--- it is neither stuck nor spent
-pub no_error : (error : SeqError) (r : Progress) (frame : List ℕ) (maps : MapState) (e : Leaves) → Answers (Err error) r frame maps → ¬ (r ≡ Ended e)
-no_error (Stuck at) r frame maps e (m, is, stands) ended = cc
-no_error (Spent at) r frame maps e (m, is, stands) ended = cc
 
 -- ---- one packet more
 runs_push : (code : Code) (maps last : MapState) (packets : List PacketIn) (es : List Leaves) (packet : PacketIn) (e : Leaves) → AreRuns code maps packets es last → IsRun code packet last e → AreRuns code maps (packets ++ packet ∷ []) (es ++ e ∷ []) e.maps
@@ -42,9 +34,6 @@ packets_push ifindex (p ∷ packets) packet = ap (λ xs. packet_in ifindex p ∷
 map_push : (es : List Leaves) (e : Leaves) → map answer_of (es ++ e ∷ []) ≡ map answer_of es ++ answer_of e ∷ []
 map_push [] e = refl
 map_push (x ∷ es) e = ap (λ rs. answer_of x ∷ rs) (map_push es e)
-
-pub sequential_none : (p : XdpProgram) (maps : MapState) → IsSequential p maps [] [] maps
-sequential_none p maps = record { leaves = []; runs = refl; answers_are = refl }
 
 pub sequential_next : (p : XdpProgram) (ifindex : ℕ) (start last after : MapState) (packets : List Timed) (i : ℕ) (packet : Timed) (answers : List Answer) (answer : Answer) → i < length packets → packet ≡ get_or packets i packet
     → IsSequential p start (came_by ifindex (take i packets)) answers last → LeavesAs (program_code p) (packet_in ifindex packet) last answer after → IsSequential p start (came_by ifindex (take (i + 1) packets)) (answers ++ answer ∷ []) after

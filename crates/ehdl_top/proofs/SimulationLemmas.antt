@@ -10,11 +10,12 @@ use Rattle.net_core.specs.Nets.{Netlist}
 use Rattle.net_core.specs.Names.{name_of}
 use Rattle.net_core.specs.Clock.{Stored, first_stored, after, stopping, rights, env_of}
 use Rattle.net_core.specs.Ports.{words_of}
-use Rattle.net_core.specs.History.{Cycle, trace, stored_after, answers_given, NeverStops, Drive, Ended, Answered, Stopped, OutOfClocks}
+use Rattle.net_core.specs.Trace.{Cycle, trace, stored_after, NeverStops}
 use Rattle.clock_sim.specs.declared.sim.XValue.{XValue}
 use Rattle.clock_sim.specs.Running.{IsNamed}
 use Rattle.xdp_maps.specs.declared.decl.MapDecl.{MapDecl}
 use Rattle.xdp_maps.specs.State.{MapState}
+use Rattle.port_drive.specs.realization.History.{answers_given, Drive, Ended, Answered, Stopped, OutOfClocks}
 use Rattle.port_drive.specs.realization.HostHistory.Host.{load, dump}
 use Rattle.port_drive.specs.Hosting.{StopsAt, ClocksOrNone, shown_maps}
 use Rattle.port_drive.specs.Reports.{full_drive, given_in, Reports, Gives, Leaves}

@@ -1,4 +1,4 @@
--- Later states of a shelf, one behind the other.
+-- Later states of a shelf, one after the other.
 use Rattle.std.proofs.Common.{◌≡◌, ◌≢◌, ◌⊎◌, ℕ, ◌≤◌, Bool, IsTrue, List, [], ◌∷◌, refl, sym, ◌∙◌, subst, inl, inr, arith}
 use Rattle.shelf_core.specs.Shelf.{Counts, NoneFell, Rose, SameHeld}
 use Rattle.ehdl_top.specs.States.{ShelfState, IsOther, IsLater, Changes, OneRose}

@@ -6,7 +6,7 @@ use Rattle.ehdl_top.specs.States.{ShelfState, Changes, OneRose}
 use Rattle.ehdl_top.specs.Writes.{File, Write, Begin, Append, name_of, left_by, LeavesPart, IsDone, IsFailed, AreDone, OneFailed, KeepsOrHoldsPrefix, HoldWhole, HoldPrefixes}
 use Rattle.ehdl_top.proofs.StateLemmas.{tells_later, changes_then, changes_none, changes_within, changes_one, rose_from, rose_one, one_rose_from, IsOneOf}
 
--- ---- one behind the other
+-- ---- one after the other
 from_done : (w : Write) (a b c : ShelfState) → Changes [] a b → IsDone w b c → IsDone w a c
 from_done w a b c same d = record {
   left = λ told. d.left (tells_later a b same.later told) ∙ ap (λ h. Some (left_by w h)) (same.others (name_of w) tt);
@@ -170,7 +170,7 @@ pub failed_prefixes : (F : List File) (ws : List Write) (a b : ShelfState) → A
 failed_prefixes [] ws a b built failed told = tt
 failed_prefixes (f ∷ F) ws a b built failed told = (failed_builds ws f.name f.bytes a b failed built.0 told, failed_prefixes F ws a b built.1 failed told)
 
--- ---- one list behind the other
+-- ---- one list after the other
 pub adds_as : (ws : List Write) (name bytes more : List ℕ) → bytes ≡ more → Adds ws name bytes → Adds ws name more
 adds_as ws name bytes more e u = let P : List ℕ → Type 0 = Adds ws name in subst P e u
 

@@ -6,7 +6,7 @@ use Rattle.ehdl_build.specs.Compiled.{PipelineSize}
 use Rattle.ehdl_top.specs.Report.{counted_line}
 
 -- How many packets there were, and how many had each verdict; the bytes of the frames that were answered, and the entries of the map
--- behind them; the last stage of the pipeline and its record sites; and the clocks that the packets could take.
+-- after them; the last stage of the pipeline and its record sites; and the clocks that the packets could take.
 abbrev pub demo_lines : ℕ → List Answer → ℕ → PipelineSize → ℕ → List (List ℕ)
 demo_lines packets answers entries size limit =
     counted_line (codes "packets ") packets

@@ -29,7 +29,7 @@ pub record EndsAs (request : Request) (result : Status) (old new : ShelfState) :
   pub status : result ≡ ended end
   pub has : HasWritten request end old new
 
--- A write failed: those before it were done, and none behind it was begun. So of what the command was to write there are
+-- A write failed: those before it were done, and none after it was begun. So of what the command was to write there are
 -- prefixes at most.
 pub record HasBroken (request : Request) (old new : ShelfState) : Type 0 where
   pub end : Option CommandError
@@ -39,7 +39,7 @@ pub record HasBroken (request : Request) (old new : ShelfState) : Type 0 where
   pub others : Changes (names_in outputs.files) old new
   pub in_order : OneFailed outputs.writes old new
 
--- what is lost where a write fails, or a put of the command's lines behind all writes, or memory runs out: then nothing was written, or all
+-- what is lost where a write fails, or a put of the command's lines after all writes, or memory runs out: then nothing was written, or all
 abbrev pub Loses : Status → Request → ShelfState → ShelfState → Type 0
 Loses status.WriteFault request old new = HasBroken request old new ⊎ (PutsLines request × HasWritten request None old new)
 Loses status.NoMemory request old new = Changes [] old new ⊎ ((end : Option CommandError) × HasWritten request end old new)
@@ -86,7 +86,7 @@ pub record SaysWhy (e : CommandError) (result : Status) (old new : SinkState) : 
 abbrev pub AreLinesOf : List (List ℕ) → ShelfState → List (List ℕ) → Type 0
 AreLinesOf words old lines = (request : Request) → AsksFor words request → AreLines request old lines
 
--- Lines were put, one behind the other: the sink has taken them and no more, where it tells.
+-- Lines were put, one after the other: the sink has taken them and no more, where it tells.
 abbrev pub ArePut : List (List ℕ) → SinkState → SinkState → Type 0
 ArePut [] old new = new ≡ old
 ArePut (line ∷ lines) old new = IsTrue old.tells → new.taken ≡ Some (appended old.taken (concat (line ∷ lines)))
@@ -97,7 +97,7 @@ pub record AreCutOff (lines : List (List ℕ)) (old new : SinkState) : Type 0 wh
   pub rose : Rose old.faults new.faults
   pub front : IsTrue old.tells → LeavesFront old.taken (concat lines) new.taken
 
--- The line that says why is the last that was put, and the only one, but where a put of the command's lines failed: it then comes behind
+-- The line that says why is the last that was put, and the only one, but where a put of the command's lines failed: it then comes after
 -- a prefix of them.
 pub record SaysLast (words : List (List ℕ)) (shelf : ShelfState) (e : CommandError) (result : Status) (old new : SinkState) : Type 0 where
   pub before : SinkState

@@ -2,10 +2,10 @@
 use Rattle.std.specs.Prelude.{ℕ, List, ◌++◌, [], codes, decimal}
 use Rattle.std.specs.Fmt.{signed_decimal}
 use Rattle.xdp_object.specs.Codes as object
-use Rattle.kind_core.specs.declared.why.Why.{Why}
-use Rattle.kind_core.specs.declared.why.Why.TheVariants.{Helper}
-use Rattle.kind_core.specs.declared.why.Refusal.{Refusal}
-use Rattle.kind_core.specs.Reasons.{reason_number}
+use Rattle.xdp_state.specs.declared.refusal.Why.{Why}
+use Rattle.xdp_state.specs.declared.refusal.Why.TheVariants.{Helper}
+use Rattle.xdp_state.specs.declared.refusal.Refusal.{Refusal}
+use Rattle.xdp_state.specs.Reasons.{reason_number}
 use Rattle.pcap_core.specs.declared.error.PcapError.{PcapError}
 use Rattle.pcap_core.specs.declared.error.PcapError.TheVariants.{Short, Magic, Version, Link, Frame}
 use Rattle.maps_text.specs.declared.error.MapsError.{MapsError}
@@ -21,7 +21,7 @@ abbrev pub verdict_line_of : ℕ → ℕ → ℕ → ℕ → List ℕ
 verdict_line_of index verdict target length = decimal index ++ codes " " ++ decimal verdict ++ codes " " ++ decimal target ++ codes " " ++ decimal length ++ codes "\n"
 
 -- ---- codes, and then their numbers in decimal
--- why a program is refused, and where: behind the reason of an unknown helper stands its number
+-- why a program is refused, and where: after the reason of an unknown helper stands its number
 abbrev pub helper_code : Why → List ℕ
 helper_code (Helper id) = codes " " ++ signed_decimal id
 helper_code why = []

@@ -39,7 +39,7 @@ pub record IsCompiled (object verilog : List ℕ) (chosen : Chosen) (held : Hold
 -- ---- run
 -- The files that an object, a capture and, if it is named, a text of maps ask for. The text realizes the object's program; answers and
 -- verdicts are those of sequential execution, one packet of the capture after another, all by one interface, from the maps of the text of
--- maps, or from maps in which nothing was written, and the final maps are those behind the last.
+-- maps, or from maps in which nothing was written, and the final maps are those after the last.
 pub record IsRun (names : Names) (verilog : List ℕ) (chosen : Chosen) (ifindex : ℕ) (held : Holding) (outputs : Outputs) : Type 0 where
   pub program : XdpProgram
   pub held_program : Holds OBJECT_LIMIT (held names.object) (λ bytes. IsTaken chosen built bytes program)
@@ -79,7 +79,7 @@ pub record IsSimulated (names : Names) (verilog : List ℕ) (chosen : Chosen) (i
 -- ---- ref
 -- The files that an object, a capture and, if it is named, a text of maps ask for of sequential execution alone: the answers of the
 -- object's program to one packet of the capture after another, all by one interface, from the maps of the text, or from maps in which
--- nothing was written, and the maps behind the last.
+-- nothing was written, and the maps after the last.
 pub record IsReference (names : Names) (chosen : Chosen) (ifindex : ℕ) (held : Holding) (outputs : Outputs) : Type 0 where
   pub program : XdpProgram
   pub held_program : Holds OBJECT_LIMIT (held names.object) (λ bytes. IsTaken chosen accepted bytes program)

@@ -12,7 +12,7 @@ use Rattle.ehdl_top.specs.Lines.{verdict_line_of}
 use Rattle.ehdl_top.specs.Simulation.{Simulation, final_text}
 use Rattle.ehdl_top.specs.Writes.{File, file, Write, Begin, Append, Outputs, file_writes}
 
--- the texts of 0, 1, .., so many of them, one behind the other
+-- the texts of 0, 1, .., so many of them, one after the other
 abbrev pub texts : (ℕ → List ℕ) → ℕ → List ℕ
 texts text zero = []
 texts text (suc n) = texts text n ++ text n

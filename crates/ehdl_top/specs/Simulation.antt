@@ -8,10 +8,11 @@ use Rattle.net_core.specs.Nets.{Netlist}
 use Rattle.net_core.specs.Names.{name_of}
 use Rattle.net_core.specs.Clock.{Stored, first_stored, after, stopping}
 use Rattle.net_core.specs.Ports.{words_of}
-use Rattle.net_core.specs.History.{trace, stored_after, answers_given, Drive, Ended, Answered, Stopped, OutOfClocks}
+use Rattle.net_core.specs.Trace.{trace, stored_after}
 use Rattle.xdp_maps.specs.declared.decl.MapDecl.{MapDecl}
 use Rattle.xdp_maps.specs.State.{MapState}
 use Rattle.maps_text.specs.Writing.{text_of}
+use Rattle.port_drive.specs.realization.History.{answers_given, Drive, Ended, Answered, Stopped, OutOfClocks}
 use Rattle.port_drive.specs.realization.HostHistory.Host.{load, dump}
 use Rattle.port_drive.specs.Hosting.{shown_maps}
 use Rattle.port_drive.specs.Reports.{full_drive, given_in}
@@ -49,7 +50,7 @@ dumped design s decls = elim (first_stop design s (dump decls)) [
   | Some w ↦ Err (x_value design w)
 ]
 
--- the full drive of these packets in at most so many clocks, and behind it the dump
+-- the full drive of these packets in at most so many clocks, and after it the dump
 abbrev pub driven : Netlist → Stored → List MapDecl → ℕ → List Timed → ℕ → Simulation
 driven design s decls ifindex packets clocks =
     let drive : Drive = full_drive design ifindex s packets clocks in
@@ -61,7 +62,7 @@ driven design s decls ifindex packets clocks =
       ];
     }
 
--- the load of these maps from the first values on, and behind it the drive
+-- the load of these maps from the first values on, and after it the drive
 abbrev pub simulation : Netlist → MapState → ℕ → List Timed → ℕ → Simulation
 simulation design maps ifindex packets clocks = elim (first_stop design (first_stored design) (load maps)) [
   | None ↦ driven design (stored_after design (first_stored design) (load maps)) maps.decls ifindex packets clocks

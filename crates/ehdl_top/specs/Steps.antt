@@ -28,8 +28,8 @@ use Rattle.xdp_object.specs.xdp_machine.State.{Code, PacketIn, start}
 use Rattle.xdp_object.specs.xdp_machine.Runs.{Leaves, Ended, IsRun, run}
 use Rattle.unfold_core.specs.declared.unfolding.Unfolded.{Unfolded}
 use Rattle.unfold_core.specs.Unfolding.{IsUnfolded}
-use Rattle.kind_core.specs.declared.why.BuildError.{BuildError}
-use Rattle.kind_core.specs.declared.why.BuildError.TheVariants as build
+use Rattle.xdp_state.specs.declared.refusal.BuildError.{BuildError}
+use Rattle.xdp_state.specs.declared.refusal.BuildError.TheVariants as build
 use Rattle.row_rules.specs.NodeRows.Rows.{HasStages}
 use Rattle.row_rules.specs.NodeRows.Acceptance.{IsFirstRefusal}
 use Rattle.command_line.specs.Request.{Request, AskCompile, AskRun, AskSim, AskRef, AskReport, AskDemo, Names}
@@ -222,7 +222,7 @@ pub record IsTextApart (names : Names) (verilog : List ℕ) : Type 0 where
   pub final : verilog ≢ names.final_maps
 
 -- no two of these have one name
-pub record AreApart (names : Names) : Type 0 where
+pub record AreDistinct (names : Names) : Type 0 where
   pub answer_verdicts : names.answer ≢ names.verdicts
   pub answer_final : names.answer ≢ names.final_maps
   pub verdicts_final : names.verdicts ≢ names.final_maps
@@ -231,9 +231,9 @@ pub record AreApart (names : Names) : Type 0 where
 -- no two of the files that a command may write have one name
 abbrev pub NamesApart : Request → Type 0
 NamesApart (AskCompile object verilog chosen) = Unit {0}
-NamesApart (AskRun names verilog chosen ifindex) = AreApart names × IsTextApart names verilog
-NamesApart (AskSim names verilog chosen ifindex clocks) = AreApart names
-NamesApart (AskRef names chosen ifindex) = AreApart names
+NamesApart (AskRun names verilog chosen ifindex) = AreDistinct names × IsTextApart names verilog
+NamesApart (AskSim names verilog chosen ifindex clocks) = AreDistinct names
+NamesApart (AskRef names chosen ifindex) = AreDistinct names
 NamesApart (AskReport object chosen) = Unit {0}
 NamesApart (AskDemo seed packets) = Unit {0}
 
@@ -282,7 +282,7 @@ IsFixed error.WriteFault = Unit {0}
 IsFixed error.NoMemory = Unit {0}
 IsFixed e = ⊥
 
--- A put of the lines failed, and the line that says so was put behind them.
+-- A put of the lines failed, and the line that says so was put after them.
 pub record IsCutShort (lines : List (List ℕ)) (result : Status) (old new : SinkState) : Type 0 where
   pub status : result ≡ status.WriteFault
   pub mid : SinkState

@@ -65,7 +65,7 @@ abbrev pub AreDone : List Write → ShelfState → ShelfState → Type 0
 AreDone [] old new = Changes [] old new
 AreDone (w ∷ rest) old new = (mid : ShelfState) × IsDone w old mid × AreDone rest mid new
 
--- One of the writes failed: those before it were done, in their order, and none behind it was begun.
+-- One of the writes failed: those before it were done, in their order, and none after it was begun.
 abbrev pub OneFailed : List Write → ShelfState → ShelfState → Type 0
 OneFailed [] old new = ⊥
 OneFailed (w ∷ rest) old new = IsFailed w old new ⊎ ((mid : ShelfState) × IsDone w old mid × OneFailed rest mid new)

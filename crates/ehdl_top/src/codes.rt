@@ -4,11 +4,11 @@ ghost use Rattle.std.specs.Prelude.{◌≡◌, ◌++◌, IfOk, codes, decimal};
 ghost use Rattle.ehdl_top.specs.Lines.{capture_code, maps_code, verilog_code, refusal_code};
 
 use crate::line::push_decimal;
-use kind_core::{Refusal, Why};
 use maps_text::MapsError;
 use pcap_core::PcapError;
 use std::alloc::{AllocError, Global};
 use verilog_read::ReadError;
+use xdp_state::{Refusal, Why};
 
 /// The line of a refusal.
 pub(crate) fn refusal_line(alloc: Global, refusal: Refusal) -> Result<Vec<u8>, AllocError>

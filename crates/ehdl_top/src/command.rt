@@ -104,7 +104,7 @@ fn run_words<S: Shelf>(
     }
 }
 
-// Puts lines, one behind the other, up to the first put that fails.
+// Puts lines, one after the other, up to the first put that fails.
 fn put_lines<O: Sink>(lines: &[Bytes], out: &mut O) -> Result<(), Failed>
     ensures put { OnOk result (ArePut lines.now (sink_of O.Sink out.old) (sink_of O.Sink out.new)) }
     ensures cut { OnErr result (AreCutOff lines.now (sink_of O.Sink out.old) (sink_of O.Sink out.new)) }
@@ -177,7 +177,7 @@ pub fn top<S: Shelf, O: Sink>(alloc: Global, words: &Words, shelf: &mut S, out: 
     ensures write_fault { result ≡ Status.WriteFault → (request : Request) → AsksFor words.now request → OneUnwritten request (state_of S.Shelf shelf.old) (state_of S.Shelf shelf.new) (sink_of O.Sink out.old) (sink_of O.Sink out.new) }
     ensures never { (request : Request) → AsksFor words.now request → CanEnd request (S.held shelf.old) result }
 
-    // What is lost: nothing where no output was begun. Where a write fails, those before it were done, and none behind it was begun.
+    // What is lost: nothing where no output was begun. Where a write fails, those before it were done, and none after it was begun.
     ensures early { IsEarly result → SameHeld (S.held shelf.old) (S.held shelf.new) }
     ensures broken { IsTrue (S.tells shelf.old) → (request : Request) → AsksFor words.now request → Loses result request (state_of S.Shelf shelf.old) (state_of S.Shelf shelf.new) }
     ensures others { (request : Request) → AsksFor words.now request → Changes (outputs_of request) (state_of S.Shelf shelf.old) (state_of S.Shelf shelf.new) }

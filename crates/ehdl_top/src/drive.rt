@@ -63,7 +63,7 @@ fn dump_design(
     }
 }
 
-// Drives a design by packets whose beats are offered, and those of answers taken, at every clock, in at most so many clocks. Behind the
+// Drives a design by packets whose beats are offered, and those of answers taken, at every clock, in at most so many clocks. After the
 // last answer its maps are dumped.
 fn drive_design(
     alloc: Global,

@@ -7,7 +7,6 @@ ghost use Rattle.ehdl_top.specs.Steps.{bytes_of, IsFixed};
 
 use crate::codes::{capture_line, maps_line, named, numbered, refusal_line, verilog_line};
 use crate::status::Status;
-use kind_core::Refusal;
 use maps_text::MapsError;
 use pcap_core::PcapError;
 use shelf_core::Failed;
@@ -15,6 +14,7 @@ use std::alloc::{AllocError, Global};
 use std::marker::Model;
 use verilog_read::ReadError;
 use xdp_object::ObjectError;
+use xdp_state::Refusal;
 
 /// The name of a net. It is seen as its bytes.
 #[derive(Drop)]

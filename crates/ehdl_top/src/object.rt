@@ -11,11 +11,11 @@ use crate::error::CommandError;
 use crate::form::Form;
 use crate::limits::OBJECT_LIMIT;
 use ehdl_build::{Built, CompileError, compile};
-use kind_core::BuildError;
 use row_rules::node_rows::{Stages, count_stages};
 use std::alloc::Global;
 use unfold_core::unfold;
 use xdp_object::{Choice, ObjectError, Program, read_object};
+use xdp_state::BuildError;
 
 /// An object of a program that is compiled. What is built of it is what is read.
 #[derive(Clone, Copy)]

@@ -7,7 +7,8 @@ ghost use Rattle.xdp_maps.specs.State.{MapState};
 ghost use Rattle.xdp_object.specs.xdp_machine.Program.{XdpProgram};
 ghost use Rattle.net_core.specs.View.{netlist_of};
 ghost use Rattle.net_core.specs.Clock.{first_stored};
-ghost use Rattle.net_core.specs.History.{NeverStops, Answered, answers_given, stored_after};
+ghost use Rattle.net_core.specs.Trace.{NeverStops, stored_after};
+ghost use Rattle.port_drive.specs.realization.History.{Answered, answers_given};
 ghost use Rattle.port_drive.specs.realization.HostHistory.Host.{load, ShowsMaps};
 ghost use Rattle.port_drive.specs.Reports.{full_drive, given_in};
 ghost use Rattle.verilog_read.specs.design_rules.Formed.{IsWellFormed};
@@ -27,7 +28,7 @@ use std::alloc::{AllocError, Global};
 use xdp_maps::decl::MapDecl;
 use xdp_maps::state::Maps;
 
-/// What a pipeline answers, and the maps that it shows the host behind the last answer.
+/// What a pipeline answers, and the maps that it shows the host after the last answer.
 #[derive(Drop)]
 pub(crate) struct Ran {
     pub(crate) answers: Answers,
@@ -87,7 +88,7 @@ fn shown_maps(alloc: Global, sim: &mut Sim, decls: &[MapDecl]) -> Result<Maps, A
     }
 }
 
-/// What a pipeline that was built of a program answers, from these maps on, and the maps behind the last answer: those of sequential
+/// What a pipeline that was built of a program answers, from these maps on, and the maps after the last answer: those of sequential
 /// execution.
 pub(crate) fn run_pipeline(
     alloc: Global,

@@ -7,7 +7,7 @@ ghost use Rattle.unfold_core.specs.Unfolding.{IsUnfolded};
 ghost use Rattle.xdp_object.specs.Choice.{chosen_of};
 ghost use Rattle.command_line.specs.Request.{AskRef, names_of};
 ghost use Rattle.ehdl_top.specs.States.{state_of};
-ghost use Rattle.ehdl_top.specs.Steps.{AreApart, EndsIn, IsCaptureOf, IsReferenceOf};
+ghost use Rattle.ehdl_top.specs.Steps.{AreDistinct, EndsIn, IsCaptureOf, IsReferenceOf};
 
 use crate::error::CommandError;
 use crate::form::read_input;
@@ -56,7 +56,7 @@ pub(crate) fn ref_files<S: Shelf>(
     choice: Choice,
     ifindex: u32,
 ) -> Result<(), CommandError>
-    requires { AreApart (names_of files.now) }
+    requires { AreDistinct (names_of files.now) }
     ensures { EndsIn (AskRef (names_of files.now) (chosen_of choice.entry) ifindex) (state_of S.Shelf shelf.old) (state_of S.Shelf shelf.new) result }
 {
     let accepted = read_input(alloc, shelf, files.object, &AcceptedForm { choice })?;

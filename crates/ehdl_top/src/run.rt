@@ -6,7 +6,7 @@ ghost use Rattle.xdp_object.specs.xdp_machine.Program.{XdpProgram};
 ghost use Rattle.xdp_object.specs.Choice.{chosen_of};
 ghost use Rattle.command_line.specs.Request.{AskRun, names_of};
 ghost use Rattle.ehdl_top.specs.States.{state_of};
-ghost use Rattle.ehdl_top.specs.Steps.{AreApart, IsTextApart, EndsIn, IsCaptureOf, IsRealized, IsRunOf};
+ghost use Rattle.ehdl_top.specs.Steps.{AreDistinct, IsTextApart, EndsIn, IsCaptureOf, IsRealized, IsRunOf};
 
 use crate::error::CommandError;
 use crate::form::read_input;
@@ -64,7 +64,7 @@ pub(crate) fn run_files<S: Shelf>(
     choice: Choice,
     ifindex: u32,
 ) -> Result<(), CommandError>
-    requires apart { AreApart (names_of files.now) }
+    requires apart { AreDistinct (names_of files.now) }
     requires text { IsTextApart (names_of files.now) verilog.now }
     ensures { EndsIn (AskRun (names_of files.now) verilog.now (chosen_of choice.entry) ifindex) (state_of S.Shelf shelf.old) (state_of S.Shelf shelf.new) result }
 {

@@ -10,7 +10,7 @@ ghost use Rattle.command_line.specs.Request.{AskSim, names_of};
 ghost use Rattle.ehdl_top.specs.States.{state_of};
 ghost use Rattle.ehdl_top.specs.Simulation.{final_text, given_up};
 ghost use Rattle.ehdl_top.specs.Results.{result_writes};
-ghost use Rattle.ehdl_top.specs.Steps.{AreApart, EndsIn, IsCaptureOf, IsSimOf, write_of};
+ghost use Rattle.ehdl_top.specs.Steps.{AreDistinct, EndsIn, IsCaptureOf, IsSimOf, write_of};
 
 use crate::drive::{Driven, simulate_design};
 use crate::error::CommandError;
@@ -97,7 +97,7 @@ pub(crate) fn sim_files<S: Shelf>(
     ifindex: u32,
     clocks: u32,
 ) -> Result<(), CommandError>
-    requires { AreApart (names_of files.now) }
+    requires { AreDistinct (names_of files.now) }
     ensures { EndsIn (AskSim (names_of files.now) verilog.now (chosen_of choice.entry) ifindex clocks) (state_of S.Shelf shelf.old) (state_of S.Shelf shelf.new) result }
 {
     let program = read_input(alloc, shelf, files.object, &ObjectForm { choice })?;

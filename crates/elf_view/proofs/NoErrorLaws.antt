@@ -14,7 +14,7 @@ use Rattle.list_laws.specs.Firsts.{first_from}
 
 -- ---- one section
 
--- section i stands 64 * i behind the first
+-- section i stands 64 * i after the first
 pub section_at-place : (bytes : List ℕ) (at i place : ℕ) (s : Section') → e_shoff bytes ≡ at → place ≡ at + 64 * i
     → section_header_at bytes place ≡ s → section_at bytes i ≡ s
 section_at-place bytes at i place s e p h =

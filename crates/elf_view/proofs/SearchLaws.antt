@@ -35,7 +35,7 @@ found ys k inside zero = elim (cases_lt (position_or_len is_zero ys) (length ys)
 is_zero-other : (b : ℕ) → b ≢ 0 → is_zero b ≡ false
 is_zero-other b h = grind (arith, nat_tests)
 
--- where there is none, it ends behind the last byte
+-- where there is none, it ends after the last byte
 not_found : (ys : List ℕ) → ((k : ℕ) → k < length ys → get_or ys k 0 ≢ 0) → position_or_len is_zero ys ≡ length ys
 not_found ys none =
     position_or_len_is is_zero ys (length ys) 0 (omega arith) (λ k h. is_zero-other (get_or ys k 0) (none k h))

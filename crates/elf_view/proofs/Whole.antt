@@ -10,7 +10,7 @@ regrouped : (h c s r m p t q b x : List ℕ)
     → h ++ c ++ s ++ r ++ m ++ p ++ t ++ q ++ b ++ x ≡ h ++ c ++ s ++ r ++ (m ++ p) ++ (t ++ q) ++ b ++ x
 regrouped h c s r m p t q b x = simp append_assoc
 
--- the zeros behind a part of n bytes
+-- the zeros after a part of n bytes
 abbrev pub zeros : ℕ → List ℕ
 zeros n = replicate ((8 - n % 8) % 8) 0
 

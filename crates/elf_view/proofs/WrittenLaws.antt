@@ -18,7 +18,7 @@ number-behind n front rest k place e =
     ap (λ p. little_number n (drop p (front ++ rest))) e
     ∙ ap (little_number n) (sym (drop-drop k (length front) (front ++ rest)) ∙ ap (drop k) (drop_at front rest (length front) refl))
 
--- a number behind other bytes
+-- a number after other bytes
 pub u16_at-behind : (front rest : List ℕ) (k place : ℕ) → place ≡ length front + k
     → u16_at (front ++ rest) place ≡ u16_at rest k
 unfolding u16_at

@@ -86,7 +86,7 @@ records maps = flat_map (λ m. record_bytes m.words) maps
 
 -- ---- the section headers
 
--- where the parts begin that stand behind the file header and the code
+-- where the parts begin that stand after the file header and the code
 abbrev pub symbols_at : Sizes → ℕ
 symbols_at s = 64 + s.code
 

@@ -2,7 +2,7 @@
 
 ghost use Rattle.std.specs.Prelude.{◌≡◌, ◌+◌, ◌*◌, ◌<◌, ◌≤◌, ◌^◌, length};
 
-/// The sizes of an object's parts in bytes, in the order in which they stand behind the file header.
+/// The sizes of an object's parts in bytes, in the order in which they stand after the file header.
 #[derive(Clone, Copy)]
 pub struct Sizes {
     pub code: u64,

@@ -34,7 +34,7 @@ pub fn function_symbol(size: u64) -> Symbol
     }
 }
 
-/// Puts zeros behind the bytes, up to the next multiple of 8 of `len`.
+/// Puts zeros after the bytes, up to the next multiple of 8 of `len`.
 pub fn put_padding(out: &mut Vec<u8>, len: usize) -> Result<(), AllocError>
     ensures { OnOk result (out.new.items ≡ out.old.items ++ replicate ((8 - len % 8) % 8) 0) }
 {

@@ -2,7 +2,7 @@
 
 use anyhow::{Context, Result, bail};
 
-// The byte that is meant by what follows a backslash, and what stands behind that.
+// The byte that is meant by what follows a backslash, and what stands after that.
 fn byte_meant(after: &str) -> Result<(u8, &str)> {
     if let Some(digits) = after.strip_prefix('x') {
         let (digits, rest) = digits.split_at_checked(2).context("two digits")?;

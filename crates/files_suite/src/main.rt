@@ -2,7 +2,7 @@
 //!
 //! The program is called with the names of files of cases, and takes their lines in order. A line has a verb and the words that
 //! follow it, with white space between. One that is empty or begins with `#` says nothing. A line of the first two tables gives
-//! nothing; each other line is printed with what it gave behind it. NAME is the name of a file, BYTES that of known bytes; N, PLACE
+//! nothing; each other line is printed with what it gave after it. NAME is the name of a file, BYTES that of known bytes; N, PLACE
 //! and the like are decimal.
 //!
 //! | Lines that make known bytes, for all lines that follow | |
@@ -31,7 +31,7 @@
 //! | `fail write N LEFT` | makes begin or append N of the shelf fail and leave its first LEFT bytes |
 //! | `fail put N LEFT` | makes put N of the sink fail and leave its first LEFT bytes |
 //!
-//! | Lines that make a call | what is printed behind the line |
+//! | Lines that make a call | what is printed after the line |
 //! |---|---|
 //! | `top WORD..` | of `top`: status, code, and what the sink has taken |
 //! | `begin NAME`, `append NAME BYTES` | the result of `begin` or `append` |

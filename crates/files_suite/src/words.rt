@@ -6,7 +6,7 @@ use command_line::Words;
 use std::alloc::Global;
 use std::str;
 
-/// The words of a row. One behind an `@` stands for the words of known bytes, with one space between any two.
+/// The words of a row. One after an `@` stands for the words of known bytes, with one space between any two.
 pub(crate) fn words_of(alloc: Global, known: &Known, row: &[&str]) -> Result<Words> {
     let mut words = Words::new(alloc);
     for word in row {

@@ -10,7 +10,7 @@ use Rattle.bpf_isa.specs.Spelling.{spelling}
 use Rattle.bpf_isa.specs.Text.{text_of}
 use Rattle.bpf_isa.proofs.TextLaws.{text_of-append}
 
--- what a read behind the end would give
+-- what a read after the end would give
 abbrev pub no_insn : Insn
 no_insn = record { op = Alu Bits32 Add K; dst = 0; src = 0; offset = pos 0; imm = pos 0 }
 

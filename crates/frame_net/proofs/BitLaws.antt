@@ -1,7 +1,7 @@
 -- Conditions of one bit, and positions that move on.
 use Rattle.std.specs.Prelude.{◌≡◌, ℕ, suc, ◌+◌, ◌%◌, ◌^◌, ◌<◌, ◌==◌, if◌then◌else◌, Bool, true, false}
 use Rattle.std.proofs.Common.{refl, ap, arith}
-use Rattle.net_core.specs.beat_core.declared.frame.TheConstants.{BEAT_LIMIT}
+use Rattle.beat_core.specs.declared.frame.TheConstants.{BEAT_LIMIT}
 use Rattle.net_core.specs.declared.tree.Op.TheVariants.{Add}
 use Rattle.net_core.specs.declared.tree.Word.{Word}
 use Rattle.net_core.specs.Value.{word, bit, apply, conditional}

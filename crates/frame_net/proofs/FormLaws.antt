@@ -1,6 +1,6 @@
 -- Widths and order of the nets of blocks.
-use Rattle.std.specs.Prelude.{◌≡◌, ℕ, ◌<◌, ◌≤◌, ◌==◌, nat_le, if◌then◌else◌, ◌&&◌, Bool, true, List}
-use Rattle.std.proofs.Common.{get_or, refl, ap, ◌∙◌, arith, inl, inr}
+use Rattle.std.specs.Prelude.{◌≡◌, ℕ, ◌<◌, ◌≤◌, ◌==◌, nat_le, if◌then◌else◌, ◌&&◌, true, List}
+use Rattle.std.proofs.Common.{get_or, refl, ap, ◌∙◌, arith}
 use Rattle.std.proofs.lemmas.Bool.{le-leb, lt-ltb}
 use Rattle.std.proofs.lemmas.Bool.Decides.{nat_tests}
 use Rattle.net_core.specs.declared.tree.Word.{Word}
@@ -11,12 +11,8 @@ use Rattle.block_core.specs.declared.block.BlockMemory.{BlockMemory}
 use Rattle.block_core.specs.declared.name.Name.{Name}
 use Rattle.block_core.specs.declared.name.Name.TheVariants as name
 use Rattle.block_core.specs.Blocks.{BlockTree, BlockWireTree, Whole}
-use Rattle.block_core.specs.Order.{IsBefore}
 use Rattle.block_core.specs.Formed.{names_scope, block_memories}
 use Rattle.frame_net.specs.SourcesNets.{held}
-
-pub and_is : (a b : Bool) → a ≡ true → b ≡ true → (a && b) ≡ true
-and_is a b e f = rw (e, f) refl
 
 pub one_is : (n : ℕ) → n ≡ 1 → (n == 1) ≡ true
 one_is n e = rw e refl
@@ -35,14 +31,6 @@ held_width d m index ws k bits w h at numbered some =
     ap (λ (x : ℕ × ℕ). memory_word_width (width_of (names_scope d port_list) index) x.0 x.1) (ap (λ l. get_or l k (0, 0)) h ∙ at)
     ∙ ap (λ n. memory_word_width n bits w) numbered
     ∙ ap (λ t. if t then w else 0) (same_is bits bits some refl)
-
--- what stands before all of a part's wires stands before each
-pub still_before : {P : Type 0} (d : Whole P) (before : List P) (p : P) (at : ℕ) (n : Name P) → IsBefore d before p 0 n → IsBefore d before p at n
-still_before d before p at (name.Port k) h = h
-still_before d before p at (name.Register q k) h = h
-still_before d before p at (name.Memory q k) h = h
-still_before d before p at (name.Wire q k) (inl h) = let l = h.1 in absurd (omega arith)
-still_before d before p at (name.Wire q k) (inr h) = inr h
 
 -- a block from its parts
 pub same_block : {N : Type 0} (b : BlockTree N) (registers : List Word) (memories : List BlockMemory) (wires : List (BlockWireTree N)) (statement : StatementTree N) → registers ≡ b.registers → memories ≡ b.memories → wires ≡ b.wires → statement ≡ b.statement

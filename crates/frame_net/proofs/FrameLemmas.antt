@@ -1,18 +1,14 @@
 -- A frame of whole words, and one more beat of it.
-use Rattle.std.specs.Prelude.{◌≡◌, ℕ, zero, suc, ◌*◌, ◌<◌, ◌≤◌, min, List, [], ◌∷◌, ◌++◌, length, take, drop}
+use Rattle.std.specs.Prelude.{◌≡◌, ℕ, suc, ◌*◌, ◌<◌, ◌≤◌, min, List, ◌++◌, length, take, drop}
 use Rattle.std.proofs.Common.{ap, ◌∙◌, arith, length-append}
 use Rattle.std.proofs.lemmas.List.{take_all, drop_all, take-append-le, drop-append-le, length-drop}
-use Rattle.net_core.specs.list_laws.Bytes.{IsBytes}
-use Rattle.net_core.specs.beat_core.declared.frame.TheConstants.{BEAT_LIMIT}
-use Rattle.net_core.specs.beat_core.Words.{word_of}
-use Rattle.net_core.specs.beat_core.Beats.{beat_count}
-use Rattle.net_core.specs.beat_core.Laws.{IsFrame}
+use Rattle.block_core.proofs.list_laws_laws.ByteLaws.{IsBytes-append}
+use Rattle.beat_core.specs.list_laws.Bytes.{IsBytes}
+use Rattle.beat_core.specs.declared.frame.TheConstants.{BEAT_LIMIT}
+use Rattle.beat_core.specs.Words.{word_of}
+use Rattle.beat_core.specs.Beats.{beat_count}
+use Rattle.beat_core.specs.Laws.{IsFrame}
 use Rattle.frame_net.specs.Frames.{beat_of, last_of}
-
-pub IsBytes-append : (xs ys : List ℕ) → IsBytes xs → IsBytes ys → IsBytes (xs ++ ys)
-IsBytes-append [] ys h k i = k i
-IsBytes-append (x ∷ xs) ys h k zero = h 0
-IsBytes-append (x ∷ xs) ys h k (suc i) = IsBytes-append xs ys (λ j. h (suc j)) k i
 
 module _ (xs ys : List ℕ) (q : ℕ) (whole : length xs ≡ 8 * q) (some : 1 ≤ length ys) (most : length ys ≤ 8) where
   pub count_more : beat_count (length (xs ++ ys)) ≡ suc q

@@ -8,6 +8,7 @@ use Rattle.net_core.specs.Chains.{statements_before}
 use Rattle.net_core.specs.ProductRules.Products.{is_flat, statements_flat}
 use Rattle.block_core.specs.ProductBlocks.Alone.{wire_flat, IsFree}
 use Rattle.block_core.specs.declared.name.Name.{Name}
+use Rattle.block_core.proofs.list_laws_laws.BoolLaws.{and_is}
 use Rattle.frame_net.specs.declared.held.Kept.{Kept}
 use Rattle.frame_net.specs.declared.held.Kept.TheVariants.{Ifindex, Time, Word as FrameWord}
 use Rattle.frame_net.specs.declared.held.Further.{Further}
@@ -16,7 +17,6 @@ use Rattle.frame_net.specs.Frames.{further}
 use Rattle.frame_net.specs.Stores.{Store, store_statements}
 use Rattle.frame_net.specs.GatherNets.{further_store, gather_stores, gather_block}
 use Rattle.frame_net.specs.SourcesNets.{kept_wires, sources_block}
-use Rattle.frame_net.proofs.FormLaws.{and_is}
 
 -- ---- stores
 abbrev pub store_flat : {N : Type 0} → (N → Bool) → Store N → Bool

@@ -7,14 +7,15 @@ use Rattle.std.proofs.lemmas.Nat.{pow_pos}
 use Rattle.std.proofs.lemmas.List.{length-map}
 use Rattle.std.proofs.Math.ListN.{get_or-map}
 use Rattle.std.proofs.lemmas.Grind.{common_steps}
-use Rattle.net_core.specs.list_laws.Bytes.{IsBytes}
-use Rattle.net_core.specs.beat_core.Laws.{IsFrame}
-use Rattle.net_core.specs.beat_core.declared.frame.TheConstants.{BEAT_LIMIT}
-use Rattle.net_core.specs.beat_core.Words.{low_bytes, word_of}
-use Rattle.net_core.specs.beat_core.Beats.{bytes_of_beat, beat_count, IsOffer}
-use Rattle.net_core.specs.beat_core.Ports.{Arrival, Offered, arrived}
-use Rattle.net_core.proofs.beat_core_laws.BeatLaws.{IsOffer-count, IsOffer-eight}
-use Rattle.net_core.proofs.beat_core_laws.WordLaws.{length-low_bytes, IsBytes-low_bytes}
+use Rattle.block_core.proofs.list_laws_laws.ByteLaws.{IsBytes-append}
+use Rattle.beat_core.specs.list_laws.Bytes.{IsBytes}
+use Rattle.beat_core.specs.Laws.{IsFrame}
+use Rattle.beat_core.specs.declared.frame.TheConstants.{BEAT_LIMIT}
+use Rattle.beat_core.specs.Words.{low_bytes, word_of}
+use Rattle.beat_core.specs.Beats.{bytes_of_beat, beat_count, IsOffer}
+use Rattle.beat_core.specs.Ports.{Arrival, Offered, arrived}
+use Rattle.beat_core.proofs.BeatLaws.{IsOffer-count, IsOffer-eight}
+use Rattle.beat_core.proofs.WordLaws.{length-low_bytes, IsBytes-low_bytes}
 use Rattle.net_core.specs.declared.tree.Op.TheVariants.{Add, And, Equal}
 use Rattle.net_core.specs.declared.tree.UnaryOp.TheVariants.{Not}
 use Rattle.net_core.specs.declared.tree.Word.{Word}
@@ -23,6 +24,7 @@ use Rattle.net_core.specs.Nets.{TRead, TUnary, TBinary, StatementTree, SIf, SSet
 use Rattle.net_core.specs.Value.{word, bit, nothing, part_select, Env, value, apply, apply_unary, concatenated, conditional}
 use Rattle.net_core.specs.Clock.{Stored, done, edge}
 use Rattle.net_core.proofs.LowBitsLaws.{concatenated_small}
+use Rattle.net_core.proofs.BitLaws.{not_bit}
 use Rattle.block_core.specs.declared.name.Name.{Name}
 use Rattle.block_core.specs.declared.name.Name.TheVariants as name
 use Rattle.block_core.specs.Parts.{Solve}
@@ -38,7 +40,7 @@ use Rattle.frame_net.proofs.StoreLaws.{in_turn, put, taken, taken_is, store_at, 
 use Rattle.frame_net.proofs.MaskLaws.{masked_word}
 use Rattle.frame_net.proofs.BankLaws.{map_at, item_kept, item_bank, count_further, bank_within, low_small, low_slot, high_slot}
 use Rattle.frame_net.proofs.BitLaws.{on, off, next_is}
-use Rattle.frame_net.proofs.FrameLemmas.{last_more, new_bytes, is_frame, IsBytes-append}
+use Rattle.frame_net.proofs.FrameLemmas.{last_more, new_bytes, is_frame}
 use Rattle.frame_net.proofs.HeldLemmas.{put_here, put_other, bytes_so_far, SoFar, so_far_is, arrived_frame, Takes, kept_more, kept_same, others_stay, beats_more, beats_same}
 
 -- ---- bits
@@ -47,10 +49,6 @@ and_bits true true = refl
 and_bits true false = refl
 and_bits false true = refl
 and_bits false false = refl
-
-not_bit : (b : Bool) → apply_unary Not (bit b) ≡ bit (not b)
-not_bit true = refl
-not_bit false = refl
 
 -- ---- the nets of a clock
 module _ {P : Type 0} (p : P) (bits : ℕ) (some : 1 ≤ bits) (kept : List Kept) (over slot : Name P) (v : Env (Name P)) (s : Stored) (at : ℕ) (o : Offered) (goes : Bool)

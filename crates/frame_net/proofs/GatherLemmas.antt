@@ -21,6 +21,8 @@ use Rattle.block_core.specs.Blocks.{BlockTree, Whole, Among, first_memory}
 use Rattle.block_core.specs.Parts.{Within}
 use Rattle.block_core.specs.Order.{IsBefore, InOrder}
 use Rattle.block_core.specs.Formed.{names_scope, name_width, block_registers, block_wires, memories_fit, block_wires_typed, IsTypedBlock, StatementReads, IsThere}
+use Rattle.block_core.proofs.list_laws_laws.BoolLaws.{and_is}
+use Rattle.block_core.proofs.OrderLaws.{still_before}
 use Rattle.frame_net.specs.declared.held.Kept.{Kept}
 use Rattle.frame_net.specs.declared.held.Kept.TheVariants.{Ifindex, Time, Word as FrameWord}
 use Rattle.frame_net.specs.declared.held.Further.{Further}
@@ -30,7 +32,7 @@ use Rattle.frame_net.specs.Gather.{IsKept, IsFurther, held_widths, kept_width, f
 use Rattle.frame_net.specs.Stores.{Store, widths_memory, store_statements}
 use Rattle.frame_net.proofs.BankLaws.{banks_few, in_bank_width, low_width}
 use Rattle.frame_net.proofs.StoreLaws.{IsStoreTyped, AreStoresTyped, stores_typed, widths_are, AllReads, stores_read, stores_within, AllSpelled, stores_deep, stores_placed, stores_pass}
-use Rattle.frame_net.proofs.FormLaws.{and_is, one_is, same_is, wire_is, still_before}
+use Rattle.frame_net.proofs.FormLaws.{one_is, same_is, wire_is}
 use Rattle.frame_net.specs.GatherNets.{port, register, net, in_bits, masked, next_position, beat_store, further_store, wide, place, gather_stores, gather_wires, gather_block, gather_statement}
 
 -- ---- memories

@@ -4,10 +4,10 @@ use Rattle.std.proofs.Common.{get_or, refl, sym, ap, ◌∙◌, subst, arith}
 use Rattle.std.proofs.lemmas.Bool.{eqb-true}
 use Rattle.std.proofs.lemmas.Bool.Decides.{nat_tests}
 use Rattle.std.proofs.lemmas.List.{get_or-set_same, get_or-set_other}
-use Rattle.net_core.specs.list_laws.Bytes.{IsBytes}
-use Rattle.net_core.specs.beat_core.Words.{word_of}
-use Rattle.net_core.specs.beat_core.Beats.{bytes_of_beat, beat_count}
-use Rattle.net_core.specs.beat_core.Ports.{Arrival, Offered, arrived}
+use Rattle.beat_core.specs.list_laws.Bytes.{IsBytes}
+use Rattle.beat_core.specs.Words.{word_of}
+use Rattle.beat_core.specs.Beats.{bytes_of_beat, beat_count}
+use Rattle.beat_core.specs.Ports.{Arrival, Offered, arrived}
 use Rattle.net_core.specs.declared.tree.Word.{Word}
 use Rattle.net_core.specs.Value.{word, nothing}
 use Rattle.frame_net.specs.declared.held.Kept.{Kept}

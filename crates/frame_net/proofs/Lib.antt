@@ -6,6 +6,7 @@ pub mod FormLaws
 pub mod LoopLaws
 pub mod ReadLaws
 pub mod FreeLaws
+pub mod AnswerLaws
 mod FrameLemmas
 mod HeldLemmas
 mod GatherLemmas

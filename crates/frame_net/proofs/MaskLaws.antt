@@ -3,8 +3,8 @@ use Rattle.std.specs.Prelude.{◌≡◌, ℕ, zero, suc, ◌+◌, ◌-◌, ◌*�
 use Rattle.std.proofs.Common.{sym, ap, ◌∙◌, arith}
 use Rattle.std.proofs.lemmas.Bool.{lt-ltb}
 use Rattle.std.proofs.lemmas.Nat.{and_mask, mod-pow-add}
-use Rattle.net_core.specs.beat_core.Words.{low_bytes, word_of}
-use Rattle.net_core.proofs.beat_core_laws.WordLaws.{low_bytes-suc, low_bytes-zero, word_of-nil, word_of-cons}
+use Rattle.beat_core.specs.Words.{low_bytes, word_of}
+use Rattle.beat_core.proofs.WordLaws.{low_bytes-suc, low_bytes-zero, word_of-nil, word_of-cons}
 use Rattle.net_core.specs.declared.tree.Op.TheVariants.{Sub, And, ShiftRight}
 use Rattle.net_core.specs.declared.tree.Word.{Word}
 use Rattle.net_core.specs.Nets.{Tree}

@@ -5,9 +5,9 @@ use Rattle.std.proofs.Common.{get_or, refl, sym, ap, ◌∙◌, subst, arith, in
 use Rattle.std.proofs.lemmas.Bool.{lt-ltb}
 use Rattle.std.proofs.lemmas.Bool.Decides.{nat_tests}
 use Rattle.std.proofs.lemmas.List.{drop_all, length-drop}
-use Rattle.net_core.specs.beat_core.Words.{word_of}
-use Rattle.net_core.specs.beat_core.Ports.{Arrival}
-use Rattle.net_core.proofs.beat_core_laws.WordLaws.{word_of-nil}
+use Rattle.beat_core.specs.Words.{word_of}
+use Rattle.beat_core.specs.Ports.{Arrival}
+use Rattle.beat_core.proofs.WordLaws.{word_of-nil}
 use Rattle.net_core.specs.declared.tree.Word.{Word}
 use Rattle.net_core.specs.declared.tree.Op.TheVariants.{Add}
 use Rattle.net_core.specs.Nets.{TRead}
@@ -21,6 +21,8 @@ use Rattle.block_core.specs.Blocks.{BlockTree, Whole, Among}
 use Rattle.block_core.specs.Parts.{Solve, Goes}
 use Rattle.block_core.specs.Order.{Reads, IsBefore, InOrder}
 use Rattle.block_core.specs.Formed.{names_scope, name_width, block_memories, block_wires, block_wires_typed, IsTypedBlock}
+use Rattle.block_core.proofs.list_laws_laws.BoolLaws.{and_is}
+use Rattle.block_core.proofs.OrderLaws.{still_before}
 use Rattle.frame_net.specs.declared.held.Kept.{Kept}
 use Rattle.frame_net.specs.declared.held.Kept.TheVariants.{Ifindex, Time, Word as FrameWord}
 use Rattle.frame_net.specs.Frames.{beat_of, last_of, word_at, HoldsKept, HoldsFrame}
@@ -28,7 +30,7 @@ use Rattle.frame_net.specs.Gather.{IsKept, held_widths, kept_width, kept_widths}
 use Rattle.frame_net.specs.GatherNets.{net}
 use Rattle.frame_net.specs.Sources.{kept_word, SeesHeld, ShowsFrame, IsSources}
 use Rattle.frame_net.specs.SourcesNets.{held, frame_length, kept_tree, kept_wires, sources_wires, sources_block}
-use Rattle.frame_net.proofs.FormLaws.{and_is, wire_is, held_width, still_before}
+use Rattle.frame_net.proofs.FormLaws.{wire_is, held_width}
 use Rattle.frame_net.proofs.ReadLaws.{held_here, count_held, held_kept}
 use Rattle.frame_net.proofs.FreeLaws.{sources_free}
 

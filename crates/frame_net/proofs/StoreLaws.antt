@@ -14,8 +14,9 @@ use Rattle.block_core.specs.design_rules.FormedSyntax.{tree_spelled, statements_
 use Rattle.block_core.specs.Parts.{AllWithin}
 use Rattle.block_core.specs.Order.{Reads}
 use Rattle.block_core.specs.Formed.{block_memory_width, StatementsRead}
+use Rattle.block_core.proofs.list_laws_laws.BoolLaws.{and_is}
 use Rattle.frame_net.specs.Stores.{Store, widths_memory, store_statement, store_statements}
-use Rattle.frame_net.proofs.FormLaws.{and_is, one_is, same_is}
+use Rattle.frame_net.proofs.FormLaws.{one_is, same_is}
 
 -- statements in a block, one after another
 pub in_turn : {N : Type 0} (v : Env N) (list : List (StatementTree N)) (s : Stored) → all_done v (statements_before list SEnd) s ≡ edge v list s

@@ -1,8 +1,8 @@
 -- Answers that are held in memories, by slot: the verdict, the target, and the bytes that may be other ones than those of the frame that came.
 use Rattle.std.specs.Prelude.{◌≡◌, ℕ, ◌+◌, ◌*◌, ◌/◌, ◌%◌, ◌^◌, ◌<◌, List, [], ◌∷◌, length, map, Contains}
 use Rattle.std.proofs.Common.{get_or}
-use Rattle.net_core.specs.list_laws.Bytes.{IsBytes}
-use Rattle.net_core.specs.beat_core.declared.answer.Answer.{Answer}
+use Rattle.beat_core.specs.list_laws.Bytes.{IsBytes}
+use Rattle.beat_core.specs.declared.answer.Answer.{Answer}
 use Rattle.net_core.specs.declared.tree.Word.{Word}
 use Rattle.net_core.specs.Value.{word}
 use Rattle.frame_net.specs.Frames.{word_at}

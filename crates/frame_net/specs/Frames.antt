@@ -2,11 +2,11 @@
 -- what else is kept of them.
 use Rattle.std.specs.Prelude.{◌≡◌, ℕ, zero, suc, ◌+◌, ◌-◌, ◌*◌, ◌/◌, ◌%◌, ◌^◌, ◌<◌, min, Option, Some, None, is_some, List, [], ◌∷◌, ◌++◌, length, drop, map}
 use Rattle.std.proofs.Common.{get_or}
-use Rattle.net_core.specs.list_laws.Bytes.{IsBytes}
-use Rattle.net_core.specs.beat_core.declared.beat.Beat.{Beat}
-use Rattle.net_core.specs.beat_core.Beats.{first_beat, beat_count}
-use Rattle.net_core.specs.beat_core.Laws.{IsFrame}
-use Rattle.net_core.specs.beat_core.Ports.{Arrival}
+use Rattle.beat_core.specs.list_laws.Bytes.{IsBytes}
+use Rattle.beat_core.specs.declared.beat.Beat.{Beat}
+use Rattle.beat_core.specs.Beats.{first_beat, beat_count}
+use Rattle.beat_core.specs.Laws.{IsFrame}
+use Rattle.beat_core.specs.Ports.{Arrival}
 use Rattle.net_core.specs.declared.tree.Word.{Word}
 use Rattle.net_core.specs.Value.{word, bit, nothing}
 use Rattle.net_core.specs.Clock.{Stored}
@@ -36,7 +36,7 @@ HoldsKept Ifindex m slot a = word_at m slot ≡ word 32 a.ifindex
 HoldsKept Time m slot a = word_at m slot ≡ word 64 a.time
 HoldsKept (FrameWord j) m slot a = j < beat_count (length a.frame) → word_at m slot ≡ word 64 (beat_of a.frame j).word
 
--- ---- memories of beats: one for each 32 slots, the first in front of the others and the further ones behind all
+-- ---- memories of beats: one for each 32 slots, the first in front of the others and the further ones after all
 -- how many bits of a slot's number tell the slots of one memory apart
 abbrev pub bank_bits : ℕ → ℕ
 bank_bits bits = min bits 5
@@ -53,7 +53,7 @@ abbrev pub banks_from : ℕ → ℕ → List Further
 banks_from b zero = []
 banks_from b (suc n) = Bank b ∷ banks_from (suc b) n
 
--- the memories behind the first three
+-- the memories after the first three
 abbrev pub further : ℕ → List Kept → List Further
 further bits kept = map Keep kept ++ banks_from 1 (banks bits - 1)
 

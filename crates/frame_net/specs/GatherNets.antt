@@ -46,7 +46,7 @@ in_bits bytes = beside bytes (constant 3 0)
 abbrev pub masked : {N : Type 0} → Tree N → Tree N → Tree N
 masked value shift = TBinary And value (TBinary ShiftRight (constant 64 18446744073709551615) shift)
 
--- ---- where a beat stands, by its slot behind five zeros: its memory, and the place there, a beat's number behind a slot's
+-- ---- where a beat stands, by its slot after five zeros: its memory, and the place there, a beat's number after a slot's
 abbrev pub wide : {N : Type 0} → N → Tree N
 wide slot = beside (constant 5 0) (TRead slot)
 
@@ -56,7 +56,7 @@ place bits wide position = beside (TPartSelect wide (bank_bits bits - 1) 0) posi
 abbrev pub in_bank : {N : Type 0} → ℕ → N → ℕ → Tree N
 in_bank bits wide b = TBinary Equal (TPartSelect wide (bits + 4) 5) (constant bits b)
 
--- the next position, which is 0 behind a last beat
+-- the next position, which is 0 after a last beat
 abbrev pub next_position : {N : Type 0} → Tree N → Tree N → Tree N
 next_position last position = TConditional last (constant 11 0) (TBinary Add position (constant 11 1))
 

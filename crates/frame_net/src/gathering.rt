@@ -209,7 +209,7 @@ pub(crate) fn kept_width(kept: Kept) -> u8
     }
 }
 
-// The memories behind the first three: what else is kept, and the beats of further slots.
+// The memories after the first three: what else is kept, and the beats of further slots.
 fn further(alloc: Global, bits: u8, kept: &[Kept]) -> Result<Vec<Further>, AllocError>
     requires { bits ≤ 9 }
     ensures { IfOk result (λ r. r.items ≡ further bits kept.now) }
@@ -254,7 +254,7 @@ fn memories(alloc: Global, bits: u8, further: &[Further]) -> Result<Vec<BlockMem
 ///
 /// It reads of other parts whether a beat goes over, and the slot of the frame that comes, which stays until the frame is
 /// whole. Its memories hold, by slot: 0 the beats, 64 bits each, with 0 in the bytes that do not count; 1 the number of the
-/// last beat; 2 how many bytes that has; from 3 on what else is kept, in the order of the list; and behind that the beats of
+/// last beat; 2 how many bytes that has; from 3 on what else is kept, in the order of the list; and after that the beats of
 /// the slots from 32 on, each memory those of 32 slots.
 pub fn gather<P: Part>(
     alloc: Global,

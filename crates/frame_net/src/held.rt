@@ -9,7 +9,7 @@ pub enum Kept {
     Word(u8),
 }
 
-/// The memories behind the first three: what else is kept, or the beats of 32 further slots.
+/// The memories after the first three: what else is kept, or the beats of 32 further slots.
 #[derive(Clone, Copy, PartialEq, Eq, Debug)]
 pub enum Further {
     Kept(Kept),

@@ -96,14 +96,14 @@ pub fn bank(kept: &[Kept], b: u8) -> u32
     3 + kept.len() as u32 + u32::from(b - 1)
 }
 
-/// The number of a slot behind five zeros.
+/// The number of a slot after five zeros.
 pub fn wide<P: Part>(alloc: Global, slot: Name<P>) -> Result<Expr<Name<P>>, AllocError>
     ensures { IfOk result (λ e. tree_of e ≡ wide slot) }
 {
     beside(alloc, constant(5, 0), Expr::Read(slot))
 }
 
-/// Where a beat stands in its memory: its number behind that of its slot.
+/// Where a beat stands in its memory: its number after that of its slot.
 pub fn place<P: Part>(
     alloc: Global,
     bits: u8,
@@ -158,7 +158,7 @@ pub fn masked<P: Part>(
     binary(alloc, Op::And, value, mask)
 }
 
-/// The position that follows: 0 behind a last beat.
+/// The position that follows: 0 after a last beat.
 pub fn next_position<P: Part>(
     alloc: Global,
     last: Expr<Name<P>>,

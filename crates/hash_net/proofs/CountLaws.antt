@@ -12,7 +12,7 @@ use Rattle.overlay_net.specs.hazard_core.Tables.{no_slot, slot_at, used_count}
 pub count_set : (slots : List Slot) (n : ℕ) (x : Slot) → n < length slots → used_count (slice_set slots n x) + number_of (slot_at slots n).used ≡ used_count slots + number_of x.used
 count_set slots n x l = sum_by-set (λ (s : Slot). number_of s.used) slots n x no_slot l
 
--- a bit behind zeros
+-- a bit after zeros
 pub widened : (bits : ℕ) (b : Bool) → concatenated (word bits 0) (bit b) ≡ word (bits + 1) (number_of b)
 widened bits b = let e : 0 * 2 ^ 1 + number_of b ≡ number_of b = omega arith in ap (word (bits + 1)) e
 

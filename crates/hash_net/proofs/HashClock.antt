@@ -13,6 +13,7 @@ use Rattle.net_core.specs.declared.tree.Word.{Word}
 use Rattle.net_core.specs.Nets.{Tree, StatementTree, SIf, SSet}
 use Rattle.net_core.specs.Value.{word, bit, number_of, Env, value, apply, apply_unary, conditional, concatenated, part_select}
 use Rattle.net_core.specs.Clock.{Stored, done, edge}
+use Rattle.net_core.proofs.BitLaws.{and_bits, or_bits}
 use Rattle.block_core.specs.declared.name.Name.{Name}
 use Rattle.block_core.specs.declared.name.Name.TheVariants as name
 use Rattle.block_core.specs.Parts.{Solve}
@@ -38,7 +39,7 @@ use Rattle.array_net.specs.WordTrees.{host_index, words_read, word_store, word_s
 use Rattle.array_net.specs.ArrayNets.{names_slot}
 use Rattle.array_net.specs.Hosts.{SeesHost, named_word, written_table}
 use Rattle.array_net.proofs.WordLaws.{word_there, length_stays}
-use Rattle.array_net.proofs.WordStoreLaws.{low_part, and_bits, or_bits, shut, put_at, store_of, words_off, words_unnamed, IsTaken, operation_takes, host_takes, other_takes, words_after, asked_at}
+use Rattle.array_net.proofs.WordStoreLaws.{low_part, shut, put_at, store_of, words_off, words_unnamed, IsTaken, operation_takes, host_takes, other_takes, words_after, asked_at}
 use Rattle.array_net.proofs.WordReadLaws.{read_other, read_here}
 use Rattle.array_net.proofs.HostLaws.{slot_named}
 use Rattle.hash_net.specs.declared.block.HashNets.{HashNets}
@@ -133,11 +134,11 @@ module _ {P : Type 0} (p : P) (map : ℕ) (d : MapDecl) (bits : ℕ) (nets : Has
         after_is ∙ ap (λ (x : Word). edge v (store_statements 0 stores) (if x.value == 0 then s else record s { registers = slice_set s.registers 0 (value v (count_after p bits)) })) u
         ∙ none_stored v stores 0 s (ap (λ (x : Word). x.value) u, all_off v _ _ k w)
 
-    calm_off : v.net nets.map.writes ≡ bit false → v.net (name.Wire p 3) ≡ bit false
-    calm_off w = solved.1.1.1.0 ∙ ap (λ x. apply And x (apply And (v.net (name.Wire p 0)) (v.net nets.calm))) w ∙ shut (apply And (v.net (name.Wire p 0)) (v.net nets.calm))
+    idle_off : v.net nets.map.writes ≡ bit false → v.net (name.Wire p 3) ≡ bit false
+    idle_off w = solved.1.1.1.0 ∙ ap (λ x. apply And x (apply And (v.net (name.Wire p 0)) (v.net nets.idle))) w ∙ shut (apply And (v.net (name.Wire p 0)) (v.net nets.idle))
 
     value_off : v.net nets.map.writes ≡ bit false → v.net (name.Wire p 4) ≡ bit false
-    value_off w = solved.1.1.1.1.0 ∙ ap (λ x. apply And x (apply And (v.net (name.Wire p 0)) (apply Or (v.net nets.calm) (v.net (name.Wire p 2))))) w ∙ shut (apply And (v.net (name.Wire p 0)) (apply Or (v.net nets.calm) (v.net (name.Wire p 2))))
+    value_off w = solved.1.1.1.1.0 ∙ ap (λ x. apply And x (apply And (v.net (name.Wire p 0)) (apply Or (v.net nets.idle) (v.net (name.Wire p 2))))) w ∙ shut (apply And (v.net (name.Wire p 0)) (apply Or (v.net nets.idle) (v.net (name.Wire p 2))))
 
     -- whether the used bit is set, where no operation commits
     sets_by : (gated : Bool) → v.net commits ≡ bit false → v.net (name.Wire p 3) ≡ bit gated → (named : Bool) → apply Equal (v.net (name.Port HOST_WORD)) (word 4 0) ≡ bit named → v.net (name.Wire p 5) ≡ bit (false || (gated && named))
@@ -148,8 +149,8 @@ module _ {P : Type 0} (p : P) (map : ℕ) (d : MapDecl) (bits : ℕ) (nets : Has
     pub stays : v.net commits ≡ bit false → v.net nets.map.writes ≡ bit false → done v statement s ≡ s
     stays c w =
         let asked : apply And (v.net commits) (apply Or (v.net nets.inserts) (v.net nets.deletes)) ≡ bit false = ap (λ x. apply And x (apply Or (v.net nets.inserts) (v.net nets.deletes))) c ∙ shut (apply Or (v.net nets.inserts) (v.net nets.deletes)) in
-        let named : apply And (v.net (name.Wire p 3)) (apply Equal (v.net (name.Port HOST_WORD)) (word 4 0)) ≡ bit false = ap (λ x. apply And x (apply Equal (v.net (name.Port HOST_WORD)) (word 4 0))) (calm_off w) ∙ shut (apply Equal (v.net (name.Port HOST_WORD)) (word 4 0)) in
-        unchanged (solved.1.1.1.1.1.0 ∙ λ i. apply Or (asked i) (named i)) (words_off commits (name.Wire p 3) (name.Wire p 1) 1 d.key v 0 key_words c (calm_off w)) (words_off commits (name.Wire p 4) (name.Wire p 1) (value_first d) d.value v 0 values c (value_off w))
+        let named : apply And (v.net (name.Wire p 3)) (apply Equal (v.net (name.Port HOST_WORD)) (word 4 0)) ≡ bit false = ap (λ x. apply And x (apply Equal (v.net (name.Port HOST_WORD)) (word 4 0))) (idle_off w) ∙ shut (apply Equal (v.net (name.Port HOST_WORD)) (word 4 0)) in
+        unchanged (solved.1.1.1.1.1.0 ∙ λ i. apply Or (asked i) (named i)) (words_off commits (name.Wire p 3) (name.Wire p 1) 1 d.key v 0 key_words c (idle_off w)) (words_off commits (name.Wire p 4) (name.Wire p 1) (value_first d) d.value v 0 values c (value_off w))
 
     module _ (slots : List Slot) (own : SeesOwn p v s) (t : StoresHash d bits slots s) where
       memory_count : length s.memories ≡ value_first d + word_count d.value
@@ -242,14 +243,14 @@ module _ {P : Type 0} (p : P) (map : ℕ) (d : MapDecl) (bits : ℕ) (nets : Has
           let i = a.inserts in
           let e = a.deletes in
           let index : v.net (name.Wire p 1) ≡ word bits n = solved.1.0 ∙ ap (λ y. conditional y (v.net nets.map.slot) (value v (host_index bits))) a.commits ∙ a.in_slot in
-          let calm = calm_off a.silent in
+          let idle = idle_off a.silent in
           let either : apply Or (v.net nets.inserts) (v.net nets.deletes) ≡ bit (i || e) = (λ k. apply Or (a.is_insert k) (a.is_delete k)) ∙ or_bits i e in
-          let named : apply And (v.net (name.Wire p 3)) (apply Equal (v.net (name.Port HOST_WORD)) (word 4 0)) ≡ bit false = ap (λ y. apply And y (apply Equal (v.net (name.Port HOST_WORD)) (word 4 0))) calm ∙ shut (apply Equal (v.net (name.Port HOST_WORD)) (word 4 0)) in
+          let named : apply And (v.net (name.Wire p 3)) (apply Equal (v.net (name.Port HOST_WORD)) (word 4 0)) ≡ bit false = ap (λ y. apply And y (apply Equal (v.net (name.Port HOST_WORD)) (word 4 0))) idle ∙ shut (apply Equal (v.net (name.Port HOST_WORD)) (word 4 0)) in
           let sets : v.net (name.Wire p 5) ≡ bit ((i || e) || false) =
           solved.1.1.1.1.1.0 ∙ (λ k. apply Or (apply And (a.commits k) (either k)) (named k)) ∙ ap (λ y. apply Or y (bit false)) (and_bits true (i || e)) ∙ or_bits (i || e) false in
           let becomes : v.net (name.Wire p 6) ≡ bit i = solved.1.1.1.1.1.1.0 ∙ ap (λ y. conditional y (v.net nets.inserts) (apply_unary ReduceOr (v.net (name.Port HOST_DATA)))) a.commits ∙ a.is_insert in
           stores_after n x ((i || e) || false) a.within a.shaped index sets (λ h. becomes ∙ ap bit (bit_set i e old.used h ∙ sym a.used)) (λ h. a.used ∙ bit_stays i e old.used h)
-          (λ j m l f. operation_takes commits (name.Wire p 3) (name.Wire p 1) 1 d.key v j m _ _ a.commits calm
+          (λ j m l f. operation_takes commits (name.Wire p 3) (name.Wire p 1) 1 d.key v j m _ _ a.commits idle
           (let z : 0 + j ≡ j = omega arith in subst (λ k. AsksWord v (word_width d.key k) m (byte_word old.key k) (byte_word x.key k)) z (asked_at v d.key 0 j key_words m _ _ l f a.key_words)))
           (λ j m l f. operation_takes commits (name.Wire p 4) (name.Wire p 1) (value_first d) d.value v j m _ _ a.commits (value_off a.silent)
           (let z : 0 + j ≡ j = omega arith in subst (λ k. AsksWord v (word_width d.value k) m (byte_word old.value k) (byte_word x.value k)) z (asked_at v d.value 0 j values m _ _ l f a.value_words)))
@@ -308,16 +309,16 @@ module _ {P : Type 0} (p : P) (map : ℕ) (d : MapDecl) (bits : ℕ) (nets : Has
             by_slot true e = let x = is_slot (a.map == map) (nat_lt a.index d.cap) e in let l : a.index < d.cap = grind (arith, nat_tests) in by_word e l (a.word == 0) refl
             by_slot false e = Elsewhere (here false e) (named ∙ ap bit e)
 
-        module _ (calm : Bool) (c : v.net commits ≡ bit false) (g : v.net nets.map.writes ≡ bit true) (q : v.net nets.calm ≡ bit calm) where
+        module _ (idle : Bool) (c : v.net commits ≡ bit false) (g : v.net nets.map.writes ≡ bit true) (q : v.net nets.idle ≡ bit idle) where
           abbrev Leaves : HostWord → Type 0
-          Leaves w = StoresHash d bits (written_table calm w slots a.index number) (done v statement s)
+          Leaves w = StoresHash d bits (written_table idle w slots a.index number) (done v statement s)
 
-          calm_is : (n : Bool) → v.net (name.Wire p 0) ≡ bit n → v.net (name.Wire p 3) ≡ bit (n && calm)
-          calm_is n h = solved.1.1.1.0 ∙ (λ i. apply And (g i) (apply And (h i) (q i))) ∙ ap (apply And (bit true)) (and_bits n calm) ∙ and_bits true (n && calm)
+          idle_is : (n : Bool) → v.net (name.Wire p 0) ≡ bit n → v.net (name.Wire p 3) ≡ bit (n && idle)
+          idle_is n h = solved.1.1.1.0 ∙ (λ i. apply And (g i) (apply And (h i) (q i))) ∙ ap (apply And (bit true)) (and_bits n idle) ∙ and_bits true (n && idle)
 
-          value_is : (n w : Bool) → v.net (name.Wire p 0) ≡ bit n → v.net (name.Wire p 2) ≡ bit w → v.net (name.Wire p 4) ≡ bit (n && (calm || w))
+          value_is : (n w : Bool) → v.net (name.Wire p 0) ≡ bit n → v.net (name.Wire p 2) ≡ bit w → v.net (name.Wire p 4) ≡ bit (n && (idle || w))
           value_is n w h k =
-              solved.1.1.1.1.0 ∙ (λ i. apply And (g i) (apply And (h i) (apply Or (q i) (k i)))) ∙ ap (λ x. apply And (bit true) (apply And (bit n) x)) (or_bits calm w) ∙ ap (apply And (bit true)) (and_bits n (calm || w)) ∙ and_bits true (n && (calm || w))
+              solved.1.1.1.1.0 ∙ (λ i. apply And (g i) (apply And (h i) (apply Or (q i) (k i)))) ∙ ap (λ x. apply And (bit true) (apply And (bit n) x)) (or_bits idle w) ∙ ap (apply And (bit true)) (and_bits n (idle || w)) ∙ and_bits true (n && (idle || w))
 
           sets_is : (gated : Bool) → v.net (name.Wire p 3) ≡ bit gated → v.net (name.Wire p 5) ≡ bit (gated && a.word == 0)
           sets_is gated h = sets_by gated c h (a.word == 0) (ap (λ x. apply Equal x (word 4 0)) sees.number_of_word)
@@ -358,38 +359,38 @@ module _ {P : Type 0} (p : P) (map : ℕ) (d : MapDecl) (bits : ℕ) (nets : Has
               unset w true o = let no : (w == 0) ≡ false = grind (arith, nat_tests) in no
               unset w false o = refl
 
-              used_by : (x : Bool) → calm ≡ x → v.net (name.Wire p 0) ≡ bit true → a.index < d.cap → a.word ≡ 0 → StoresHash d bits (if x then slice_set slots a.index (written_word old Used number) else slots) (done v statement s)
+              used_by : (x : Bool) → idle ≡ x → v.net (name.Wire p 0) ≡ bit true → a.index < d.cap → a.word ≡ 0 → StoresHash d bits (if x then slice_set slots a.index (written_word old Used number) else slots) (done v statement s)
               used_by true f n l z =
                   let at = index l in
-                  let gate = calm_is true n ∙ ap bit f in
+                  let gate = idle_is true n ∙ ap bit f in
                   let zero_is : (a.word == 0) ≡ true = grind (arith, nat_tests) in
                   let bit_is : v.net (name.Wire p 6) ≡ bit (on number) = solved.1.1.1.1.1.1.0 ∙ (λ i. conditional (c i) (v.net nets.inserts) (apply_unary ReduceOr (sees.content i))) ∙ reduced (number == 0) in
                   stores_after a.index (written_word old Used number) true l (record { key = (t.shaped a.index l).key; value = (t.shaped a.index l).value }) at (sets_is true gate ∙ ap bit zero_is) (λ h. bit_is) (λ h. absurd (cc))
-                  (key_other true gate (λ j m. omega arith)) (value_other (true && (calm || old.used)) (value_is true old.used n (was a.index l at)) (λ j m. omega arith))
+                  (key_other true gate (λ j m. omega arith)) (value_other (true && (idle || old.used)) (value_is true old.used n (was a.index l at)) (λ j m. omega arith))
                 where
                   reduced : (b : Bool) → bit (if b then false else true) ≡ bit (not b)
                   reduced true = refl
                   reduced false = refl
               used_by false f n l z =
-                  let gate = calm_is true n ∙ ap bit f in
-                  refused (sets_is false gate) (words_off commits (name.Wire p 3) (name.Wire p 1) 1 d.key v 0 key_words c gate) (values_off (true && (calm || old.used)) (value_is true old.used n (was a.index l (index l))) (λ j m. omega arith))
+                  let gate = idle_is true n ∙ ap bit f in
+                  refused (sets_is false gate) (words_off commits (name.Wire p 3) (name.Wire p 1) 1 d.key v 0 key_words c gate) (values_off (true && (idle || old.used)) (value_is true old.used n (was a.index l (index l))) (λ j m. omega arith))
 
-              key_by : (x : Bool) (k : ℕ) → calm ≡ x → v.net (name.Wire p 0) ≡ bit true → a.index < d.cap → a.word ≡ 1 + k → k < word_count d.key
+              key_by : (x : Bool) (k : ℕ) → idle ≡ x → v.net (name.Wire p 0) ≡ bit true → a.index < d.cap → a.word ≡ 1 + k → k < word_count d.key
                   → StoresHash d bits (if x then slice_set slots a.index (written_word old (Key k) number) else slots) (done v statement s)
               key_by true k f n l z m =
                   let at = index l in
-                  let gate = calm_is true n ∙ ap bit f in
+                  let gate = idle_is true n ∙ ap bit f in
                   let more : a.word ≢ 0 = omega arith in
                   let h = t.shaped a.index l in
                   let inside : 8 * k < length old.key = omega (arith, h.key, word_there d.key k m) in
                   stores_after a.index (written_word old (Key k) number) false l (record { key = length_stays old.key k number inside ∙ h.key; value = h.value }) at (sets_is true gate ∙ ap bit (unset a.word true more)) (λ e. absurd (cc)) (λ e. refl)
                   (λ j y b e. host_takes commits (name.Wire p 3) (name.Wire p 1) 1 d.key v j y k number old.key c gate (sees.number_of_word ∙ ap (word 4) z) sees.content (omega (arith, keys_all)) m h.key)
-                  (value_other (true && (calm || old.used)) (value_is true old.used n (was a.index l at)) (λ j b. omega arith))
+                  (value_other (true && (idle || old.used)) (value_is true old.used n (was a.index l at)) (λ j b. omega arith))
               key_by false k f n l z m =
-                  let gate = calm_is true n ∙ ap bit f in
-                  refused (sets_is false gate) (words_off commits (name.Wire p 3) (name.Wire p 1) 1 d.key v 0 key_words c gate) (values_off (true && (calm || old.used)) (value_is true old.used n (was a.index l (index l))) (λ j b. omega arith))
+                  let gate = idle_is true n ∙ ap bit f in
+                  refused (sets_is false gate) (words_off commits (name.Wire p 3) (name.Wire p 1) 1 d.key v 0 key_words c gate) (values_off (true && (idle || old.used)) (value_is true old.used n (was a.index l (index l))) (λ j b. omega arith))
 
-              value_by : (x : Bool) (k : ℕ) → (calm || old.used) ≡ x → v.net (name.Wire p 0) ≡ bit true → a.index < d.cap → a.word ≡ value_first d + k → k < word_count d.value
+              value_by : (x : Bool) (k : ℕ) → (idle || old.used) ≡ x → v.net (name.Wire p 0) ≡ bit true → a.index < d.cap → a.word ≡ value_first d + k → k < word_count d.value
                   → StoresHash d bits (if x then slice_set slots a.index (written_word old (Value k) number) else slots) (done v statement s)
               value_by true k f n l z m =
                   let at = index l in
@@ -397,26 +398,26 @@ module _ {P : Type 0} (p : P) (map : ℕ) (d : MapDecl) (bits : ℕ) (nets : Has
                   let more : a.word ≢ 0 = omega arith in
                   let h = t.shaped a.index l in
                   let inside : 8 * k < length old.value = omega (arith, h.value, word_there d.value k m) in
-                  stores_after a.index (written_word old (Value k) number) false l (record { key = h.key; value = length_stays old.value k number inside ∙ h.value }) at (sets_is (true && calm) (calm_is true n) ∙ ap bit (unset a.word calm more)) (λ e. absurd (cc)) (λ e. refl)
-                  (key_other (true && calm) (calm_is true n) (λ j b. omega arith))
+                  stores_after a.index (written_word old (Value k) number) false l (record { key = h.key; value = length_stays old.value k number inside ∙ h.value }) at (sets_is (true && idle) (idle_is true n) ∙ ap bit (unset a.word idle more)) (λ e. absurd (cc)) (λ e. refl)
+                  (key_other (true && idle) (idle_is true n) (λ j b. omega arith))
                   (λ j y b e. host_takes commits (name.Wire p 4) (name.Wire p 1) (value_first d) d.value v j y k number old.value c gate (sees.number_of_word ∙ ap (word 4) z) sees.content (omega (arith, value_count)) m h.value)
               value_by false k f n l z m =
                   let gate = value_is true old.used n (was a.index l (index l)) ∙ ap bit f in
                   let more : a.word ≢ 0 = omega arith in
-                  refused (sets_is (true && calm) (calm_is true n) ∙ ap bit (unset a.word calm more)) (keys_off (true && calm) (calm_is true n) (λ j b. omega arith)) (words_off commits (name.Wire p 4) (name.Wire p 1) (value_first d) d.value v 0 values c gate)
+                  refused (sets_is (true && idle) (idle_is true n) ∙ ap bit (unset a.word idle more)) (keys_off (true && idle) (idle_is true n) (λ j b. omega arith)) (words_off commits (name.Wire p 4) (name.Wire p 1) (value_first d) d.value v 0 values c gate)
 
               by : Naming → Leaves (named_word map d a)
               by (Elsewhere e n) =
-                  let gate = calm_is false n in
-                  let value_gate : v.net (name.Wire p 4) ≡ bit false = solved.1.1.1.1.0 ∙ (λ i. apply And (g i) (apply And (n i) (apply Or (v.net nets.calm) (v.net (name.Wire p 2))))) ∙ ap (apply And (bit true)) (shut (apply Or (v.net nets.calm) (v.net (name.Wire p 2)))) in
+                  let gate = idle_is false n in
+                  let value_gate : v.net (name.Wire p 4) ≡ bit false = solved.1.1.1.1.0 ∙ (λ i. apply And (g i) (apply And (n i) (apply Or (v.net nets.idle) (v.net (name.Wire p 2))))) ∙ ap (apply And (bit true)) (shut (apply Or (v.net nets.idle) (v.net (name.Wire p 2)))) in
                   as_word Nothing e (refused (sets_is false gate) (words_off commits (name.Wire p 3) (name.Wire p 1) 1 d.key v 0 key_words c gate) (words_off commits (name.Wire p 4) (name.Wire p 1) (value_first d) d.value v 0 values c value_gate))
               by (Past e n l m) =
                   let more : a.word ≢ 0 = omega arith in
-                  as_word Nothing e (refused (sets_is (true && calm) (calm_is true n) ∙ ap bit (unset a.word calm more)) (keys_off (true && calm) (calm_is true n) (λ j b. omega arith))
-                  (values_off (true && (calm || old.used)) (value_is true old.used n (was a.index l (index l))) (λ j b. omega arith)))
-              by (IsUsed e n l z) = as_word Used e (used_by calm refl n l z)
-              by (IsKey k e n l z m) = as_word (Key k) e (key_by calm k refl n l z m)
-              by (IsValue k e n l z m) = as_word (Value k) e (value_by (calm || old.used) k refl n l z m)
+                  as_word Nothing e (refused (sets_is (true && idle) (idle_is true n) ∙ ap bit (unset a.word idle more)) (keys_off (true && idle) (idle_is true n) (λ j b. omega arith))
+                  (values_off (true && (idle || old.used)) (value_is true old.used n (was a.index l (index l))) (λ j b. omega arith)))
+              by (IsUsed e n l z) = as_word Used e (used_by idle refl n l z)
+              by (IsKey k e n l z m) = as_word (Key k) e (key_by idle k refl n l z m)
+              by (IsValue k e n l z m) = as_word (Value k) e (value_by (idle || old.used) k refl n l z m)
 
         -- ---- what the host reads
         pub host_shown : v.net (name.Wire p 7) ≡ word 64 (shown_word old (named_word map d a))
@@ -466,43 +467,43 @@ module _ {P : Type 0} (p : P) (map : ℕ) (d : MapDecl) (bits : ℕ) (nets : Has
                 ∙ ap (λ i. word 64 (byte_word old.value i)) y ∙ ends (Value k) e
 
         -- ---- whether the host may write
-        pub host_allowed : (calm : Bool) → v.net nets.calm ≡ bit calm → value v (has_word p map bits d nets.calm) ≡ bit (may_write calm old (named_word map d a))
-        host_allowed calm q = by naming
+        pub host_allowed : (idle : Bool) → v.net nets.idle ≡ bit idle → value v (has_word p map bits d nets.idle) ≡ bit (may_write idle old (named_word map d a))
+        host_allowed idle q = by naming
           where
             index_value : a.index < d.cap → (value v (host_index bits)).value ≡ a.index
             index_value l = let small : a.index < 2 ^ bits = omega arith in ap (λ y. (part_select y (bits - 1) 0).value) sees.index ∙ ap (λ (y : Word). y.value) (low_part 16 bits a.index some) ∙ mod-eq_of_lt small
 
-            under : (l f : Bool) → a.index < d.cap → v.net (name.Wire p 0) ≡ bit true → nat_lt a.word (value_first d + word_count d.value) ≡ l → nat_le (value_first d) a.word ≡ f → value v (has_word p map bits d nets.calm) ≡ bit (l && (calm || (f && old.used)))
+            under : (l f : Bool) → a.index < d.cap → v.net (name.Wire p 0) ≡ bit true → nat_lt a.word (value_first d + word_count d.value) ≡ l → nat_le (value_first d) a.word ≡ f → value v (has_word p map bits d nets.idle) ≡ bit (l && (idle || (f && old.used)))
             under l f here n e g =
                 let w = sees.number_of_word in
                 let used : value v (held p 0 (host_index bits)) ≡ bit old.used = ap (v.memory_word (name.Memory p 0)) (index_value here) ∙ own.memories 0 a.index (omega (arith, memory_count)) ∙ t.used a.index here in
                 (λ i. apply And (apply And ((sym solved.0 ∙ n) i) (apply Less (w i) (word 4 (value_first d + word_count d.value)))) (apply Or (q i) (apply And (apply LessEqual (word 4 (value_first d)) (w i)) (used i))))
-                ∙ (λ i. apply And (apply And (bit true) (bit (e i))) (apply Or (bit calm) (apply And (bit (g i)) (bit old.used))))
-                ∙ (λ i. apply And (and_bits true l i) (apply Or (bit calm) (and_bits f old.used i)))
-                ∙ ap (apply And (bit l)) (or_bits calm (f && old.used))
-                ∙ and_bits l (calm || (f && old.used))
+                ∙ (λ i. apply And (apply And (bit true) (bit (e i))) (apply Or (bit idle) (apply And (bit (g i)) (bit old.used))))
+                ∙ (λ i. apply And (and_bits true l i) (apply Or (bit idle) (and_bits f old.used i)))
+                ∙ ap (apply And (bit l)) (or_bits idle (f && old.used))
+                ∙ and_bits l (idle || (f && old.used))
 
             plain : (b : Bool) → (b || false) ≡ b
             plain true = refl
             plain false = refl
 
-            ends : (w : HostWord) → named_word map d a ≡ w → bit (may_write calm old w) ≡ bit (may_write calm old (named_word map d a))
-            ends w e = ap (λ x. bit (may_write calm old x)) (sym e)
+            ends : (w : HostWord) → named_word map d a ≡ w → bit (may_write idle old w) ≡ bit (may_write idle old (named_word map d a))
+            ends w e = ap (λ x. bit (may_write idle old x)) (sym e)
 
-            by : Naming → value v (has_word p map bits d nets.calm) ≡ bit (may_write calm old (named_word map d a))
+            by : Naming → value v (has_word p map bits d nets.idle) ≡ bit (may_write idle old (named_word map d a))
             by (Elsewhere e n) =
                 let none : apply And (value v (names_slot {P = P} map d.cap)) (apply Less (v.net (name.Port HOST_WORD)) (word 4 (value_first d + word_count d.value))) ≡ bit false =
                 ap (λ x. apply And x (apply Less (v.net (name.Port HOST_WORD)) (word 4 (value_first d + word_count d.value)))) (sym solved.0 ∙ n) ∙ shut (apply Less (v.net (name.Port HOST_WORD)) (word 4 (value_first d + word_count d.value))) in
-                ap (λ x. apply And x (apply Or (v.net nets.calm) (apply And (apply LessEqual (word 4 (value_first d)) (v.net (name.Port HOST_WORD))) (value v (held p 0 (host_index bits)))))) none ∙ shut (apply Or (v.net nets.calm) (apply And (apply LessEqual (word 4 (value_first d)) (v.net (name.Port HOST_WORD))) (value v (held p 0 (host_index bits))))) ∙ ends Nothing e
+                ap (λ x. apply And x (apply Or (v.net nets.idle) (apply And (apply LessEqual (word 4 (value_first d)) (v.net (name.Port HOST_WORD))) (value v (held p 0 (host_index bits)))))) none ∙ shut (apply Or (v.net nets.idle) (apply And (apply LessEqual (word 4 (value_first d)) (v.net (name.Port HOST_WORD))) (value v (held p 0 (host_index bits))))) ∙ ends Nothing e
             by (Past e n l m) = let past : nat_lt a.word (value_first d + word_count d.value) ≡ false = grind (arith, nat_tests) in under false (nat_le (value_first d) a.word) l n past refl ∙ ends Nothing e
             by (IsUsed e n l z) =
                 let some_word : nat_lt a.word (value_first d + word_count d.value) ≡ true = lt-ltb a.word (value_first d + word_count d.value) (omega arith) in
                 let early : nat_le (value_first d) a.word ≡ false = grind (arith, nat_tests) in
-                under true false l n some_word early ∙ ap bit (plain calm) ∙ ends Used e
+                under true false l n some_word early ∙ ap bit (plain idle) ∙ ends Used e
             by (IsKey k e n l z m) =
                 let some_word : nat_lt a.word (value_first d + word_count d.value) ≡ true = lt-ltb a.word (value_first d + word_count d.value) (omega arith) in
                 let early : nat_le (value_first d) a.word ≡ false = grind (arith, nat_tests) in
-                under true false l n some_word early ∙ ap bit (plain calm) ∙ ends (Key k) e
+                under true false l n some_word early ∙ ap bit (plain idle) ∙ ends (Key k) e
             by (IsValue k e n l z m) =
                 let some_word : nat_lt a.word (value_first d + word_count d.value) ≡ true = lt-ltb a.word (value_first d + word_count d.value) (omega arith) in
                 let late : nat_le (value_first d) a.word ≡ true = le-leb (value_first d) a.word (omega arith) in

@@ -23,13 +23,15 @@ use Rattle.block_core.specs.Blocks.{BlockTree, Whole, Among}
 use Rattle.block_core.specs.Parts.{Within}
 use Rattle.block_core.specs.Order.{IsBefore, InOrder, Reads}
 use Rattle.block_core.specs.Formed.{names_scope, block_registers, block_memories, block_wires, memories_fit, block_wires_typed, IsTypedBlock, StatementReads, IsThere}
+use Rattle.block_core.proofs.list_laws_laws.BoolLaws.{and_is}
+use Rattle.block_core.proofs.OrderLaws.{still_before}
 use Rattle.overlay_net.specs.xdp_maps.declared.decl.MapDecl.{MapDecl}
 use Rattle.overlay_net.specs.xdp_maps.Contents.{IsWithinLimits}
 use Rattle.overlay_net.specs.hazard_core.Commits.{word_count}
 use Rattle.frame_net.specs.GatherNets.{net, constant, beside}
 use Rattle.frame_net.specs.SourcesNets.{held}
 use Rattle.frame_net.specs.Stores.{Store, widths_memory, store_statements}
-use Rattle.frame_net.proofs.FormLaws.{and_is, one_is, same_is, wire_is, still_before}
+use Rattle.frame_net.proofs.FormLaws.{one_is, same_is, wire_is}
 use Rattle.frame_net.proofs.StoreLaws.{widths_are, AreStoresTyped, stores_typed, AllReads, stores_read, stores_within, AllSpelled, stores_deep, stores_placed, stores_pass}
 use Rattle.array_net.specs.declared.words.WordNets.{WordNets}
 use Rattle.array_net.specs.Words.{word_width, AreThere}
@@ -39,7 +41,7 @@ use Rattle.array_net.proofs.WordStoreLaws.{select_is, choice_is, count_stores, w
 use Rattle.array_net.proofs.WordMemoryLaws.{memory_at, count_memories, fit_memories}
 use Rattle.array_net.proofs.WordReadLaws.{read_width, read_reads, read_depth, read_apart, read_flat}
 use Rattle.hash_net.specs.declared.block.HashNets.{HashNets}
-use Rattle.hash_net.specs.HashNets.{value_first, hash_memories, key_nets, calm_gate, value_gate, used_sets, used_bit, value_read, hash_wires, count_after, hash_stores, hash_statement, hash_block}
+use Rattle.hash_net.specs.HashNets.{value_first, hash_memories, key_nets, idle_gate, value_gate, used_sets, used_bit, value_read, hash_wires, count_after, hash_stores, hash_statement, hash_block}
 use Rattle.hash_net.specs.Hash.{HaveHashWidths, AreNets}
 
 module _ {P : Type 0} (p : P) (map : ℕ) (d : MapDecl) (bits : ℕ) (nets : HashNets (Name P)) (keys : List (Name P)) (values : List (WordNets (Name P))) (few : map < 16) (limits : IsWithinLimits d)
@@ -143,11 +145,11 @@ module _ {P : Type 0} (p : P) (map : ℕ) (d : MapDecl) (bits : ℕ) (nets : Has
         let m = own_memory 0 1 refl in
         (λ i. memory_word_width (e i) (m.0 i) (m.1 i)) ∙ ap (λ t. if t then 1 else 0) (same_is bits bits some refl)
 
-    calm_width : width_of s (calm_gate p nets) ≡ 1
-    calm_width = rw (h.writes, own_wire 0, h.calm) refl
+    idle_width : width_of s (idle_gate p nets) ≡ 1
+    idle_width = rw (h.writes, own_wire 0, h.idle) refl
 
     values_width : width_of s (value_gate p nets) ≡ 1
-    values_width = rw (h.writes, own_wire 0, h.calm, own_wire 2) refl
+    values_width = rw (h.writes, own_wire 0, h.idle, own_wire 2) refl
 
     sets_width : width_of s (used_sets p nets) ≡ 1
     sets_width = rw (h.commits, h.inserts, h.deletes, own_wire 3) refl
@@ -173,7 +175,7 @@ module _ {P : Type 0} (p : P) (map : ℕ) (d : MapDecl) (bits : ℕ) (nets : Has
     wires_typed : block_wires_typed s (hash_wires p map d bits nets) ≡ true
     wires_typed =
         and_is _ _ (wire_is 1 _ (omega arith) (omega arith) slot_width) (and_is _ _ (wire_is bits _ (omega arith) (omega arith) index_width)
-        (and_is _ _ (wire_is 1 _ (omega arith) (omega arith) (used_width (net p 1) (own_wire 1))) (and_is _ _ (wire_is 1 _ (omega arith) (omega arith) calm_width)
+        (and_is _ _ (wire_is 1 _ (omega arith) (omega arith) (used_width (net p 1) (own_wire 1))) (and_is _ _ (wire_is 1 _ (omega arith) (omega arith) idle_width)
         (and_is _ _ (wire_is 1 _ (omega arith) (omega arith) values_width) (and_is _ _ (wire_is 1 _ (omega arith) (omega arith) sets_width)
         (and_is _ _ (wire_is 1 _ (omega arith) (omega arith) bit_width) (and_is _ _ (wire_is 64 _ (omega arith) (omega arith) value_width) refl)))))))
 
@@ -241,9 +243,9 @@ module _ {P : Type 0} (p : P) (map : ℕ) (d : MapDecl) (bits : ℕ) (nets : Has
       (
         (here, inl (refl, omega arith)),
         (
-          (still_before w before p 3 nets.map.writes a.2, (inl (refl, omega arith), still_before w before p 3 nets.calm a.3)),
+          (still_before w before p 3 nets.map.writes a.2, (inl (refl, omega arith), still_before w before p 3 nets.idle a.3)),
           (
-            (still_before w before p 4 nets.map.writes a.2, (inl (refl, omega arith), (still_before w before p 4 nets.calm a.3, inl (refl, omega arith)))),
+            (still_before w before p 4 nets.map.writes a.2, (inl (refl, omega arith), (still_before w before p 4 nets.idle a.3, inl (refl, omega arith)))),
             (
               ((still_before w before p 5 nets.map.commits a.0, (still_before w before p 5 nets.inserts a.4, still_before w before p 5 nets.deletes a.5)), (inl (refl, omega arith), (tt, tt))),
               (

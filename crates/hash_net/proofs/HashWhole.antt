@@ -107,8 +107,8 @@ is_hash p map d bits nets keys values few kind limits some most room kc vc = rec
   first = first_stores d bits room;
   stays = λ v s solved c g. stays p map d bits nets keys values few kind limits some most room kc vc v s solved c g;
   commits = λ v s slots n new solved own t a. operation_stores p map d bits nets keys values few kind limits some most room kc vc v s solved slots own t n new a;
-  written = λ v s slots a number calm solved own t sees c g q. host_stores p map d bits nets keys values few kind limits some most room kc vc v s solved slots own t a number sees calm c g q;
-  allows = λ v s slots a number calm solved own t sees q. host_allowed p map d bits nets keys values few kind limits some most room kc vc v s solved slots own t a number sees calm q;
+  written = λ v s slots a number idle solved own t sees c g q. host_stores p map d bits nets keys values few kind limits some most room kc vc v s solved slots own t a number sees idle c g q;
+  allows = λ v s slots a number idle solved own t sees q. host_allowed p map d bits nets keys values few kind limits some most room kc vc v s solved slots own t a number sees idle q;
   loads = λ v s slots index n j own t e l m.
       let c = memory_count d bits slots s t in
       shown_value p bits (value_first d) d.value some most v s d.cap (λ k. (slot_at slots k).value) j n index own.memories t.values (omega (arith, c)) m l e;

@@ -76,14 +76,14 @@ pub record HaveHashWidths {P : Type 0} (w : Whole P) (d : MapDecl) (bits : ℕ) 
   pub commits : name_width w port_list nets.map.commits ≡ 1
   pub slot : name_width w port_list nets.map.slot ≡ bits
   pub writes : name_width w port_list nets.map.writes ≡ 1
-  pub calm : name_width w port_list nets.calm ≡ 1
+  pub idle : name_width w port_list nets.idle ≡ 1
   pub inserts : name_width w port_list nets.inserts ≡ 1
   pub deletes : name_width w port_list nets.deletes ≡ 1
   pub key_words : HaveWidths (names_scope w port_list) d.key 0 (map_list (key_nets nets.inserts) keys)
   pub value_words : HaveWidths (names_scope w port_list) d.value 0 values
 
 abbrev pub AreNets : {N : Type 0} → (N → Type 0) → HashNets N → Type 0
-AreNets q nets = q nets.map.commits × q nets.map.slot × q nets.map.writes × q nets.calm × q nets.inserts × q nets.deletes
+AreNets q nets = q nets.map.commits × q nets.map.slot × q nets.map.writes × q nets.idle × q nets.inserts × q nets.deletes
 
 -- The block: what it has, that it is well typed, in order and spelled where the nets that it reads of other parts are, what a clock does, and what trees
 -- show of it: whether the host may write the word that it names, and a word of a slot's value.
@@ -103,10 +103,10 @@ pub record IsHash {P : Type 0} (part : P) (map : ℕ) (d : MapDecl) (bits : ℕ)
   pub stays : (v : Env (Name P)) (s : Stored) → Solve v part 0 b.wires → v.net nets.map.commits ≡ bit false → v.net nets.map.writes ≡ bit false → done v b.statement s ≡ s
   pub commits : (v : Env (Name P)) (s : Stored) (slots : List Slot) (n : ℕ) (new : Slot) → Solve v part 0 b.wires → SeesOwn part v s → StoresHash d bits slots s → AsksHash d bits nets keys values v n (slot_at slots n) new
       → StoresHash d bits (slice_set slots n new) (done v b.statement s)
-  pub written : (v : Env (Name P)) (s : Stored) (slots : List Slot) (a : Access) (number : ℕ) (calm : Bool) → Solve v part 0 b.wires → SeesOwn part v s → StoresHash d bits slots s → SeesHost v a number
-      → v.net nets.map.commits ≡ bit false → v.net nets.map.writes ≡ bit true → v.net nets.calm ≡ bit calm → StoresHash d bits (written_table calm (named_word map d a) slots a.index number) (done v b.statement s)
-  pub allows : (v : Env (Name P)) (s : Stored) (slots : List Slot) (a : Access) (number : ℕ) (calm : Bool) → Solve v part 0 b.wires → SeesOwn part v s → StoresHash d bits slots s → SeesHost v a number → v.net nets.calm ≡ bit calm
-      → value v (has_word part map bits d nets.calm) ≡ bit (may_write calm (slot_at slots a.index) (named_word map d a))
+  pub written : (v : Env (Name P)) (s : Stored) (slots : List Slot) (a : Access) (number : ℕ) (idle : Bool) → Solve v part 0 b.wires → SeesOwn part v s → StoresHash d bits slots s → SeesHost v a number
+      → v.net nets.map.commits ≡ bit false → v.net nets.map.writes ≡ bit true → v.net nets.idle ≡ bit idle → StoresHash d bits (written_table idle (named_word map d a) slots a.index number) (done v b.statement s)
+  pub allows : (v : Env (Name P)) (s : Stored) (slots : List Slot) (a : Access) (number : ℕ) (idle : Bool) → Solve v part 0 b.wires → SeesOwn part v s → StoresHash d bits slots s → SeesHost v a number → v.net nets.idle ≡ bit idle
+      → value v (has_word part map bits d nets.idle) ≡ bit (may_write idle (slot_at slots a.index) (named_word map d a))
   pub loads : (v : Env (Name P)) (s : Stored) (slots : List Slot) (index : Tree (Name P)) (n j : ℕ) → SeesOwn part v s → StoresHash d bits slots s → (value v index).value ≡ n → n < d.cap → j < word_count d.value
       → value v (word_shown part (value_first d) d.value j index) ≡ word 64 (byte_word (slot_at slots n).value j)
   pub shows : (v : Env (Name P)) (s : Stored) (slots : List Slot) (a : Access) (number : ℕ) → Solve v part 0 b.wires → SeesOwn part v s → StoresHash d bits slots s → SeesHost v a number

@@ -19,7 +19,7 @@ use Rattle.array_net.specs.WordTrees.{host_index, is_word, words_read, word_memo
 use Rattle.array_net.specs.ArrayNets.{names_slot, chosen_index}
 use Rattle.hash_net.specs.declared.block.HashNets.{HashNets}
 
--- ---- memories: 0 whether a slot is used, from 1 on the words of its key, and behind them those of its value; the host's number of a word
+-- ---- memories: 0 whether a slot is used, from 1 on the words of its key, and after them those of its value; the host's number of a word
 -- is that of its memory
 abbrev pub value_first : MapDecl → ℕ
 value_first d = suc (word_count d.key)
@@ -32,12 +32,12 @@ abbrev pub is_value : {P : Type 0} → MapDecl → Tree (Name P)
 is_value d = TBinary LessEqual (constant 4 (value_first d)) (port HOST_WORD)
 
 abbrev pub has_word : {P : Type 0} → P → ℕ → ℕ → MapDecl → Name P → Tree (Name P)
-has_word p map bits d calm =
+has_word p map bits d idle =
     TBinary And (TBinary And (names_slot map d.cap) (TBinary Less (port HOST_WORD) (constant 4 (value_first d + word_count d.value))))
-    (TBinary Or (TRead calm) (TBinary And (is_value d) (held p 0 (host_index bits))))
+    (TBinary Or (TRead idle) (TBinary And (is_value d) (held p 0 (host_index bits))))
 
 -- ---- a clock
--- 0: the host names a slot; 1: the index; 2: the slot there is used; 3, 4: the host writes what only a calm clock lets it, and values;
+-- 0: the host names a slot; 1: the index; 2: the slot there is used; 3, 4: the host writes what only an idle clock lets it, and values;
 -- 5, 6: whether the used bit is set, and what it becomes; 7: what the host reads
 abbrev pub used_sets : {P : Type 0} → P → HashNets (Name P) → Tree (Name P)
 used_sets p nets = TBinary Or (TBinary And (TRead nets.map.commits) (TBinary Or (TRead nets.inserts) (TRead nets.deletes))) (TBinary And (net p 3) (is_word 0))
@@ -52,19 +52,19 @@ abbrev pub value_read : {P : Type 0} → P → ℕ → MapDecl → Tree (Name P)
 value_read p bits d =
     used_read p bits (words_read p bits 1 d.key 0 (word_count d.key) (words_read p bits (value_first d) d.value 0 (word_count d.value) (constant 64 0)))
 
--- what the host writes: what only a calm clock lets it, and values
-abbrev pub calm_gate : {P : Type 0} → P → HashNets (Name P) → Tree (Name P)
-calm_gate p nets = TBinary And (TRead nets.map.writes) (TBinary And (net p 0) (TRead nets.calm))
+-- what the host writes: what only an idle clock lets it, and values
+abbrev pub idle_gate : {P : Type 0} → P → HashNets (Name P) → Tree (Name P)
+idle_gate p nets = TBinary And (TRead nets.map.writes) (TBinary And (net p 0) (TRead nets.idle))
 
 abbrev pub value_gate : {P : Type 0} → P → HashNets (Name P) → Tree (Name P)
-value_gate p nets = TBinary And (TRead nets.map.writes) (TBinary And (net p 0) (TBinary Or (TRead nets.calm) (net p 2)))
+value_gate p nets = TBinary And (TRead nets.map.writes) (TBinary And (net p 0) (TBinary Or (TRead nets.idle) (net p 2)))
 
 abbrev pub hash_wires : {P : Type 0} → P → ℕ → MapDecl → ℕ → HashNets (Name P) → List (BlockWireTree (Name P))
 hash_wires p map d bits nets =
     wire 1 (names_slot map d.cap)
     ∷ wire bits (chosen_index bits nets.map)
     ∷ wire 1 (held p 0 (net p 1))
-    ∷ wire 1 (calm_gate p nets)
+    ∷ wire 1 (idle_gate p nets)
     ∷ wire 1 (value_gate p nets)
     ∷ wire 1 (used_sets p nets)
     ∷ wire 1 (used_bit nets)

@@ -11,7 +11,7 @@ ghost use Rattle.hash_net.specs.Hash.{IsHash, count_name, value_name};
 ghost use Rattle.hash_net.specs.HashNets.{hash_memories, hash_wires, hash_words, hash_statement, key_nets};
 
 use crate::nets::{
-    calm_gate, count_after, used_bit, used_sets, value_first, value_gate, value_read,
+    count_after, idle_gate, used_bit, used_sets, value_first, value_gate, value_read,
 };
 use array_net::words::{WordNets, add_memories, add_stores, word_count};
 use array_net::{MapNets, chosen_index, names_slot};
@@ -28,7 +28,7 @@ use std::alloc::{AllocError, Global};
 #[derive(Clone, Copy)]
 pub struct HashNets<N> {
     pub map: MapNets<N>,
-    pub calm: N,
+    pub idle: N,
     pub inserts: N,
     pub deletes: N,
 }
@@ -82,7 +82,7 @@ fn wires<P: Part>(
     let slot = names_slot(alloc, number, decl.cap)?;
     let index = chosen_index(alloc, bits, nets.map)?;
     let used = held(alloc, part, 0, net(part, 1))?;
-    let gate = calm_gate(alloc, part, nets)?;
+    let gate = idle_gate(alloc, part, nets)?;
     let values = value_gate(alloc, part, nets)?;
     let sets = used_sets(alloc, part, nets)?;
     let becomes = used_bit(alloc, nets)?;
@@ -117,8 +117,8 @@ fn add_words<P: Part>(
     ensures { OnOk result (map statement_of all.new.items ≡ map statement_of all.old.items ++ store_statements 1 (hash_words part decl.now commits keys.now values.now)) }
 {
     let index = Name::Wire(part, 1);
-    let calm = Name::Wire(part, 3);
-    add_stores(alloc, all, commits, calm, index, 1, decl.key, keys)?;
+    let idle = Name::Wire(part, 3);
+    add_stores(alloc, all, commits, idle, index, 1, decl.key, keys)?;
     let first = value_first(decl);
     let gate = Name::Wire(part, 4);
     add_stores(alloc, all, commits, gate, index, first, decl.value, values)?;

@@ -2,7 +2,7 @@
 
 ghost use Rattle.std.specs.Prelude.{◌≡◌, ◌≤◌, IfOk};
 ghost use Rattle.net_core.specs.View.{tree_of};
-ghost use Rattle.hash_net.specs.HashNets.{value_first, is_value, has_word, calm_gate, value_gate, used_sets, used_bit, used_read, value_read, count_after};
+ghost use Rattle.hash_net.specs.HashNets.{value_first, is_value, has_word, idle_gate, value_gate, used_sets, used_bit, used_read, value_read, count_after};
 
 use crate::block::HashNets;
 use array_net::names_slot;
@@ -40,13 +40,13 @@ pub fn has_word<P: Part>(
     number: u8,
     bits: u8,
     decl: &MapDecl,
-    calm: Name<P>,
+    idle: Name<P>,
 ) -> Result<Expr<Name<P>>, AllocError>
     requires some { 1 ≤ bits }
     requires cap { 1 ≤ decl.now.cap }
     requires key { decl.now.key ≤ 64 }
     requires value { decl.now.value ≤ 64 }
-    ensures { IfOk result (λ e. tree_of e ≡ has_word part number bits decl.now calm) }
+    ensures { IfOk result (λ e. tree_of e ≡ has_word part number bits decl.now idle) }
 {
     let slot = names_slot(alloc, number, decl.cap)?;
     let words = value_first(decl) + word_count(decl.value);
@@ -60,20 +60,20 @@ pub fn has_word<P: Part>(
     let used = held(alloc, part, 0, host_index(bits))?;
     let value = is_value(alloc, decl)?;
     let of_used = binary(alloc, Op::And, value, used)?;
-    let may = binary(alloc, Op::Or, Expr::Read(calm), of_used)?;
+    let may = binary(alloc, Op::Or, Expr::Read(idle), of_used)?;
     binary(alloc, Op::And, there, may)
 }
 
-/// Whether the host writes what only a calm clock lets it.
-pub(crate) fn calm_gate<P: Part>(
+/// Whether the host writes what only an idle clock lets it.
+pub(crate) fn idle_gate<P: Part>(
     alloc: Global,
     part: P,
     nets: HashNets<Name<P>>,
 ) -> Result<Expr<Name<P>>, AllocError>
-    ensures { IfOk result (λ e. tree_of e ≡ calm_gate part nets) }
+    ensures { IfOk result (λ e. tree_of e ≡ idle_gate part nets) }
 {
-    let calm = binary(alloc, Op::And, net(part, 0), Expr::Read(nets.calm))?;
-    binary(alloc, Op::And, Expr::Read(nets.map.writes), calm)
+    let idle = binary(alloc, Op::And, net(part, 0), Expr::Read(nets.idle))?;
+    binary(alloc, Op::And, Expr::Read(nets.map.writes), idle)
 }
 
 /// Whether the host writes values.
@@ -84,7 +84,7 @@ pub(crate) fn value_gate<P: Part>(
 ) -> Result<Expr<Name<P>>, AllocError>
     ensures { IfOk result (λ e. tree_of e ≡ value_gate part nets) }
 {
-    let used = binary(alloc, Op::Or, Expr::Read(nets.calm), net(part, 2))?;
+    let used = binary(alloc, Op::Or, Expr::Read(nets.idle), net(part, 2))?;
     let named = binary(alloc, Op::And, net(part, 0), used)?;
     binary(alloc, Op::And, Expr::Read(nets.map.writes), named)
 }

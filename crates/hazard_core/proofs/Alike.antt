@@ -5,6 +5,7 @@ use Rattle.std.specs.List.{AllByRecursion, list_all}
 use Rattle.std.specs.Int.{w64, cast_unsigned}
 use Rattle.std.specs.Str.{bytes_eq}
 use Rattle.std.proofs.lemmas.Bool.Decides.{nat_tests}
+use Rattle.list_laws.proofs.ListLaws.{all_below}
 use Rattle.xdp_maps.specs.declared.decl.MapDecl.{MapDecl}
 use Rattle.xdp_maps.specs.declared.decl.MapKind.{MapKind}
 use Rattle.xdp_maps.specs.declared.decl.MapKind.TheVariants.{Hash, Array}
@@ -18,7 +19,7 @@ use Rattle.cell_core.specs.Cells.{on, bit}
 use Rattle.cell_core.specs.Sites.{SiteView, ProgramView, site_at, records, bytes_of, operation_as, operation_with}
 use Rattle.cell_core.specs.Rows.{numbers, taken_by}
 use Rattle.hazard_core.specs.Tables.{TableState, decl_of, table_at, used_count}
-use Rattle.hazard_core.specs.Held.{Pointer, Null, same_pointer, is_null, is_update, is_delete, Held, held_value, pointer_in, found_cell, answer_cell, read_cells, asked, asked_key, access_pointer, pointer_operand, writes_as, writes, adds_key, takes_key, update_pointer, slot_pointer, written_as, written_pointer, parts, is_pending, pending}
+use Rattle.hazard_core.specs.StageValues.{Pointer, Null, same_pointer, is_null, is_update, is_delete, StageValues, stage_value, pointer_in, found_cell, answer_cell, read_cells, asked, asked_key, access_pointer, pointer_operand, writes_as, writes, adds_key, takes_key, update_pointer, slot_pointer, written_as, written_pointer, parts, is_pending, pending}
 use Rattle.hazard_core.specs.Overlay.{found_as, found_over, key_pointer_as, key_pointer, looks, found_pointer, value_as, value_over, value_under, entry_value, update_answer, delete_answer, where_some, answer_as, answer_over}
 use Rattle.hazard_core.specs.Keeping.{SameCell, AreAlike, looked_operands, LooksBelow, ReadsKeep}
 
@@ -33,14 +34,6 @@ all_append test (x ∷ xs) ys e =
     let q = and_parts (test x) (list_all test (xs ++ ys)) e in
     let r = all_append test xs ys q.1 in
     (ap (λ b. b && list_all test xs) q.0 ∙ r.0, r.1)
-
-all_below : (row : ℕ → ℕ) (r : ℕ) (cs : List ℕ) → list_all (λ c. nat_lt (row c) r) cs ≡ true → AllByRecursion (λ c. row c < r) cs
-all_below row r [] e = tt
-all_below row r (c ∷ cs) e =
-    let q = and_parts (nat_lt (row c) r) (list_all (λ c. nat_lt (row c) r) cs) e in
-    let a = q.0 in
-    let l : row c < r = grind (arith, nat_tests) in
-    (l, all_below row r cs q.1)
 
 filtered : {A : Type 0} (test : A → Bool) (xs : List A) → AllByRecursion (λ x. test x ≡ true) (filter test xs)
 filtered test [] = tt
@@ -76,10 +69,10 @@ key_part act.Delete key value m n = refl
 key_part (act.Store at size) key value m n = refl
 key_part (act.Atomic at a) key value m n = refl
 
-module _ (p : ProgramView) (row : ℕ → ℕ) (r : ℕ) (t : TableState) (h g : Held) (alike : AreAlike p row r h g) where
-  map_values : (cs : List ℕ) → AllByRecursion (λ c. row c < r) cs → map_list (held_value h) cs ≡ map_list (held_value g) cs
+module _ (p : ProgramView) (row : ℕ → ℕ) (r : ℕ) (t : TableState) (h g : StageValues) (alike : AreAlike p row r h g) where
+  map_values : (cs : List ℕ) → AllByRecursion (λ c. row c < r) cs → map_list (stage_value h) cs ≡ map_list (stage_value g) cs
   map_values [] a = refl
-  map_values (c ∷ cs) a = ap (λ x. x ∷ map_list (held_value h) cs) (alike c (inl a.0)).value ∙ ap (λ xs. held_value g c ∷ xs) (map_values cs a.1)
+  map_values (c ∷ cs) a = ap (λ x. x ∷ map_list (stage_value h) cs) (alike c (inl a.0)).value ∙ ap (λ xs. stage_value g c ∷ xs) (map_values cs a.1)
 
   map_pointers : (cs : List ℕ) → AllByRecursion (λ c. row c < r) cs → map_list (pointer_in h) cs ≡ map_list (pointer_in g) cs
   map_pointers [] a = refl
@@ -91,8 +84,8 @@ module _ (p : ProgramView) (row : ℕ → ℕ) (r : ℕ) (t : TableState) (h g :
 
   asked_alike : (s : SiteView) → TakesBelow s → asked t.decls h s ≡ asked t.decls g s
   asked_alike s a =
-      ap (λ (key : List ℕ). operation_with (decl_of t.decls s.map) s.act key (map_list (held_value h) s.operands)) (map_values s.key a.0)
-      ∙ ap (λ (xs : List ℕ). operation_with (decl_of t.decls s.map) s.act (map_list (held_value g) s.key) xs) (map_values s.operands a.1)
+      ap (λ (key : List ℕ). operation_with (decl_of t.decls s.map) s.act key (map_list (stage_value h) s.operands)) (map_values s.key a.0)
+      ∙ ap (λ (xs : List ℕ). operation_with (decl_of t.decls s.map) s.act (map_list (stage_value g) s.key) xs) (map_values s.operands a.1)
 
   access_alike : (s : SiteView) → TakesBelow s → access_pointer h s ≡ access_pointer g s
   access_alike s a = ap (λ (qs : List Pointer). get_or qs (pointer_operand s.act) Null) (map_pointers s.operands a.1)
@@ -101,7 +94,7 @@ module _ (p : ProgramView) (row : ℕ → ℕ) (r : ℕ) (t : TableState) (h g :
   key_alike : (s : SiteView) → LooksBelow row r s → asked_key t.decls h s ≡ asked_key t.decls g s
   key_alike s a = key_part s.act _ _ _ _ ∙ ap (bytes_of (decl_of t.decls s.map).key) (map_values s.key a.0) ∙ sym (key_part s.act _ _ _ _)
 
-  first_value : (xs : List ℕ) → AllByRecursion (λ c. row c < r) (take 1 xs) → slice_index (map_list (held_value h) xs) 0 ≡ slice_index (map_list (held_value g) xs) 0
+  first_value : (xs : List ℕ) → AllByRecursion (λ c. row c < r) (take 1 xs) → slice_index (map_list (stage_value h) xs) 0 ≡ slice_index (map_list (stage_value g) xs) 0
   first_value [] a = refl
   first_value (x ∷ xs) a = (alike x (inl a.0)).value
 
@@ -115,7 +108,7 @@ module _ (p : ProgramView) (row : ℕ → ℕ) (r : ℕ) (t : TableState) (h g :
   third_pointer (x ∷ y ∷ xs) a = first_pointer xs a
 
   looks_as : (a : Act) (xs : List ℕ) → AllByRecursion (λ c. row c < r) (looked_operands a xs) → (k l v w : List ℕ) (m n : ℕ)
-      → looks (operation_as a k v (slice_index (map_list (held_value h) xs) 0) m) ≡ looks (operation_as a l w (slice_index (map_list (held_value g) xs) 0) n)
+      → looks (operation_as a k v (slice_index (map_list (stage_value h) xs) 0) m) ≡ looks (operation_as a l w (slice_index (map_list (stage_value g) xs) 0) n)
   looks_as act.Update xs a k l v w m n = ap (λ (flags : ℕ). not (nat_lt 2 flags)) (first_value xs a)
   looks_as act.Lookup xs a k l v w m n = refl
   looks_as (act.Load at size) xs a k l v w m n = refl
@@ -158,8 +151,8 @@ module _ (p : ProgramView) (row : ℕ → ℕ) (r : ℕ) (t : TableState) (h g :
   writes_same i b =
       let s = site_at p.sites i in
       let k = (decl_of t.decls s.map).kind in
-      ap (λ (n : ℕ). on n && writes_as s.act k (held_value h (answer_cell p.cells i))) (alike s.guard (inl (guard_below i b))).value
-      ∙ ap (λ (n : ℕ). on (held_value g s.guard) && writes_as s.act k n) (answer_same i b).value
+      ap (λ (n : ℕ). on n && writes_as s.act k (stage_value h (answer_cell p.cells i))) (alike s.guard (inl (guard_below i b))).value
+      ∙ ap (λ (n : ℕ). on (stage_value g s.guard) && writes_as s.act k n) (answer_same i b).value
 
   written_same_as : (a : Act) (k : MapKind) (i : ℕ) → Below i → written_as a k p t h i ≡ written_as a k p t g i
   written_same_as act.Update Hash i b = ap (update_pointer i) (found_same i b).pointer
@@ -240,7 +233,7 @@ module _ (p : ProgramView) (row : ℕ → ℕ) (r : ℕ) (t : TableState) (h g :
       key : key_pointer p t h before j ≡ key_pointer p t g before j
       key = key_same before j all below
 
-      own : bytes_of d.key (map_list (held_value h) s.key) ≡ bytes_of d.key (map_list (held_value g) s.key)
+      own : bytes_of d.key (map_list (stage_value h) s.key) ≡ bytes_of d.key (map_list (stage_value g) s.key)
       own = ap (bytes_of d.key) (map_values s.key below.0)
 
       present : bit (not (is_null (key_pointer p t h before j))) ≡ bit (not (is_null (key_pointer p t g before j)))
@@ -266,18 +259,18 @@ module _ (p : ProgramView) (row : ℕ → ℕ) (r : ℕ) (t : TableState) (h g :
           ∙ ap (λ (bytes : List ℕ). where_some (access_pointer g s) (f bytes)) (entry_same before s.map (access_pointer g s) all)
 
       by : (a : Act) → s.act ≡ a → AllByRecursion (λ c. row c < r) (looked_operands a s.operands)
-          → answer_as a (operation_with d a (map_list (held_value h) s.key) (map_list (held_value h) s.operands)) p t h before j
-          ≡ answer_as a (operation_with d a (map_list (held_value g) s.key) (map_list (held_value g) s.operands)) p t g before j
+          → answer_as a (operation_with d a (map_list (stage_value h) s.key) (map_list (stage_value h) s.operands)) p t h before j
+          ≡ answer_as a (operation_with d a (map_list (stage_value g) s.key) (map_list (stage_value g) s.operands)) p t g before j
       by (act.Load at size) e b = under (number_at size at) (at_pointer 0 (ap pointer_operand e) (first_pointer s.operands b))
       by (act.Atomic at a) e b = under (changed_at a.wide at) (at_pointer 2 (ap pointer_operand e) (third_pointer s.operands b))
       by act.Update e b =
-          let f = slice_index (map_list (held_value h) s.operands) 0 in
-          let k = bytes_of d.key (map_list (held_value h) s.key) in
+          let f = slice_index (map_list (stage_value h) s.operands) 0 in
+          let k = bytes_of d.key (map_list (stage_value h) s.key) in
           ap (λ (n : ℕ). cast_unsigned w64 (update_answer d.kind d (used + n) (count_by (takes_key p t.decls h) before) (not (is_null (key_pointer p t h before j))) k f)) adds
           ∙ ap (λ (n : ℕ). cast_unsigned w64 (update_answer d.kind d (used + count_by (adds_key p t.decls g) before) n (not (is_null (key_pointer p t h before j))) k f)) takes
           ∙ ap (λ (q : Pointer). cast_unsigned w64 (update_answer d.kind d (used + count_by (adds_key p t.decls g) before) (count_by (takes_key p t.decls g) before) (not (is_null q)) k f)) key
           ∙ ap (λ (x : List ℕ). cast_unsigned w64 (update_answer d.kind d (used + count_by (adds_key p t.decls g) before) (count_by (takes_key p t.decls g) before) (not (is_null (key_pointer p t g before j))) x f)) own
-          ∙ ap (λ (x : ℕ). cast_unsigned w64 (update_answer d.kind d (used + count_by (adds_key p t.decls g) before) (count_by (takes_key p t.decls g) before) (not (is_null (key_pointer p t g before j))) (bytes_of d.key (map_list (held_value g) s.key)) x)) (first_value s.operands b)
+          ∙ ap (λ (x : ℕ). cast_unsigned w64 (update_answer d.kind d (used + count_by (adds_key p t.decls g) before) (count_by (takes_key p t.decls g) before) (not (is_null (key_pointer p t g before j))) (bytes_of d.key (map_list (stage_value g) s.key)) x)) (first_value s.operands b)
       by act.Delete e b = ap (λ (q : Pointer). cast_unsigned w64 (delete_answer d.kind (not (is_null q)))) key
       by act.Lookup e b = present
       by (act.Store at size) e b = present

@@ -12,7 +12,7 @@ use Rattle.cell_core.specs.declared.site.Act.{Act}
 use Rattle.cell_core.specs.declared.site.Act.TheVariants as act
 use Rattle.cell_core.specs.Sites.{SiteView, ProgramView, site_at}
 use Rattle.hazard_core.specs.Tables.{Slot, no_slot, TableState, decl_of, table_at, slot_at, has_key, slot_of, free_slot, used_count}
-use Rattle.hazard_core.specs.Held.{Pointer, Null, InSlot, Pending, same_pointer, is_update, is_delete, Held, held_value, answer_cell, asked, asked_key, guard_on, writes_as, writes, slot_pointer, written_as, written_pointer}
+use Rattle.hazard_core.specs.StageValues.{Pointer, Null, InSlot, Pending, same_pointer, is_update, is_delete, StageValues, stage_value, answer_cell, asked, asked_key, guard_on, writes_as, writes, slot_pointer, written_as, written_pointer}
 use Rattle.hazard_core.specs.Overlay.{value_as}
 use Rattle.hazard_core.specs.Commits.{with_slot, makes_entry, slot_under, written_slot, slot_as, committed, changed_key, change_by, host_written, word_in, may_write, Word, Used, Key, Value, Nothing, written_word}
 use Rattle.hazard_core.specs.Changes.{IsChange, IsRightCommit, CommitsChange, HostChanges}
@@ -55,9 +55,6 @@ written_changes t m n k b s w =
 
 -- ---- a commit
 
-false_true : false ≡ true → ⊥
-false_true e = cc
-
 pub pointer_tests : (p q : Pointer) → same_pointer p q ≡ true → p ≡ q
 pointer_tests Null Null e = refl
 pointer_tests Null (InSlot n) e = cc
@@ -95,10 +92,7 @@ other_key a key other = by (bytes_eq a key) refl
     by true e = absurd (other (sym ((bytes_eq-Decides a key).0 e)))
     by false e = refl
 
-module _ (p : ProgramView) (t : TableState) (taken : List ℕ) (h : Held) (j : ℕ) (on : writes p t.decls h j ≡ true) (right : IsRightCommit p t taken h j) where
-  site : SiteView
-  site = site_at p.sites j
-
+module _ (p : ProgramView) (t : TableState) (taken : List ℕ) (h : StageValues) (j : ℕ) (on : writes p t.decls h j ≡ true) (right : IsRightCommit p t taken h j) where
   -- a new entry goes into a slot that is not used
   free_is_unused : makes_entry p t h j ≡ true → (slot_at (table_at t (site_at p.sites j).map) (written_slot p t taken h j)).used ≡ false
   free_is_unused m =
@@ -139,7 +133,7 @@ module _ (p : ProgramView) (t : TableState) (taken : List ℕ) (h : Held) (j : �
   no_delete : (decl_of t.decls (site_at p.sites j).map).kind ≡ Array → act.Delete ≡ (site_at p.sites j).act → ⊥
   no_delete kind is =
       let s = site_at p.sites j in
-      let n = held_value h (answer_cell p.cells j) in
+      let n = stage_value h (answer_cell p.cells j) in
       let u : guard_on h s && writes_as act.Delete (decl_of t.decls s.map).kind n ≡ true = subst (λ (a : Act). guard_on h s && writes_as a (decl_of t.decls s.map).kind n ≡ true) (sym is) on in
       let v : guard_on h s && false ≡ true = subst (λ k. guard_on h s && writes_as act.Delete k n ≡ true) kind u in
       nothing (guard_on h s) v

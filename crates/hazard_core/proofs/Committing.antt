@@ -18,7 +18,7 @@ use Rattle.cell_core.specs.declared.site.Act.TheVariants as act
 use Rattle.cell_core.specs.Sites.{ProgramView, site_at, operation_with, bytes_of}
 use Rattle.cell_core.specs.Formed.{AllFit}
 use Rattle.hazard_core.specs.Tables.{Slot, TableState, decl_of, table_at, slot_at, has_key, free_slot, used_count}
-use Rattle.hazard_core.specs.Held.{Pointer, Null, InSlot, Pending, same_pointer, is_null, Held, held_value, pointer_in, guard_on, asked, asked_key, access_pointer, found_cell, answer_cell, is_update, is_delete, writes_as, writes, adds_key, takes_key, update_pointer, slot_pointer, written_as, written_pointer}
+use Rattle.hazard_core.specs.StageValues.{Pointer, Null, InSlot, Pending, same_pointer, is_null, StageValues, stage_value, pointer_in, guard_on, asked, asked_key, access_pointer, found_cell, answer_cell, is_update, is_delete, writes_as, writes, adds_key, takes_key, update_pointer, slot_pointer, written_as, written_pointer}
 use Rattle.hazard_core.specs.Overlay.{key_pointer, looks, value_as, update_answer, delete_answer, answer_as}
 use Rattle.hazard_core.specs.Commits.{makes_entry, slot_under, written_slot, slot_as, taken_after}
 use Rattle.hazard_core.specs.Changes.{with_tables, IsRightCommit}
@@ -91,7 +91,7 @@ and_false : (c : Bool) → c && false ≡ false
 and_false true = refl
 and_false false = refl
 
-module _ (laws : IndexLaws) (p : ProgramView) (t : TableState) (h : Held) (base : AreTables t) (fit : AllFit t.decls p.sites) (reads : HoldsReads p t h) where
+module _ (laws : IndexLaws) (p : ProgramView) (t : TableState) (h : StageValues) (base : AreTables t) (fit : AllFit t.decls p.sites) (reads : HoldsReads p t h) where
   -- what the commit of site j does
   pub record Commit (j : ℕ) (ts : List (List Slot)) (taken : List ℕ) : Type 0 where
     pub n : ℕ
@@ -129,7 +129,7 @@ module _ (laws : IndexLaws) (p : ProgramView) (t : TableState) (h : Held) (base 
     map_there = let a = in_map in let b = f.beside in omega (arith, a, b)
 
     guard : guard_on h (site_at p.sites j) ≡ true
-    guard = (and_parts (guard_on h (site_at p.sites j)) (writes_as (site_at p.sites j).act (decl_of t.decls (site_at p.sites j).map).kind (held_value h (answer_cell p.cells j))) on).0
+    guard = (and_parts (guard_on h (site_at p.sites j)) (writes_as (site_at p.sites j).act (decl_of t.decls (site_at p.sites j).map).kind (stage_value h (answer_cell p.cells j))) on).0
 
     low : (i : ℕ) → key_at p t h (map_of p t h j) (key_of p t h j) j ≡ Pending i → i < j
     low i e = f.pending (map_of p t h j) (key_of p t h j) i in_map e
@@ -251,26 +251,26 @@ module _ (laws : IndexLaws) (p : ProgramView) (t : TableState) (h : Held) (base 
         sets : (old : List ℕ) → value_as (asked t.decls h (site_at p.sites j)) old ≡ value_as (asked t.decls h (site_at p.sites j)) (slot_at (get_or ts (map_of p t h j) []) (free_slot (get_or ts (map_of p t h j) []))).value
         sets old =
             let s = site_at p.sites j in
-            let value : Act → List ℕ → List ℕ = λ a. value_as (operation_with (decl_of t.decls s.map) a (map_list (held_value h) s.key) (map_list (held_value h) s.operands)) in
+            let value : Act → List ℕ → List ℕ = λ a. value_as (operation_with (decl_of t.decls s.map) a (map_list (stage_value h) s.key) (map_list (stage_value h) s.operands)) in
             ap (λ (a : Act). value a old) is ∙ ap (λ (a : Act). value a (slot_at slots (free_slot slots)).value) (sym is)
 
     -- ---- which it is, by the operation
 
     abbrev key : List ℕ
-    key = bytes_of (decl_of t.decls (site_at p.sites j).map).key (map_list (held_value h) (site_at p.sites j).key)
+    key = bytes_of (decl_of t.decls (site_at p.sites j).map).key (map_list (stage_value h) (site_at p.sites j).key)
 
     abbrev operands : List ℕ
-    operands = map_list (held_value h) (site_at p.sites j).operands
+    operands = map_list (stage_value h) (site_at p.sites j).operands
 
     -- what an operation answers, were it the one of site j
     abbrev pub answered : Act → ℕ
-    answered a = answer_as a (operation_with (decl_of t.decls (site_at p.sites j).map) a (map_list (held_value h) (site_at p.sites j).key) (map_list (held_value h) (site_at p.sites j).operands)) p t h (earlier p j) j
+    answered a = answer_as a (operation_with (decl_of t.decls (site_at p.sites j).map) a (map_list (stage_value h) (site_at p.sites j).key) (map_list (stage_value h) (site_at p.sites j).operands)) p t h (earlier p j) j
 
     -- a site that says that it was done answered 0
-    pub done : says_done (site_at p.sites j).act (decl_of t.decls (map_of p t h j)).kind ≡ true → (held_value h (answer_cell p.cells j) == 0) ≡ true → (a : Act) → (site_at p.sites j).act ≡ a → (answered a == 0) ≡ true
+    pub done : says_done (site_at p.sites j).act (decl_of t.decls (map_of p t h j)).kind ≡ true → (stage_value h (answer_cell p.cells j) == 0) ≡ true → (a : Act) → (site_at p.sites j).act ≡ a → (answered a == 0) ≡ true
     done says done_zero a is = ap (λ (a : Act). answered a == 0) (sym is) ∙ sym (reads.done j l guard says) ∙ done_zero
 
-    update_hash : (site_at p.sites j).act ≡ act.Update → (decl_of t.decls (map_of p t h j)).kind ≡ Hash → (held_value h (answer_cell p.cells j) == 0) ≡ true → Commit j ts taken
+    update_hash : (site_at p.sites j).act ≡ act.Update → (decl_of t.decls (map_of p t h j)).kind ≡ Hash → (stage_value h (answer_cell p.cells j) == 0) ≡ true → Commit j ts taken
     update_hash is hash done_zero = by (key_at p t h m (key_of p t h j) j) refl
       where
         flags : ℕ
@@ -289,15 +289,15 @@ module _ (laws : IndexLaws) (p : ProgramView) (t : TableState) (h : Held) (base 
         says = ap (λ (a : Act). says_done a (decl_of t.decls m).kind) is
 
         zero_answer : (cast_unsigned w64 (update_answer Hash (decl_of t.decls (map_of p t h j)) (used_count (table_at t (map_of p t h j)) + count_by (adds_key p t.decls h) (earlier p j)) (count_by (takes_key p t.decls h) (earlier p j))
-            (not (is_null (key_pointer p t h (earlier p j) j))) (bytes_of (decl_of t.decls (site_at p.sites j).map).key (map_list (held_value h) (site_at p.sites j).key)) (slice_index (map_list (held_value h) (site_at p.sites j).operands) 0)) == 0) ≡ true
+            (not (is_null (key_pointer p t h (earlier p j) j))) (bytes_of (decl_of t.decls (site_at p.sites j).map).key (map_list (stage_value h) (site_at p.sites j).key)) (slice_index (map_list (stage_value h) (site_at p.sites j).operands) 0)) == 0) ≡ true
         zero_answer = subst (λ k. (cast_unsigned w64 (update_answer k (decl_of t.decls m) plus minus present key flags) == 0) ≡ true) hash (done says done_zero act.Update is)
 
-        facts : (nat_lt 2 (slice_index (map_list (held_value h) (site_at p.sites j).operands) 0) ≡ false)
+        facts : (nat_lt 2 (slice_index (map_list (stage_value h) (site_at p.sites j).operands) 0) ≡ false)
             × (not (is_null (key_pointer p t h (earlier p j) j)) ≡ false → nat_le ((decl_of t.decls (map_of p t h j)).cap + count_by (takes_key p t.decls h) (earlier p j)) (used_count (table_at t (map_of p t h j)) + count_by (adds_key p t.decls h) (earlier p j)) ≡ false)
         facts = hash_tests (nat_lt 2 flags) (flags == 1) present (flags == 2) (nat_le ((decl_of t.decls m).cap + minus) plus) zero_answer
 
         looked : looks (asked t.decls h (site_at p.sites j)) ≡ true
-        looked = ap (λ (a : Act). looks (operation_with (decl_of t.decls (site_at p.sites j).map) a (map_list (held_value h) (site_at p.sites j).key) operands)) is ∙ ap not facts.0
+        looked = ap (λ (a : Act). looks (operation_with (decl_of t.decls (site_at p.sites j).map) a (map_list (stage_value h) (site_at p.sites j).key) operands)) is ∙ ap not facts.0
 
         found : pointer_in h (found_cell p.cells j) ≡ key_at p t h (map_of p t h j) (key_of p t h j) j
         found = found_key p t h reads j l guard (ap (λ (a : Act). asks a (decl_of t.decls m).kind) is ∙ ap (asks act.Update) hash) looked
@@ -332,7 +332,7 @@ module _ (laws : IndexLaws) (p : ProgramView) (t : TableState) (h : Held) (base 
         by (InSlot n) e = writes_there (InSlot n) e refl
         by (Pending i) e = writes_there (Pending i) e refl
 
-    update_array : (site_at p.sites j).act ≡ act.Update → (decl_of t.decls (map_of p t h j)).kind ≡ Array → (held_value h (answer_cell p.cells j) == 0) ≡ true → Commit j ts taken
+    update_array : (site_at p.sites j).act ≡ act.Update → (decl_of t.decls (map_of p t h j)).kind ≡ Array → (stage_value h (answer_cell p.cells j) == 0) ≡ true → Commit j ts taken
     update_array is array done_zero = write_commit (ap is_delete is) (pointer_on w ∙ sym (slots_same) ∙ sym (pointer_on t)) (pointer_on t ∙ sym stays) some (λ hash. absurd (no_kind (sym array ∙ hash)))
       where
         no_kind : Array ≡ Hash → ⊥
@@ -359,12 +359,12 @@ module _ (laws : IndexLaws) (p : ProgramView) (t : TableState) (h : Held) (base 
         says : says_done (site_at p.sites j).act (decl_of t.decls (map_of p t h j)).kind ≡ true
         says = ap (λ (a : Act). says_done a (decl_of t.decls m).kind) is
 
-        in_range : nat_le (decl_of t.decls (map_of p t h j)).cap (index_of (bytes_of (decl_of t.decls (site_at p.sites j).map).key (map_list (held_value h) (site_at p.sites j).key))) ≡ false
+        in_range : nat_le (decl_of t.decls (map_of p t h j)).cap (index_of (bytes_of (decl_of t.decls (site_at p.sites j).map).key (map_list (stage_value h) (site_at p.sites j).key))) ≡ false
         in_range = array_tests (nat_lt 2 flags) (nat_le (decl_of t.decls m).cap (index_of key)) (flags == 1)
             (subst (λ k. (cast_unsigned w64 (update_answer k (decl_of t.decls m) (used_count (table_at t m) + count_by (adds_key p t.decls h) (earlier p j)) (count_by (takes_key p t.decls h) (earlier p j)) (not (is_null (key_pointer p t h (earlier p j) j))) key flags) == 0) ≡ true) array (done says done_zero act.Update is))
 
-        key_same : key_of p t h j ≡ bytes_of (decl_of t.decls (site_at p.sites j).map).key (map_list (held_value h) (site_at p.sites j).key)
-        key_same = ap (λ (a : Act). key_in (operation_with (decl_of t.decls (site_at p.sites j).map) a (map_list (held_value h) (site_at p.sites j).key) operands)) is
+        key_same : key_of p t h j ≡ bytes_of (decl_of t.decls (site_at p.sites j).map).key (map_list (stage_value h) (site_at p.sites j).key)
+        key_same = ap (λ (a : Act). key_in (operation_with (decl_of t.decls (site_at p.sites j).map) a (map_list (stage_value h) (site_at p.sites j).key) operands)) is
 
         some : is_null (key_at p t h (map_of p t h j) (key_of p t h j) j) ≡ false
         some =
@@ -381,7 +381,7 @@ module _ (laws : IndexLaws) (p : ProgramView) (t : TableState) (h : Held) (base 
             let back : index_key n ≡ k = laws.key_back k (subst (λ n. IsBytes n k) limit.0 (asked_bytes p t.decls h j fit l)) in
             ap is_null (stays ∙ pointer_only d (table_at t m) table k n there (ap (λ z. has_key z (slot_at (table_at t m) n)) (sym back) ∙ all n there))
 
-    delete_hash : (site_at p.sites j).act ≡ act.Delete → (decl_of t.decls (map_of p t h j)).kind ≡ Hash → (held_value h (answer_cell p.cells j) == 0) ≡ true → Commit j ts taken
+    delete_hash : (site_at p.sites j).act ≡ act.Delete → (decl_of t.decls (map_of p t h j)).kind ≡ Hash → (stage_value h (answer_cell p.cells j) == 0) ≡ true → Commit j ts taken
     delete_hash is hash done_zero = remove_commit is hash (at_pointer ts ∙ sym (at_pointer t.tables)) (at_pointer t.tables ∙ found) some
       where
         at_pointer : (us : List (List Slot)) → written_pointer p (with_tables t us) h j ≡ pointer_in h (found_cell p.cells j)
@@ -394,7 +394,7 @@ module _ (laws : IndexLaws) (p : ProgramView) (t : TableState) (h : Held) (base 
         present = delete_tests (not (is_null (key_pointer p t h (earlier p j) j))) (subst (λ k. (cast_unsigned w64 (delete_answer k (not (is_null (key_pointer p t h (earlier p j) j)))) == 0) ≡ true) hash (done says done_zero act.Delete is))
 
         looked : looks (asked t.decls h (site_at p.sites j)) ≡ true
-        looked = ap (λ (a : Act). looks (operation_with (decl_of t.decls (site_at p.sites j).map) a (map_list (held_value h) (site_at p.sites j).key) operands)) is
+        looked = ap (λ (a : Act). looks (operation_with (decl_of t.decls (site_at p.sites j).map) a (map_list (stage_value h) (site_at p.sites j).key) operands)) is
 
         found : pointer_in h (found_cell p.cells j) ≡ key_at p t h (map_of p t h j) (key_of p t h j) j
         found = found_key p t h reads j l guard (ap (λ (a : Act). asks a (decl_of t.decls m).kind) is ∙ ap (asks act.Delete) hash) looked
@@ -412,7 +412,7 @@ module _ (laws : IndexLaws) (p : ProgramView) (t : TableState) (h : Held) (base 
         write_commit no_delete (at ts ∙ sym (at t.tables)) (at t.tables ∙ r.at) (ap is_null (sym r.at) ∙ r.some)
         (λ hash. ap (λ c. c && is_update (site_at p.sites j).act && is_null (pointer_in h (found_cell p.cells j))) on ∙ ap (λ c. c && is_null (pointer_in h (found_cell p.cells j))) no_update)
 
-    commit_as : (a : Act) → (site_at p.sites j).act ≡ a → (k : MapKind) → (decl_of t.decls (map_of p t h j)).kind ≡ k → writes_as a k (held_value h (answer_cell p.cells j)) ≡ true → Commit j ts taken
+    commit_as : (a : Act) → (site_at p.sites j).act ≡ a → (k : MapKind) → (decl_of t.decls (map_of p t h j)).kind ≡ k → writes_as a k (stage_value h (answer_cell p.cells j)) ≡ true → Commit j ts taken
     commit_as act.Update is Hash hash w = update_hash is hash w
     commit_as act.Update is Array array w = update_array is array w
     commit_as act.Delete is Hash hash w = delete_hash is hash w
@@ -423,4 +423,4 @@ module _ (laws : IndexLaws) (p : ProgramView) (t : TableState) (h : Held) (base 
     commit_as (act.Atomic at x) is k kind w = access_write (ap is_access is) (ap is_update is) (ap is_delete is) (λ us. ap (λ (a : Act). written_as a (decl_of t.decls m).kind p (with_tables t us) h j) is)
 
     pub commit : Commit j ts taken
-    commit = commit_as (site_at p.sites j).act refl (decl_of t.decls m).kind refl (and_parts (guard_on h (site_at p.sites j)) (writes_as (site_at p.sites j).act (decl_of t.decls (site_at p.sites j).map).kind (held_value h (answer_cell p.cells j))) on).1
+    commit = commit_as (site_at p.sites j).act refl (decl_of t.decls m).kind refl (and_parts (guard_on h (site_at p.sites j)) (writes_as (site_at p.sites j).act (decl_of t.decls (site_at p.sites j).map).kind (stage_value h (answer_cell p.cells j))) on).1

@@ -8,7 +8,7 @@ use Rattle.xdp_maps.specs.declared.decl.MapKind.TheVariants.{Hash}
 use Rattle.cell_core.specs.Cells.{bit}
 use Rattle.cell_core.specs.Sites.{ProgramView, site_at}
 use Rattle.hazard_core.specs.Tables.{Slot, TableState, decl_of, table_at, slot_at, has_key, used_count}
-use Rattle.hazard_core.specs.Held.{Pointer, Null, InSlot, Pending, same_pointer, Held, asked, asked_key, writes, adds_key, takes_key, slot_pointer, written_pointer}
+use Rattle.hazard_core.specs.StageValues.{Pointer, Null, InSlot, Pending, same_pointer, StageValues, asked, asked_key, writes, adds_key, takes_key, slot_pointer, written_pointer}
 use Rattle.hazard_core.specs.Overlay.{found_as, found_over, value_as, value_over, value_under}
 use Rattle.hazard_core.specs.Tabled.{IsTable}
 use Rattle.hazard_core.proofs.Changing.{pointer_stays}
@@ -21,7 +21,7 @@ resolve taken Null = Null
 resolve taken (InSlot n) = InSlot n
 resolve taken (Pending i) = InSlot (slice_index taken i)
 
-module _ (p : ProgramView) (t : TableState) (h : Held) where
+module _ (p : ProgramView) (t : TableState) (h : StageValues) where
   -- over the operations of the sites below j on one map: where a key is found, the value under a pointer, and the numbers of keys that came and went
   abbrev pub key_at : ℕ → List ℕ → ℕ → Pointer
   key_at m key zero = slot_pointer (table_at t m) key

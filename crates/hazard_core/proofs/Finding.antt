@@ -1,58 +1,41 @@
 -- What a packet on its path found, in the terms of its operations one after another.
-use Rattle.std.proofs.Common.{◌≡◌, ℕ, zero, suc, ◌+◌, ◌*◌, ◌<◌, ◌≤◌, inl, inr, Bool, true, false, List, [], ◌∷◌, ◌++◌, length, refl, sym, ap, ◌∙◌, subst, arith, cond, All}
+use Rattle.std.proofs.Common.{◌≡◌, ℕ, zero, suc, ◌+◌, ◌<◌, ◌≤◌, inl, inr, Bool, true, false, List, [], ◌∷◌, ◌++◌, length, refl, sym, ap, ◌∙◌, subst, arith, cond}
 use Rattle.std.specs.Prelude.{◌-◌, ◌&&◌, ◌||◌, ◌==◌, if◌then◌else◌, fold, count_by, map as map_list}
 use Rattle.std.specs.List.{filter}
 use Rattle.std.specs.Str.{bytes_eq}
 use Rattle.std.proofs.lemmas.Bool.Decides.{Decides-eqb}
 use Rattle.std.proofs.lemmas.Bool.{cases_lt}
-use Rattle.std.proofs.lemmas.List.{length-take-le, length-map}
-use Rattle.std.proofs.lemmas.List.Elements.{All-nil, All-append, All-take, filter-append}
+use Rattle.std.proofs.lemmas.List.{length-map}
+use Rattle.std.proofs.lemmas.List.Elements.{filter-append}
 use Rattle.std.proofs.lemmas.List.Sums.{fold-append}
 use Rattle.std.proofs.lemmas.Slice.Eq.{bytes_eq-Decides}
-use Rattle.byteorder.specs.Endian.{little_bytes}
 use Rattle.xdp_maps.specs.declared.decl.MapDecl.{MapDecl}
 use Rattle.xdp_maps.specs.declared.decl.MapKind.{MapKind}
 use Rattle.xdp_maps.specs.declared.decl.MapKind.TheVariants.{Hash, Array}
 use Rattle.xdp_maps.specs.Contents.{IsBytes}
-use Rattle.xdp_maps.specs.Operations.{key_in}
-use Rattle.xdp_maps.proofs.ByteLaws.{IsBytes-little_bytes}
 use Rattle.cell_core.specs.declared.site.Act.{Act}
 use Rattle.cell_core.specs.declared.site.Act.TheVariants as act
 use Rattle.cell_core.specs.Cells.{bit}
-use Rattle.cell_core.specs.Sites.{ProgramView, site_at, records, spelled, bytes_of, operation_with}
+use Rattle.cell_core.specs.Sites.{ProgramView, site_at, records, operation_with}
 use Rattle.cell_core.specs.Formed.{AllFit}
 use Rattle.cell_core.specs.Rows.{numbers}
 use Rattle.cell_core.proofs.NumberLaws.{numbers_more}
-use Rattle.cell_core.proofs.SpelledLaws.{spelled_length}
+use Rattle.cell_core.proofs.SpelledLaws.{bytes_are}
 use Rattle.hazard_core.specs.Tables.{TableState, decl_of, table_at}
-use Rattle.hazard_core.specs.Held.{Pointer, Null, same_pointer, is_null, Held, held_value, pointer_in, guard_on, asked, asked_key, access_pointer, found_cell, is_update, is_delete, writes_as, writes, adds_key, takes_key, slot_pointer, written_as, written_pointer, answer_cell}
+use Rattle.hazard_core.specs.StageValues.{Pointer, Null, same_pointer, is_null, StageValues, stage_value, pointer_in, guard_on, asked, asked_key, access_pointer, found_cell, is_update, is_delete, writes_as, writes, adds_key, takes_key, slot_pointer, written_as, written_pointer, answer_cell}
 use Rattle.hazard_core.specs.Overlay.{found_as, found_over, key_pointer_as, key_pointer, looks, value_as, value_over, entry_value}
 use Rattle.hazard_core.specs.Replay.{earlier, IsAccess, HoldsReads, asks}
 use Rattle.hazard_core.proofs.Effects.{key_at, value_at, adds_at, takes_at, map_of, key_of}
+use Rattle.hazard_core.proofs.ActsLaws.{key_is}
 
 -- ---- keys have the declared length
 
-spelled_bytes : (words : List ℕ) → All (λ b. b < 256) (spelled words)
-spelled_bytes [] = All-nil (λ b. b < 256)
-spelled_bytes (x ∷ words) = All-append (λ b. b < 256) (little_bytes 8 x) (spelled words) (IsBytes-little_bytes 8 x).bytes_fit (spelled_bytes words)
-
-bytes_are : (n : ℕ) (words : List ℕ) → n ≤ 8 * length words → IsBytes n (bytes_of n words)
-bytes_are n words l = record { len = length-take-le n (spelled words) (omega (arith, l, spelled_length words)); bytes_fit = All-take (λ b. b < 256) n (spelled words) (spelled_bytes words) }
-
-key_is : (d : MapDecl) (a : Act) (words xs : List ℕ) → key_in (operation_with d a words xs) ≡ bytes_of d.key words
-key_is d act.Lookup words xs = refl
-key_is d act.Update words xs = refl
-key_is d act.Delete words xs = refl
-key_is d (act.Load at size) words xs = refl
-key_is d (act.Store at size) words xs = refl
-key_is d (act.Atomic at a) words xs = refl
-
-pub asked_bytes : (p : ProgramView) (decls : List MapDecl) (h : Held) (j : ℕ) → AllFit decls p.sites → j < length p.sites → IsBytes (decl_of decls (site_at p.sites j).map).key (asked_key decls h (site_at p.sites j))
+pub asked_bytes : (p : ProgramView) (decls : List MapDecl) (h : StageValues) (j : ℕ) → AllFit decls p.sites → j < length p.sites → IsBytes (decl_of decls (site_at p.sites j).map).key (asked_key decls h (site_at p.sites j))
 asked_bytes p decls h j fit l =
     let s = site_at p.sites j in
     let d = decl_of decls s.map in
-    subst (IsBytes d.key) (sym (key_is d s.act (map_list (held_value h) s.key) (map_list (held_value h) s.operands)))
-    (bytes_are d.key (map_list (held_value h) s.key) (let k = (fit j l).key in omega (arith, k, length-map s.key (held_value h))))
+    subst (IsBytes d.key) (sym (key_is d s.act (map_list (stage_value h) s.key) (map_list (stage_value h) s.operands)))
+    (bytes_are d.key (map_list (stage_value h) s.key) (let k = (fit j l).key in omega (arith, k, length-map s.key (stage_value h))))
 
 -- ---- folds over the earlier operations
 
@@ -75,11 +58,11 @@ unrecorded act.Delete k n e = cc
 unrecorded (act.Store at size) k n e = cc
 unrecorded (act.Atomic at a) k n e = cc
 
-module _ (p : ProgramView) (t : TableState) (h : Held) where
+module _ (p : ProgramView) (t : TableState) (h : StageValues) where
   unwritten : (i : ℕ) → records (site_at p.sites i).act ≡ false → writes p t.decls h i ≡ false
   unwritten i e =
       let s = site_at p.sites i in
-      ap (λ c. guard_on h s && c) (unrecorded s.act (decl_of t.decls s.map).kind (held_value h (answer_cell p.cells i)) e) ∙ no (guard_on h s)
+      ap (λ c. guard_on h s && c) (unrecorded s.act (decl_of t.decls s.map).kind (stage_value h (answer_cell p.cells i)) e) ∙ no (guard_on h s)
     where
       no : (c : Bool) → c && false ≡ false
       no true = refl
@@ -135,7 +118,7 @@ module _ (p : ProgramView) (t : TableState) (h : Held) where
     where
       acts : (a : Act) → a ≡ (site_at p.sites j).act → (site_at p.sites j).map ≡ m → asked_key t.decls h (site_at p.sites j) ≡ key → writes p t.decls h j ≡ true → key_at p t h m key j ≡ slot_pointer (table_at t m) key → found_as a (written_as a Array p t h j) (key_at p t h m key j) ≡ slot_pointer (table_at t m) key
       acts act.Update is here same w more = ap (λ k. slot_pointer (table_at t k) (asked_key t.decls h (site_at p.sites j))) here ∙ ap (slot_pointer (table_at t m)) same
-      acts act.Delete is here same w more = absurd (no_delete (guard_on h (site_at p.sites j)) (subst (λ (a : Act). guard_on h (site_at p.sites j) && writes_as a Array (held_value h (answer_cell p.cells j)) ≡ true) (sym is) (subst (λ k. guard_on h (site_at p.sites j) && writes_as (site_at p.sites j).act k (held_value h (answer_cell p.cells j)) ≡ true) (ap (λ n. (decl_of t.decls n).kind) here ∙ kind) w)))
+      acts act.Delete is here same w more = absurd (no_delete (guard_on h (site_at p.sites j)) (subst (λ (a : Act). guard_on h (site_at p.sites j) && writes_as a Array (stage_value h (answer_cell p.cells j)) ≡ true) (sym is) (subst (λ k. guard_on h (site_at p.sites j) && writes_as (site_at p.sites j).act k (stage_value h (answer_cell p.cells j)) ≡ true) (ap (λ n. (decl_of t.decls n).kind) here ∙ kind) w)))
         where
           no_delete : (c : Bool) → c && false ≡ true → ⊥
           no_delete true e = cc
@@ -226,7 +209,7 @@ module _ (p : ProgramView) (t : TableState) (h : Held) where
       looks_it : looks (asked t.decls h (site_at p.sites a.lookup)) ≡ true
       looks_it =
           let s = site_at p.sites a.lookup in
-          ap (λ (b : Act). looks (operation_with (decl_of t.decls s.map) b (map_list (held_value h) s.key) (map_list (held_value h) s.operands))) a.looks_up
+          ap (λ (b : Act). looks (operation_with (decl_of t.decls s.map) b (map_list (stage_value h) s.key) (map_list (stage_value h) s.operands))) a.looks_up
 
       at_lookup : pointer_in h (found_cell p.cells a.lookup) ≡ key_at p t h (map_of p t h a.lookup) (key_of p t h a.lookup) a.lookup
       at_lookup = found_key r a.lookup in_range a.guard asks_it looks_it

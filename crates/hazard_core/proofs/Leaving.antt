@@ -30,7 +30,7 @@ use Rattle.cell_core.specs.Cells.{bit, on}
 use Rattle.cell_core.specs.Sites.{SiteView, ProgramView, site_at, records, operation_with, bytes_of, change_of, applied, after, found_in, loaded, number_or, read_on, answer_as as sites_answer}
 use Rattle.cell_core.specs.Formed.{AllFit}
 use Rattle.hazard_core.specs.Tables.{Slot, TableState, decl_of, table_at, slot_at, has_key, used_count, contents_of, maps_of}
-use Rattle.hazard_core.specs.Held.{access_pointer, Pointer, Null, InSlot, Pending, is_null, Held, held_value, guard_on, asked, asked_key, answer_cell, is_update, is_delete, writes_as, writes, adds_key, takes_key, slot_pointer}
+use Rattle.hazard_core.specs.StageValues.{access_pointer, Pointer, Null, InSlot, Pending, is_null, StageValues, stage_value, guard_on, asked, asked_key, answer_cell, is_update, is_delete, writes_as, writes, adds_key, takes_key, slot_pointer}
 use Rattle.hazard_core.specs.Overlay.{key_pointer, looks, found_pointer, entry_value, answer_over, value_as, update_answer, delete_answer, answer_as}
 use Rattle.hazard_core.specs.Commits.{makes_entry, slot_as, committed, taken_after}
 use Rattle.hazard_core.specs.Changes.{with_tables, finds_key, reads as reads_as}
@@ -44,9 +44,6 @@ use Rattle.hazard_core.proofs.Effects.{resolve, key_at, value_at, Follows, map_o
 use Rattle.hazard_core.proofs.Finding.{key_found, values_fold, adds_fold, takes_fold, Reaches, reaches}
 use Rattle.hazard_core.proofs.Committing.{Commit, commit}
 use Rattle.hazard_core.proofs.Turns.{Reached, all_follow, committed_is}
-
-no_case : true ≡ false → ⊥
-no_case e = cc
 
 -- ---- answers
 
@@ -118,7 +115,7 @@ taken_next v maps zero (s ∷ ss) l = refl
 taken_next v maps (suc j) (s ∷ ss) l = taken_next v (applied v maps s) j ss (omega (arith, l))
 
 module _ (updates : (d : MapDecl) (c : Contents) (key value : List ℕ) (flags : ℕ) → UpdateLaws d c key value flags) (deletes : (d : MapDecl) (c : Contents) (key : List ℕ) → DeleteLaws d c key) (entries : (c : Contents) (key : List ℕ) (f : List ℕ → List ℕ) → EntryLaws c key f)
-    (laws : IndexLaws) (p : ProgramView) (t : TableState) (h : Held) (base : AreTables t) (fit : AllFit t.decls p.sites) (reads : HoldsReads p t h) where
+    (laws : IndexLaws) (p : ProgramView) (t : TableState) (h : StageValues) (base : AreTables t) (fit : AllFit t.decls p.sites) (reads : HoldsReads p t h) where
   module _ (j : ℕ) (ts : List (List Slot)) (taken : List ℕ) (l : j < length p.sites) (f : Follows p t h j ts taken) (guard : guard_on h (site_at p.sites j) ≡ true) where
     abbrev slots : List Slot
     slots = get_or ts (map_of p t h j) []
@@ -130,10 +127,10 @@ module _ (updates : (d : MapDecl) (c : Contents) (key value : List ℕ) (flags :
     c = contents_of (get_or ts (map_of p t h j) [])
 
     abbrev key : List ℕ
-    key = bytes_of (decl_of t.decls (site_at p.sites j).map).key (map_list (held_value h) (site_at p.sites j).key)
+    key = bytes_of (decl_of t.decls (site_at p.sites j).map).key (map_list (stage_value h) (site_at p.sites j).key)
 
     abbrev operands : List ℕ
-    operands = map_list (held_value h) (site_at p.sites j).operands
+    operands = map_list (stage_value h) (site_at p.sites j).operands
 
     abbrev flags : ℕ
     flags = slice_index operands 0
@@ -142,7 +139,7 @@ module _ (updates : (d : MapDecl) (c : Contents) (key value : List ℕ) (flags :
     value = bytes_of (decl_of t.decls (site_at p.sites j).map).value (drop 1 operands)
 
     abbrev asked_as : Act → Operation
-    asked_as a = operation_with (decl_of t.decls (site_at p.sites j).map) a (map_list (held_value h) (site_at p.sites j).key) (map_list (held_value h) (site_at p.sites j).operands)
+    asked_as a = operation_with (decl_of t.decls (site_at p.sites j).map) a (map_list (stage_value h) (site_at p.sites j).key) (map_list (stage_value h) (site_at p.sites j).operands)
 
     in_map : map_of p t h j < length t.decls
     in_map = (fit j l).map
@@ -186,7 +183,7 @@ module _ (updates : (d : MapDecl) (c : Contents) (key value : List ℕ) (flags :
     abbrev answered : Act → ℕ
     answered a = answer_as a (asked_as a) p t h (earlier p j) j
 
-    said : says_done (site_at p.sites j).act (decl_of t.decls (map_of p t h j)).kind ≡ true → (a : Act) → (site_at p.sites j).act ≡ a → (answered a == 0) ≡ (held_value h (answer_cell p.cells j) == 0)
+    said : says_done (site_at p.sites j).act (decl_of t.decls (map_of p t h j)).kind ≡ true → (a : Act) → (site_at p.sites j).act ≡ a → (answered a == 0) ≡ (stage_value h (answer_cell p.cells j) == 0)
     said says a is = ap (λ (a : Act). answered a == 0) (sym is) ∙ sym (reads.done j l guard says)
 
     -- ---- what reads find
@@ -260,7 +257,7 @@ module _ (updates : (d : MapDecl) (c : Contents) (key value : List ℕ) (flags :
     answer_right y = answer_by (site_at p.sites j).act refl y
 
     -- an operation that does not write leaves its map as it is
-    idle_left : (a : Act) → (site_at p.sites j).act ≡ a → (k : MapKind) → (decl_of t.decls (map_of p t h j)).kind ≡ k → writes_as a k (held_value h (answer_cell p.cells j)) ≡ false →
+    idle_left : (a : Act) → (site_at p.sites j).act ≡ a → (k : MapKind) → (decl_of t.decls (map_of p t h j)).kind ≡ k → writes_as a k (stage_value h (answer_cell p.cells j)) ≡ false →
         left_by (decl_of t.decls (map_of p t h j)) (contents_of (get_or ts (map_of p t h j) [])) (asked_as a) ≡ contents_of (get_or ts (map_of p t h j) [])
     idle_left act.Update is k kind w =
         let said_no = said (ap (λ (a : Act). says_done a d.kind) is) act.Update is ∙ w in
@@ -324,7 +321,7 @@ module _ (updates : (d : MapDecl) (c : Contents) (key value : List ℕ) (flags :
       kept_left (act.Store at size) is q other = (entries c key (λ v. patched v at (little_bytes (bytes_in size) (slice_index operands 0)))).other_keys q (λ z. other (z ∙ sym (key_by (act.Store at size) is)))
       kept_left (act.Atomic at x) is q other = (entries c key (with_change (change_of x (slice_index operands 0) (slice_index operands 1)) at)).other_keys q (λ z. other (z ∙ sym (key_by (act.Atomic at x) is)))
 
-      own_left : (a : Act) → (site_at p.sites j).act ≡ a → (k : MapKind) → (decl_of t.decls (map_of p t h j)).kind ≡ k → writes_as a k (held_value h (answer_cell p.cells j)) ≡ true →
+      own_left : (a : Act) → (site_at p.sites j).act ≡ a → (k : MapKind) → (decl_of t.decls (map_of p t h j)).kind ≡ k → writes_as a k (stage_value h (answer_cell p.cells j)) ≡ true →
           value_of us (slot_pointer us (key_of p t h j)) ≡ lookup_of (left_by d c (asked_as a)) (key_of p t h j)
       own_left act.Update is k kind w =
           let said_yes = said (ap (λ (a : Act). says_done a d.kind) is) act.Update is ∙ w in
@@ -348,7 +345,7 @@ module _ (updates : (d : MapDecl) (c : Contents) (key value : List ℕ) (flags :
 
       written_left : contents_of us ≡ left_by d c (asked t.decls h (site_at p.sites j))
       written_left = leaves_same d slots (asked t.decls h (site_at p.sites j)) us (key_of p t h j) (record {
-        own = own_left (site_at p.sites j).act refl d.kind refl (and_parts (guard_on h (site_at p.sites j)) (writes_as (site_at p.sites j).act (decl_of t.decls (site_at p.sites j).map).kind (held_value h (answer_cell p.cells j))) on).1;
+        own = own_left (site_at p.sites j).act refl d.kind refl (and_parts (guard_on h (site_at p.sites j)) (writes_as (site_at p.sites j).act (decl_of t.decls (site_at p.sites j).map).kind (stage_value h (answer_cell p.cells j))) on).1;
         others = others_left;
         kept = kept_left (site_at p.sites j).act refl;
       })
@@ -358,13 +355,10 @@ module _ (updates : (d : MapDecl) (c : Contents) (key value : List ℕ) (flags :
   contents_are : (ts : List (List Slot)) (m : ℕ) → contents_at (maps_of (with_tables t ts)) m ≡ contents_of (get_or ts m [])
   contents_are ts m = get_or-map contents_of ts m []
 
-  abbrev with_map : List (List Slot) → ℕ → Contents → MapState
-  with_map ts m c = with_contents (maps_of (with_tables t ts)) m c
-
   same_maps : (ts : List (List Slot)) (m : ℕ) → with_contents (maps_of (with_tables t ts)) m (contents_at (maps_of (with_tables t ts)) m) ≡ maps_of (with_tables t ts)
   same_maps ts m = ap (λ (cs : List Contents). record { decls = t.decls; contents = cs }) (set-get_or (map_list contents_of ts) m map.empty)
 
-  idle_maps : (j : ℕ) (ts : List (List Slot)) (taken : List ℕ) → j < length p.sites → Follows p t h j ts taken → writes p t.decls h j ≡ false → applied (held_value h) (maps_of (with_tables t ts)) (site_at p.sites j) ≡ maps_of (with_tables t ts)
+  idle_maps : (j : ℕ) (ts : List (List Slot)) (taken : List ℕ) → j < length p.sites → Follows p t h j ts taken → writes p t.decls h j ≡ false → applied (stage_value h) (maps_of (with_tables t ts)) (site_at p.sites j) ≡ maps_of (with_tables t ts)
   idle_maps j ts taken l f idle = by (records (site_at p.sites j).act) (guard_on h (site_at p.sites j)) refl
     where
       s : SiteView
@@ -372,7 +366,7 @@ module _ (updates : (d : MapDecl) (c : Contents) (key value : List ℕ) (flags :
 
       left : guard_on h (site_at p.sites j) ≡ true → left_by (decl_of t.decls (site_at p.sites j).map) (contents_at (maps_of (with_tables t ts)) (site_at p.sites j).map) (asked t.decls h (site_at p.sites j)) ≡ contents_at (maps_of (with_tables t ts)) (site_at p.sites j).map
       left g =
-          let no : writes_as s.act (decl_of t.decls s.map).kind (held_value h (answer_cell p.cells j)) ≡ false = ap (λ c. c && writes_as s.act (decl_of t.decls s.map).kind (held_value h (answer_cell p.cells j))) (sym g) ∙ idle in
+          let no : writes_as s.act (decl_of t.decls s.map).kind (stage_value h (answer_cell p.cells j)) ≡ false = ap (λ c. c && writes_as s.act (decl_of t.decls s.map).kind (stage_value h (answer_cell p.cells j))) (sym g) ∙ idle in
           ap (λ c. left_by (decl_of t.decls s.map) c (asked t.decls h s)) (contents_are ts s.map) ∙ idle_left j ts taken l f g s.act refl (decl_of t.decls s.map).kind refl no ∙ sym (contents_are ts s.map)
 
       by : (c g : Bool) → guard_on h (site_at p.sites j) ≡ g → (if c && g then operated (maps_of (with_tables t ts)) (site_at p.sites j).map (asked t.decls h (site_at p.sites j)) else maps_of (with_tables t ts)) ≡ maps_of (with_tables t ts)
@@ -381,43 +375,43 @@ module _ (updates : (d : MapDecl) (c : Contents) (key value : List ℕ) (flags :
       by false g q = refl
 
   written_maps : (j : ℕ) (ts : List (List Slot)) (taken : List ℕ) (l : j < length p.sites) (f : Follows p t h j ts taken) (on : writes p t.decls h j ≡ true) (e : Commit laws p t h base fit reads j ts taken) →
-      maps_of (with_tables t (slice_set ts (map_of p t h j) (slice_set (get_or ts (map_of p t h j) []) e.n e.s))) ≡ applied (held_value h) (maps_of (with_tables t ts)) (site_at p.sites j)
+      maps_of (with_tables t (slice_set ts (map_of p t h j) (slice_set (get_or ts (map_of p t h j) []) e.n e.s))) ≡ applied (stage_value h) (maps_of (with_tables t ts)) (site_at p.sites j)
   written_maps j ts taken l f on e =
       let s = site_at p.sites j in
       let m = map_of p t h j in
       let us = slice_set (get_or ts m []) e.n e.s in
-      let parts = and_parts (guard_on h s) (writes_as s.act (decl_of t.decls s.map).kind (held_value h (answer_cell p.cells j))) on in
+      let parts = and_parts (guard_on h s) (writes_as s.act (decl_of t.decls s.map).kind (stage_value h (answer_cell p.cells j))) on in
       ap (λ (cs : List Contents). record { decls = t.decls; contents = cs }) (map-set contents_of ts m us)
       ∙ ap (λ c. with_contents (maps_of (with_tables t ts)) m c) (written_left j ts taken l f parts.0 on e ∙ ap (λ c. left_by (decl_of t.decls m) c (asked t.decls h s)) (sym (contents_are ts m)))
-      ∙ sym (ap (λ (c : Bool). if c && guard_on h s then operated (maps_of (with_tables t ts)) s.map (asked t.decls h s) else maps_of (with_tables t ts)) (recorded s.act (decl_of t.decls s.map).kind (held_value h (answer_cell p.cells j)) parts.1)
+      ∙ sym (ap (λ (c : Bool). if c && guard_on h s then operated (maps_of (with_tables t ts)) s.map (asked t.decls h s) else maps_of (with_tables t ts)) (recorded s.act (decl_of t.decls s.map).kind (stage_value h (answer_cell p.cells j)) parts.1)
       ∙ ap (λ (c : Bool). if c then operated (maps_of (with_tables t ts)) s.map (asked t.decls h s) else maps_of (with_tables t ts)) parts.0)
 
-  one_maps : (j : ℕ) (r : Replayed) → j < length p.sites → Reached p t h j r → maps_of (replay_one p h r j).tables ≡ applied (held_value h) (maps_of r.tables) (site_at p.sites j)
+  one_maps : (j : ℕ) (r : Replayed) → j < length p.sites → Reached p t h j r → maps_of (replay_one p h r j).tables ≡ applied (stage_value h) (maps_of r.tables) (site_at p.sites j)
   one_maps j r l q = by (writes p r.tables.decls h j) (ap (λ (v : TableState). writes p v.decls h j) q.is)
     where
-      by : (c : Bool) → c ≡ writes p t.decls h j → maps_of (if c then record { tables = committed p r.tables r.taken h j; taken = taken_after p r.tables r.taken h j } else r).tables ≡ applied (held_value h) (maps_of r.tables) (site_at p.sites j)
+      by : (c : Bool) → c ≡ writes p t.decls h j → maps_of (if c then record { tables = committed p r.tables r.taken h j; taken = taken_after p r.tables r.taken h j } else r).tables ≡ applied (stage_value h) (maps_of r.tables) (site_at p.sites j)
       by true e =
           let k = commit laws p t h base fit reads j q.ts r.taken l q.follows (sym e) in
           ap maps_of (ap (λ v. committed p v r.taken h j) q.is ∙ committed_is laws p t h base fit reads j q.ts r.taken k) ∙ written_maps j q.ts r.taken l q.follows (sym e) k
-          ∙ ap (λ v. applied (held_value h) (maps_of v) (site_at p.sites j)) (sym q.is)
-      by false e = ap maps_of q.is ∙ sym (idle_maps j q.ts r.taken l q.follows (sym e)) ∙ ap (λ v. applied (held_value h) (maps_of v) (site_at p.sites j)) (sym q.is)
+          ∙ ap (λ v. applied (stage_value h) (maps_of v) (site_at p.sites j)) (sym q.is)
+      by false e = ap maps_of q.is ∙ sym (idle_maps j q.ts r.taken l q.follows (sym e)) ∙ ap (λ v. applied (stage_value h) (maps_of v) (site_at p.sites j)) (sym q.is)
 
-  all_maps : (taken : List ℕ) → length taken ≡ length p.sites → (j : ℕ) → j ≤ length p.sites → maps_of (replayed p h (record { tables = t; taken = taken }) j).tables ≡ after (held_value h) (maps_of t) (take j p.sites)
+  all_maps : (taken : List ℕ) → length taken ≡ length p.sites → (j : ℕ) → j ≤ length p.sites → maps_of (replayed p h (record { tables = t; taken = taken }) j).tables ≡ after (stage_value h) (maps_of t) (take j p.sites)
   all_maps taken long zero l = refl
   all_maps taken long (suc j) l =
       let r = replayed p h (record { tables = t; taken = taken }) j in
       one_maps j r (omega (arith, l)) (all_follow laws p t h base fit reads taken long j (omega (arith, l)))
-      ∙ ap (λ m. applied (held_value h) m (site_at p.sites j)) (all_maps taken long j (omega (arith, l))) ∙ sym (taken_next (held_value h) (maps_of t) j p.sites (omega (arith, l)))
+      ∙ ap (λ m. applied (stage_value h) m (site_at p.sites j)) (all_maps taken long j (omega (arith, l))) ∙ sym (taken_next (stage_value h) (maps_of t) j p.sites (omega (arith, l)))
 
   reads_right : (taken : List ℕ) → length taken ≡ length p.sites → (j : ℕ) → j < length p.sites → guard_on h (site_at p.sites j) ≡ true → ReadsRight p t h j
   reads_right taken long j l guard =
       let r = replayed p h (record { tables = t; taken = taken }) j in
       let q = all_follow laws p t h base fit reads taken long j (omega (arith, l)) in
       let s = site_at p.sites j in
-      let maps_are : maps_of (with_tables t q.ts) ≡ after (held_value h) (maps_of t) (take j p.sites) = sym (ap maps_of q.is) ∙ all_maps taken long j (omega (arith, l)) in
+      let maps_are : maps_of (with_tables t q.ts) ≡ after (stage_value h) (maps_of t) (take j p.sites) = sym (ap maps_of q.is) ∙ all_maps taken long j (omega (arith, l)) in
       record {
-        found = λ y. found_right j q.ts r.taken l q.follows guard y ∙ ap (λ c. bit (found_in c (asked t.decls h s))) (sym (contents_are q.ts s.map)) ∙ ap (λ m. read_on (held_value h) m s (Found j)) maps_are;
-        answer = λ y. answer_right j q.ts r.taken l q.follows guard y ∙ ap (λ c. sites_answer s.act (decl_of t.decls s.map) c (asked t.decls h s)) (sym (contents_are q.ts s.map)) ∙ ap (λ m. read_on (held_value h) m s (Answer j)) maps_are;
+        found = λ y. found_right j q.ts r.taken l q.follows guard y ∙ ap (λ c. bit (found_in c (asked t.decls h s))) (sym (contents_are q.ts s.map)) ∙ ap (λ m. read_on (stage_value h) m s (Found j)) maps_are;
+        answer = λ y. answer_right j q.ts r.taken l q.follows guard y ∙ ap (λ c. sites_answer s.act (decl_of t.decls s.map) c (asked t.decls h s)) (sym (contents_are q.ts s.map)) ∙ ap (λ m. read_on (stage_value h) m s (Answer j)) maps_are;
       }
 
 pub reads_in_turn : ((d : MapDecl) (c : Contents) (key value : List ℕ) (flags : ℕ) → UpdateLaws d c key value flags) → ((d : MapDecl) (c : Contents) (key : List ℕ) → DeleteLaws d c key) →

@@ -1,36 +1,18 @@
 -- Keys and values have the lengths that their maps declare.
-use Rattle.std.proofs.Common.{◌≡◌, ◌∙◌, ℕ, ◌+◌, ◌*◌, ◌≤◌, Bool, true, false, List, [], ◌∷◌, ◌++◌, length, take, drop, refl, arith, map as map_list}
-use Rattle.std.proofs.lemmas.List.{length-take-le, length-drop, length-append, length-map}
+use Rattle.std.proofs.Common.{◌≡◌, ◌∙◌, ℕ, ◌+◌, ◌≤◌, Bool, true, false, List, ◌++◌, length, take, drop, refl, arith}
+use Rattle.std.proofs.lemmas.List.{length-take-le, length-drop, length-append}
 use Rattle.byteorder.specs.Endian.{little_bytes}
 use Rattle.cell_core.specs.bpf_isa.declared.operation.Size.{Size}
 use Rattle.cell_core.specs.bpf_isa.declared.operation.Size.TheVariants.{B, H, W, Dw}
 use Rattle.xdp_maps.specs.declared.decl.MapDecl.{MapDecl}
 use Rattle.xdp_maps.specs.Calls.{patched, change_bytes}
-use Rattle.xdp_maps.specs.Operations.{key_in}
 use Rattle.cell_core.specs.xdp_machine.Memory.{bytes_in}
 use Rattle.cell_core.specs.declared.site.Act.{Act}
 use Rattle.cell_core.specs.declared.site.Act.TheVariants as act
-use Rattle.cell_core.specs.Sites.{spelled, bytes_of, operation_with}
+use Rattle.cell_core.specs.Sites.{bytes_of, operation_with}
 use Rattle.cell_core.specs.Formed.{HasWords, IsInside}
+use Rattle.cell_core.proofs.SpelledLaws.{bytes_length}
 use Rattle.hazard_core.specs.Overlay.{value_as}
-
-spelled_length : (xs : List ℕ) → length (spelled xs) ≡ 8 * length xs
-spelled_length [] = refl
-spelled_length (x ∷ xs) = omega (arith, length-append (little_bytes 8 x) (spelled xs), spelled_length xs)
-
-pub bytes_length : (n : ℕ) (xs : List ℕ) → n ≤ 8 * length xs → length (bytes_of n xs) ≡ n
-bytes_length n xs h = length-take-le n (spelled xs) (omega (arith, spelled_length xs))
-
-pub words_length : (n : ℕ) (v : ℕ → ℕ) (ws : List ℕ) → n ≤ 8 * length ws → length (bytes_of n (map_list v ws)) ≡ n
-words_length n v ws h = bytes_length n (map_list v ws) (omega (arith, length-map ws v))
-
-pub key_is : (d : MapDecl) (a : Act) (ks xs : List ℕ) → key_in (operation_with d a ks xs) ≡ bytes_of d.key ks
-key_is d act.Lookup ks xs = refl
-key_is d (act.Load at size) ks xs = refl
-key_is d act.Update ks xs = refl
-key_is d act.Delete ks xs = refl
-key_is d (act.Store at size) ks xs = refl
-key_is d (act.Atomic at a) ks xs = refl
 
 patched_length : (n at : ℕ) (old bytes : List ℕ) → length bytes ≡ n → at + n ≤ length old → length (patched old at bytes) ≡ length old
 patched_length n at old bytes e h =

@@ -1,5 +1,7 @@
 pub use Rattle.cell_core.proofs as cell_core_laws
 pub use Rattle.xdp_maps.proofs as xdp_maps_laws
+pub mod OperationLaws
+pub mod HeldLaws
 pub mod Changing
 pub mod Unmoved
 pub mod Alike

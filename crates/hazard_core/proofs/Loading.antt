@@ -34,9 +34,6 @@ truth false h = absurd h
 abbrev Pairs : Type 0
 Pairs = List (List ℕ × List ℕ)
 
-no_pair : List ℕ × List ℕ
-no_pair = ([], [])
-
 unused_at : (d : MapDecl) (n i : ℕ) → (slot_at (replicate n (empty_slot d)) i).used ≡ false
 unused_at d zero i = refl
 unused_at d (suc n) zero = refl

@@ -12,7 +12,7 @@ use Rattle.std.proofs.lemmas.Map.Text.{is_eq-slice_cmp}
 use Rattle.xdp_maps.specs.Contents.{Contents}
 use Rattle.xdp_maps.specs.Calls.{lookup_of}
 use Rattle.hazard_core.specs.Tables.{Slot, slot_at, has_key, slot_of, used_count, contents_of}
-use Rattle.hazard_core.specs.Held.{Pointer, Null, InSlot, Pending, slot_pointer}
+use Rattle.hazard_core.specs.StageValues.{Pointer, Null, InSlot, Pending, slot_pointer}
 use Rattle.hazard_core.proofs.Slots.{pointer_at, pointer_none, used_rec, used_is}
 
 -- the value under a pointer to a slot

@@ -8,7 +8,7 @@ use Rattle.cell_core.specs.declared.operator.Operator.TheVariants.{Constant, Byt
 use Rattle.cell_core.specs.Cells.{CellView, no_cell, cell_at, number, bits_from}
 use Rattle.cell_core.specs.Sites.{ProgramView}
 use Rattle.hazard_core.specs.Tables.{TableState}
-use Rattle.hazard_core.specs.Held.{Held, Pointer, with_cell}
+use Rattle.hazard_core.specs.StageValues.{StageValues, Pointer, with_cell}
 use Rattle.hazard_core.specs.Rows.{cell_number, cell_pointer, with_made, made_from}
 use Rattle.hazard_core.specs.Sourced.{taken_of}
 
@@ -47,7 +47,7 @@ other_packet packet other (Answer j) xs = refl
 other_packet packet other Pending xs = refl
 
 -- a cell of the row, and one of another
-pub made_here : (p : ProgramView) (row : ℕ → ℕ) (r : ℕ) (t : TableState) (packet : PacketIn) (h g : Held) (k n : ℕ) (q : Pointer) (v c : CellView) → row k ≡ r → v ≡ c
+pub made_here : (p : ProgramView) (row : ℕ → ℕ) (r : ℕ) (t : TableState) (packet : PacketIn) (h g : StageValues) (k n : ℕ) (q : Pointer) (v c : CellView) → row k ≡ r → v ≡ c
     → n ≡ cell_number p row r t packet h v v.op → q ≡ cell_pointer p row r t h v v.op → g ≡ with_cell h k (bits_from n v.from v.width) q → g ≡ with_made p row r t packet h k c
 made_here p row r t packet h g k n q v c e s m w f =
     f
@@ -56,7 +56,7 @@ made_here p row r t packet h g k n q v c e s m w f =
     ∙ ap (λ (x : CellView). with_cell h k (bits_from (cell_number p row r t packet h x x.op) x.from x.width) (cell_pointer p row r t h x x.op)) s
     ∙ sym (ap (λ (b : Bool). if b then with_cell h k (bits_from (cell_number p row r t packet h c c.op) c.from c.width) (cell_pointer p row r t h c c.op) else h) ((Decides-eqb (row k) r).1 e))
 
-pub made_not : (p : ProgramView) (row : ℕ → ℕ) (r : ℕ) (t : TableState) (packet : PacketIn) (h : Held) (k : ℕ) (c : CellView) → row k ≢ r → h ≡ with_made p row r t packet h k c
+pub made_not : (p : ProgramView) (row : ℕ → ℕ) (r : ℕ) (t : TableState) (packet : PacketIn) (h : StageValues) (k : ℕ) (c : CellView) → row k ≢ r → h ≡ with_made p row r t packet h k c
 made_not p row r t packet h k c e = by (row k == r) refl
   where
     by : (b : Bool) → (row k == r) ≡ b → h ≡ (if b then with_cell h k (bits_from (cell_number p row r t packet h c c.op) c.from c.width) (cell_pointer p row r t h c c.op) else h)
@@ -64,13 +64,13 @@ made_not p row r t packet h k c e = by (row k == r) refl
     by false f = refl
 
 -- one cell more
-pub made_more : (p : ProgramView) (row : ℕ → ℕ) (r : ℕ) (t : TableState) (packet : PacketIn) (cs : List CellView) (k : ℕ) (h g : Held) → k < length cs → g ≡ with_made p row r t packet h k (cell_at cs k)
+pub made_more : (p : ProgramView) (row : ℕ → ℕ) (r : ℕ) (t : TableState) (packet : PacketIn) (cs : List CellView) (k : ℕ) (h g : StageValues) → k < length cs → g ≡ with_made p row r t packet h k (cell_at cs k)
     → made_from p row r t packet (k + 1) (drop (k + 1) cs) g ≡ made_from p row r t packet k (drop k cs) h
 made_more p row r t packet cs k h g l e =
     let s : k + 1 ≡ suc k = omega arith in
     rw (s, drop-cons cs k no_cell l, e) refl
 
-pub made_all : (p : ProgramView) (row : ℕ → ℕ) (r : ℕ) (t : TableState) (packet : PacketIn) (cs : List CellView) (k : ℕ) (h : Held) → length cs ≤ k → made_from p row r t packet k (drop k cs) h ≡ h
+pub made_all : (p : ProgramView) (row : ℕ → ℕ) (r : ℕ) (t : TableState) (packet : PacketIn) (cs : List CellView) (k : ℕ) (h : StageValues) → length cs ≤ k → made_from p row r t packet k (drop k cs) h ≡ h
 made_all p row r t packet cs k h l = rw (past cs k l) refl
   where
     past : (cs : List CellView) (k : ℕ) → length cs ≤ k → drop k cs ≡ []

@@ -1,7 +1,7 @@
 -- What a site takes and gives, cell by cell.
-use Rattle.std.proofs.Common.{◌≡◌, ◌∙◌, ℕ, Bool, true, false, cond, ◌&&◌, ◌||◌, List, [], ◌∷◌, ◌++◌, refl, ap}
+use Rattle.std.proofs.Common.{◌≡◌, ◌∙◌, ℕ, Bool, true, false, cond, ◌&&◌, List, [], ◌∷◌, ◌++◌, refl, ap}
 use Rattle.std.specs.Prelude.{filter}
-use Rattle.std.specs.List.{list_all, list_any}
+use Rattle.std.specs.List.{list_all}
 use Rattle.std.proofs.lemmas.List.Folds.{list_all-append}
 
 all_next : (f : ℕ → Bool) (a : ℕ) (b : Bool) (ys : List ℕ) → list_all f (cond b (a ∷ ys) ys) ≡ (list_all f (cond b (a ∷ []) []) && list_all f ys)
@@ -24,14 +24,3 @@ taken_split f g ks os = ap (λ (x : Bool). f g && x) (list_all-append f ks os) �
 
 pub all_append : (f : ℕ → Bool) (xs ys : List ℕ) → list_all f (xs ++ ys) ≡ (list_all f xs && list_all f ys)
 all_append f xs ys = list_all-append f xs ys
-
-any_next : (f : ℕ → Bool) (a : ℕ) (b : Bool) (ys : List ℕ) → list_any f (cond b (a ∷ ys) ys) ≡ (list_any f (cond b (a ∷ []) []) || list_any f ys)
-any_next f a true ys = plain (f a) (list_any f ys)
-  where
-    plain : (x y : Bool) → (x || y) ≡ ((x || false) || y)
-    plain true y = refl
-    plain false y = refl
-any_next f a false ys = refl
-
-pub any_two : (f q : ℕ → Bool) (a b : ℕ) → list_any f (filter q (a ∷ b ∷ [])) ≡ (list_any f (filter q (a ∷ [])) || list_any f (filter q (b ∷ [])))
-any_two f q a b = any_next f a (q a) (filter q (b ∷ []))

@@ -3,14 +3,7 @@ use Rattle.std.proofs.Common.{◌≡◌, ◌∙◌, ℕ, suc, ◌+◌, ◌≤◌
 use Rattle.std.specs.Prelude.{nat_lt, unwrap_or, position}
 use Rattle.std.specs.List.{position_or_len}
 use Rattle.std.proofs.lemmas.Bool.{ltb-false}
-
-within_next : (n m : ℕ) (b : Bool) → n ≤ m → cond b (1 + n) 0 ≤ suc m
-within_next n m true h = omega arith
-within_next n m false h = omega arith
-
-position_within : {X : Type 0} (p : X → Bool) (xs : List X) → position_or_len p xs ≤ length xs
-position_within p [] = omega arith
-position_within p (x ∷ xs) = within_next (position_or_len p xs) (length xs) (not (p x)) (position_within p xs)
+use Rattle.cell_core.proofs.list_laws_laws.PositionLaws.{position_within}
 
 found_as : (n m : ℕ) (b : Bool) → nat_lt n m ≡ b → n ≤ m → unwrap_or (cond b (Some n) None) m ≡ n
 found_as n m true e h = refl

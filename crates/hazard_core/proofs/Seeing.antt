@@ -1,4 +1,4 @@
--- A read that has all earlier operations behind it.
+-- A read that has all earlier operations after it.
 use Rattle.std.proofs.Common.{◌≡◌, ℕ, zero, suc, ◌+◌, ◌<◌, ◌≤◌, Bool, true, false, List, [], ◌∷◌, ◌++◌, refl, sym, ap, ◌∙◌, arith, not, cond}
 use Rattle.std.specs.Prelude.{◌&&◌, ◌==◌, if◌then◌else◌, nat_lt, fold, count_by}
 use Rattle.std.specs.List.{filter, list_all}
@@ -19,7 +19,7 @@ use Rattle.cell_core.specs.Sites.{ProgramView, site_at, records}
 use Rattle.cell_core.specs.Rows.{numbers}
 use Rattle.cell_core.proofs.NumberLaws.{numbers_more}
 use Rattle.hazard_core.specs.Tables.{TableState, decl_of, table_at, used_count}
-use Rattle.hazard_core.specs.Held.{Pointer, Null, is_null, Held, asked, asked_key, access_pointer, pointer_in, found_cell, is_update, is_delete, writes, adds_key, takes_key, slot_pointer, parts, is_pending, pending}
+use Rattle.hazard_core.specs.StageValues.{Pointer, Null, is_null, StageValues, asked, asked_key, access_pointer, pointer_in, found_cell, is_update, is_delete, writes, adds_key, takes_key, slot_pointer, parts, is_pending, pending}
 use Rattle.hazard_core.specs.Overlay.{found_over, key_pointer_as, key_pointer, looks, found_pointer, value_over, value_under, entry_value, update_answer, delete_answer, where_some, answer_as, answer_over}
 use Rattle.hazard_core.specs.Replay.{earlier, SeesEarlier}
 use Rattle.hazard_core.proofs.Finding.{found_idle, value_idle}
@@ -34,7 +34,7 @@ fold_alike step a k l j same (suc n) le =
     λ q. ap (λ xs. fold step a (filter q xs)) more ∙ ap (fold step a) (filter-append q (numbers 0 n) (n ∷ [])) ∙ fold-append step a (filter q (numbers 0 n)) (filter q (n ∷ [])) in
     split k ∙ ap (λ x. fold step x (filter k (n ∷ []))) (fold_alike step a k l j same n (omega (arith, le))) ∙ same (fold step a (filter l (numbers 0 n))) n (omega (arith, le)) ∙ sym (split l)
 
-module _ (p : ProgramView) (row : ℕ → ℕ) (r j : ℕ) (t : TableState) (h : Held) (sees : (i : ℕ) → i < j → (site_at p.sites i).map ≡ (site_at p.sites j).map → writes p t.decls h i ≡ true → list_all (λ c. nat_lt (row c) r) (parts p i) ≡ true) where
+module _ (p : ProgramView) (row : ℕ → ℕ) (r j : ℕ) (t : TableState) (h : StageValues) (sees : (i : ℕ) → i < j → (site_at p.sites i).map ≡ (site_at p.sites j).map → writes p t.decls h i ≡ true → list_all (λ c. nat_lt (row c) r) (parts p i) ≡ true) where
   folds : (B : Type 0) (step : B → ℕ → B) (a : B) → ((x : B) (i : ℕ) → writes p t.decls h i ≡ false → step x i ≡ x) → fold step a (pending p row r j) ≡ fold step a (earlier p j)
   folds B step a idle = fold_alike step a (is_pending p row r j) (λ i. ((site_at p.sites i).map == (site_at p.sites j).map) && records (site_at p.sites i).act) j
       (λ x i l. by x i l ((site_at p.sites i).map == (site_at p.sites j).map) (records (site_at p.sites i).act) (list_all (λ c. nat_lt (row c) r) (parts p i)) (writes p t.decls h i) refl refl refl) j (omega arith)

@@ -12,7 +12,7 @@ use Rattle.xdp_maps.specs.declared.decl.MapKind.{MapKind}
 use Rattle.xdp_maps.specs.declared.decl.MapKind.TheVariants.{Hash, Array}
 use Rattle.xdp_maps.specs.Contents.{IsBytes, index_key}
 use Rattle.hazard_core.specs.Tables.{Slot, no_slot, slot_at, has_key, slot_of, free_slot, used_count}
-use Rattle.hazard_core.specs.Held.{Null, InSlot, Pending, slot_pointer}
+use Rattle.hazard_core.specs.StageValues.{Null, InSlot, Pending, slot_pointer}
 use Rattle.hazard_core.proofs.Unmoved.{same_or}
 use Rattle.hazard_core.specs.Tabled.{IsFilledTable, IsTable}
 

@@ -1,14 +1,11 @@
 -- Words of eight bytes, one after another.
-use Rattle.std.proofs.Common.{◌≡◌, ◌∙◌, ℕ, zero, suc, ◌+◌, ◌*◌, ◌<◌, ◌≤◌, List, [], ◌∷◌, ◌++◌, length, take, drop, get_or, refl, sym, ap, arith, append_assoc, length-append, zero-add, map as map_list}
+use Rattle.std.proofs.Common.{◌≡◌, ◌∙◌, ℕ, zero, suc, ◌+◌, ◌*◌, ◌<◌, ◌≤◌, List, [], ◌∷◌, ◌++◌, length, take, drop, get_or, refl, sym, ap, arith, append_assoc, length-append, map as map_list}
 use Rattle.std.proofs.lemmas.List.{take_at, length-take-le, length-drop, length-map, get_or-map}
 use Rattle.std.proofs.lemmas.Slice.{put_mid-paste}
 use borrow.Rule.Slice.PartMut.{put_mid}
 use Rattle.byteorder.specs.Endian.{little_bytes}
+use Rattle.list_laws.proofs.ListLaws.{take_past}
 use Rattle.cell_core.specs.Sites.{spelled, bytes_of}
-
-take_past : (p q : List ℕ) (n : ℕ) → take (length p + n) (p ++ q) ≡ p ++ take n q
-take_past [] q n = rw zero-add refl
-take_past (x ∷ p) q n = let e : suc (length p) + n ≡ suc (length p + n) = omega arith in rw e (ap (λ (xs : List ℕ). x ∷ xs) (take_past p q n))
 
 spelled_take : (xs : List ℕ) (i : ℕ) → i < length xs → take (8 * i + 8) (spelled xs) ≡ take (8 * i) (spelled xs) ++ little_bytes 8 (get_or xs i 0)
 spelled_take [] i h = absurd (omega arith)
@@ -21,7 +18,7 @@ spelled_take (x ∷ xs) (suc i) h =
     ∙ sym (append_assoc (little_bytes 8 x) (take (8 * i) (spelled xs)) (little_bytes 8 (get_or xs i 0)))
     ∙ ap (λ (ys : List ℕ). ys ++ little_bytes 8 (get_or xs i 0)) (sym (take_past (little_bytes 8 x) (spelled xs) (8 * i))))
 
--- a word more stands behind those that stand there
+-- a word more stands after those that stand there
 pub spelled_more : (xs old new w : List ℕ) (i : ℕ) → i < length xs → 8 * i + 8 ≤ length old → new ≡ take (8 * i) old ++ w ++ drop (8 * i + 8) old → w ≡ little_bytes 8 (get_or xs i 0)
     → take (8 * i) old ≡ take (8 * i) (spelled xs) → take (8 * (i + 1)) new ≡ take (8 * (i + 1)) (spelled xs)
 spelled_more xs old new w i h room e word before =

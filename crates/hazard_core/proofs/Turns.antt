@@ -6,7 +6,7 @@ use Rattle.cell_core.specs.Cells.{bit}
 use Rattle.cell_core.specs.Sites.{ProgramView, site_at}
 use Rattle.cell_core.specs.Formed.{AllFit}
 use Rattle.hazard_core.specs.Tables.{Slot, TableState, decl_of, table_at, slot_at}
-use Rattle.hazard_core.specs.Held.{Pointer, Null, InSlot, Pending, is_null, is_update, is_delete, Held, asked, asked_key, pointer_in, found_cell, writes, adds_key, takes_key, slot_pointer}
+use Rattle.hazard_core.specs.StageValues.{Pointer, Null, InSlot, Pending, is_null, is_update, is_delete, StageValues, asked, asked_key, pointer_in, found_cell, writes, adds_key, takes_key, slot_pointer}
 use Rattle.hazard_core.specs.Overlay.{found_over, value_over, value_under}
 use Rattle.std.proofs.lemmas.List.{get_or-set_same}
 use Rattle.hazard_core.specs.Commits.{with_slot, makes_entry, slot_as, written_slot, committed, taken_after}
@@ -23,7 +23,7 @@ plain taken Null none = refl
 plain taken (InSlot n) none = refl
 plain taken (Pending i) none = absurd (none i refl)
 
-module _ (p : ProgramView) (t : TableState) (h : Held) where
+module _ (p : ProgramView) (t : TableState) (h : StageValues) where
   starts : (taken : List ℕ) → AreTables t → length taken ≡ length p.sites → Follows p t h 0 t.tables taken
   starts taken base long = record {
     beside = base.beside;
@@ -76,15 +76,12 @@ module _ (p : ProgramView) (t : TableState) (h : Held) where
           by false = refl
 
 -- how far the operations have come
-pub record Reached (p : ProgramView) (t : TableState) (h : Held) (j : ℕ) (r : Replayed) : Type 0 where
+pub record Reached (p : ProgramView) (t : TableState) (h : StageValues) (j : ℕ) (r : Replayed) : Type 0 where
   pub ts : List (List Slot)
   pub is : r.tables ≡ with_tables t ts
   pub follows : Follows p t h j ts r.taken
 
-module _ (laws : IndexLaws) (p : ProgramView) (t : TableState) (h : Held) (base : AreTables t) (fit : AllFit t.decls p.sites) (reads : HoldsReads p t h) where
-  abbrev Com : (j : ℕ) (ts : List (List Slot)) (taken : List ℕ) → Type 0
-  Com = Commit laws p t h base fit reads
-
+module _ (laws : IndexLaws) (p : ProgramView) (t : TableState) (h : StageValues) (base : AreTables t) (fit : AllFit t.decls p.sites) (reads : HoldsReads p t h) where
   pub committed_is : (j : ℕ) (ts : List (List Slot)) (taken : List ℕ) (c : Commit laws p t h base fit reads j ts taken) →
       committed p (with_tables t ts) taken h j ≡ with_tables t (slice_set ts (map_of p t h j) (slice_set (get_or ts (map_of p t h j) []) c.n c.s))
   unfolding committed

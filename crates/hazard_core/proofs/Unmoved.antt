@@ -1,10 +1,11 @@
 -- A read that a change does not touch.
-use Rattle.std.proofs.Common.{◌≡◌, ◌≢◌, ℕ, ◌+◌, ◌≤◌, ◌⊎◌, inl, inr, Bool, true, false, List, [], ◌∷◌, Some, None, get_or, refl, sym, ap, ◌∙◌, subst, arith, not}
-use Rattle.std.specs.Prelude.{◌==◌, ◌&&◌, ◌||◌, if◌then◌else◌, nat_lt, nat_le, fold, map as map_list, count_by, slice_index, drop}
+use Rattle.std.proofs.Common.{◌≡◌, ◌≢◌, ℕ, ◌+◌, ◌≤◌, ◌⊎◌, inl, inr, Bool, true, false, List, [], Some, None, get_or, refl, sym, ap, ◌∙◌, subst, arith, not}
+use Rattle.std.specs.Prelude.{◌==◌, ◌&&◌, ◌||◌, if◌then◌else◌, nat_lt, nat_le, map as map_list, count_by, slice_index, drop}
 use Rattle.std.specs.Int.{w64, cast_unsigned}
 use Rattle.std.specs.Str.{bytes_eq}
 use Rattle.std.proofs.lemmas.Bool.Decides.{nat_tests, Decides-eqb}
 use Rattle.std.proofs.lemmas.Slice.Eq.{bytes_eq-Decides}
+use Rattle.list_laws.proofs.ListLaws.{fold_alike}
 use Rattle.xdp_maps.specs.declared.decl.MapDecl.{MapDecl}
 use Rattle.xdp_maps.specs.declared.decl.MapKind.{MapKind}
 use Rattle.xdp_maps.specs.declared.decl.MapKind.TheVariants.{Hash, Array}
@@ -17,17 +18,13 @@ use Rattle.cell_core.specs.declared.site.Act.TheVariants as act
 use Rattle.cell_core.specs.Cells.{bit}
 use Rattle.cell_core.specs.Sites.{SiteView, ProgramView, site_at, operation_as, bytes_of}
 use Rattle.hazard_core.specs.Tables.{Slot, TableState, decl_of, table_at, slot_at, used_count}
-use Rattle.hazard_core.specs.Held.{Pointer, Null, InSlot, Pending, same_pointer, is_null, Held, held_value, pointer_in, found_cell, asked, asked_key, access_pointer, writes, adds_key, takes_key, slot_pointer, written_as, written_pointer}
+use Rattle.hazard_core.specs.StageValues.{Pointer, Null, InSlot, Pending, same_pointer, is_null, StageValues, stage_value, pointer_in, found_cell, asked, asked_key, access_pointer, writes, adds_key, takes_key, slot_pointer, written_as, written_pointer}
 use Rattle.hazard_core.specs.Overlay.{found_as, found_over, key_pointer_as, key_pointer, looks, found_pointer, value_as, value_over, value_under, entry_value, update_answer, delete_answer, where_some, answer_as, answer_over}
 use Rattle.hazard_core.specs.Marks.{Change, key_touched, entry_touched, presence_touched, touched_as, touches}
 use Rattle.hazard_core.specs.Changes.{with_tables, IsChange, finds_key, reads, Unmoved}
 
 false_true : false ≡ true → ⊥
 false_true e = cc
-
-fold_alike : {A B : Type 0} (f g : B → A → B) (a b : B) (xs : List A) → ((y : B) (x : A) → f y x ≡ g y x) → a ≡ b → fold f a xs ≡ fold g b xs
-fold_alike f g a b [] h e = e
-fold_alike f g a b (x ∷ xs) h e = fold_alike f g (f a x) (g b x) xs h (h a x ∙ ap (λ y. g y x) e)
 
 pub same_or : (m n : ℕ) → (m ≡ n) ⊎ (m ≢ n)
 same_or m n = by (m == n) refl
@@ -40,7 +37,7 @@ same_or m n = by (m == n) refl
 abbrev KeyStays : TableState → Change → ℕ → List ℕ → Type 0
 KeyStays t e m key = (m ≢ e.map) ⊎ ((key ≢ e.key) ⊎ (e.presence ≡ false))
 
-module _ (p : ProgramView) (t : TableState) (ts : List (List Slot)) (e : Change) (h : Held) (change : IsChange t e ts) where
+module _ (p : ProgramView) (t : TableState) (ts : List (List Slot)) (e : Change) (h : StageValues) (change : IsChange t e ts) where
   slot_stays : (m : ℕ) (key : List ℕ) → KeyStays t e m key → slot_pointer (get_or ts m []) key ≡ slot_pointer (table_at t m) key
   slot_stays m key (inl other) = ap (λ slots. slot_pointer slots key) (change.maps m other)
   slot_stays m key (inr why) = elim (same_or m e.map) [
@@ -141,8 +138,8 @@ module _ (p : ProgramView) (t : TableState) (ts : List (List Slot)) (e : Change)
   why_key Array j found kind f l (inr q) = array_stays (site_at p.sites j).map (asked_key t.decls h (site_at p.sites j)) kind
   why_key Hash j found kind f l (inr q) =
       let s = site_at p.sites j in
-      inr (looked s.act (bytes_of (decl_of t.decls s.map).key (map_list (held_value h) s.key)) (bytes_of (decl_of t.decls s.map).value (drop 1 (map_list (held_value h) s.operands)))
-      (slice_index (map_list (held_value h) s.operands) 0) (slice_index (map_list (held_value h) s.operands) 1) found f l q)
+      inr (looked s.act (bytes_of (decl_of t.decls s.map).key (map_list (stage_value h) s.key)) (bytes_of (decl_of t.decls s.map).value (drop 1 (map_list (stage_value h) s.operands)))
+      (slice_index (map_list (stage_value h) s.operands) 0) (slice_index (map_list (stage_value h) s.operands) 1) found f l q)
 
   -- ---- answers
 
@@ -225,16 +222,16 @@ module _ (p : ProgramView) (t : TableState) (ts : List (List Slot)) (e : Change)
       d = decl_of t.decls s.map
 
       key : List ℕ
-      key = bytes_of d.key (map_list (held_value h) s.key)
+      key = bytes_of d.key (map_list (stage_value h) s.key)
 
       value : List ℕ
-      value = bytes_of d.value (drop 1 (map_list (held_value h) s.operands))
+      value = bytes_of d.value (drop 1 (map_list (stage_value h) s.operands))
 
       flags : ℕ
-      flags = slice_index (map_list (held_value h) s.operands) 0
+      flags = slice_index (map_list (stage_value h) s.operands) 0
 
       second : ℕ
-      second = slice_index (map_list (held_value h) s.operands) 1
+      second = slice_index (map_list (stage_value h) s.operands) 1
 
       under : Pointer
       under = access_pointer h s

@@ -15,7 +15,7 @@ use Rattle.cell_core.specs.declared.site.Act.TheVariants as act
 use Rattle.cell_core.specs.Cells.{bit}
 use Rattle.cell_core.specs.Sites.{ProgramView, site_at}
 use Rattle.hazard_core.specs.Tables.{Slot, no_slot, TableState, decl_of, slot_at, has_key, used_count}
-use Rattle.hazard_core.specs.Held.{Pointer, Null, InSlot, Pending, same_pointer, is_null, Held, asked, pointer_in, found_cell, is_update, is_delete, writes, adds_key, takes_key, slot_pointer, written_pointer}
+use Rattle.hazard_core.specs.StageValues.{Pointer, Null, InSlot, Pending, same_pointer, is_null, StageValues, asked, pointer_in, found_cell, is_update, is_delete, writes, adds_key, takes_key, slot_pointer, written_pointer}
 use Rattle.hazard_core.specs.Overlay.{found_as, value_as}
 use Rattle.hazard_core.specs.Tabled.{IsTable}
 use Rattle.hazard_core.proofs.Changing.{pointer_tests, unused_key, other_key}
@@ -44,7 +44,7 @@ count_less slots n s l e f =
     let q = sum_by-set (λ (x : Slot). number x.used) slots n s no_slot l in
     omega (arith, q, ap number e, ap number f)
 
-module _ (p : ProgramView) (t : TableState) (h : Held) (j : ℕ) (ts : List (List Slot)) (taken : List ℕ) (f : Follows p t h j ts taken) (on : writes p t.decls h j ≡ true) (map : map_of p t h j < length t.decls) where
+module _ (p : ProgramView) (t : TableState) (h : StageValues) (j : ℕ) (ts : List (List Slot)) (taken : List ℕ) (f : Follows p t h j ts taken) (on : writes p t.decls h j ≡ true) (map : map_of p t h j < length t.decls) where
   abbrev slots : List Slot
   slots = get_or ts (map_of p t h j) []
 

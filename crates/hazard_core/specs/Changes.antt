@@ -6,7 +6,7 @@ use Rattle.cell_core.specs.declared.site.Act.TheVariants as act
 pub use Rattle.cell_core.specs.Acts.{finds_key, reads}
 use Rattle.cell_core.specs.Sites.{ProgramView, site_at}
 use Rattle.hazard_core.specs.Tables.{Slot, TableState, decl_of, table_at, slot_at, used_count}
-use Rattle.hazard_core.specs.Held.{Held, pointer_in, found_cell, slot_pointer, asked_key, is_delete, writes}
+use Rattle.hazard_core.specs.StageValues.{StageValues, pointer_in, found_cell, slot_pointer, asked_key, is_delete, writes}
 use Rattle.hazard_core.specs.Overlay.{found_pointer, answer_over}
 use Rattle.hazard_core.specs.Marks.{Change, touches}
 use Rattle.hazard_core.specs.Commits.{written_slot, committed, change_by, Access, host_written, host_change, word_in, may_write}
@@ -24,19 +24,19 @@ pub record IsChange (t : TableState) (e : Change) (ts : List (List Slot)) : Type
 
 -- An untouched read of site j: the entry under its key stays, and so does its answer, whatever the packet holds else and whatever
 -- operations of its own it sees.
-pub record Stays (p : ProgramView) (t u : TableState) (h : Held) (before : List ℕ) (j : ℕ) : Type 0 where
+pub record Stays (p : ProgramView) (t u : TableState) (h : StageValues) (before : List ℕ) (j : ℕ) : Type 0 where
   pub found : finds_key (site_at p.sites j).act ≡ true → found_pointer p u h before j ≡ found_pointer p t h before j
   pub answer : reads (site_at p.sites j).act ≡ true → answer_over p u h before j ≡ answer_over p t h before j
 
 -- Of an update of a hash the packet holds the entry that it found.
 abbrev pub Unmoved : Type 0
 Unmoved =
-    (p : ProgramView) (t : TableState) (ts : List (List Slot)) (e : Change) (h : Held) (before : List ℕ) (j : ℕ) → IsChange t e ts → touches p t.decls h j e ≡ false
+    (p : ProgramView) (t : TableState) (ts : List (List Slot)) (e : Change) (h : StageValues) (before : List ℕ) (j : ℕ) → IsChange t e ts → touches p t.decls h j e ≡ false
     → ((site_at p.sites j).act ≡ act.Update → (decl_of t.decls (site_at p.sites j).map).kind ≡ Hash → pointer_in h (found_cell p.cells j) ≡ found_pointer p t h before j)
     → Stays p t (with_tables t ts) h before j
 
 -- The operation of a packet at site j writes a slot that there is; a delete that of its key.
-pub record IsRightCommit (p : ProgramView) (t : TableState) (taken : List ℕ) (h : Held) (j : ℕ) : Type 0 where
+pub record IsRightCommit (p : ProgramView) (t : TableState) (taken : List ℕ) (h : StageValues) (j : ℕ) : Type 0 where
   pub map : (site_at p.sites j).map < length t.tables
   pub slot : written_slot p t taken h j < length (table_at t (site_at p.sites j).map)
   pub used : is_delete (site_at p.sites j).act ≡ true → (slot_at (table_at t (site_at p.sites j).map) (written_slot p t taken h j)).used ≡ true
@@ -45,7 +45,7 @@ pub record IsRightCommit (p : ProgramView) (t : TableState) (taken : List ℕ) (
 -- A commit changes the tables as its change says.
 abbrev pub CommitsChange : Type 0
 CommitsChange =
-    (p : ProgramView) (t : TableState) (taken : List ℕ) (h : Held) (j : ℕ) → writes p t.decls h j ≡ true → IsRightCommit p t taken h j
+    (p : ProgramView) (t : TableState) (taken : List ℕ) (h : StageValues) (j : ℕ) → writes p t.decls h j ≡ true → IsRightCommit p t taken h j
     → IsChange t (change_by p t taken h j) (committed p t taken h j).tables
 
 -- So does what the host may write while packets are inside.

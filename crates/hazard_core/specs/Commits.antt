@@ -11,7 +11,7 @@ use Rattle.cell_core.specs.declared.site.Act.TheVariants as act
 use Rattle.cell_core.specs.Cells.{bit, on}
 use Rattle.cell_core.specs.Sites.{ProgramView, site_at}
 use Rattle.hazard_core.specs.Tables.{Slot, TableState, decl_of, table_at, slot_at, free_slot}
-use Rattle.hazard_core.specs.Held.{Pointer, Null, InSlot, Pending, same_pointer, is_update, is_delete, Held, asked, asked_key, written_pointer}
+use Rattle.hazard_core.specs.StageValues.{Pointer, Null, InSlot, Pending, same_pointer, is_update, is_delete, StageValues, asked, asked_key, written_pointer}
 use Rattle.hazard_core.specs.Overlay.{value_as}
 use Rattle.hazard_core.specs.Marks.{Change}
 pub use Rattle.hazard_core.specs.declared.access.Access.{Access}
@@ -22,7 +22,7 @@ abbrev pub with_slot : TableState → ℕ → ℕ → Slot → TableState
 with_slot t m n s = record t { tables = slice_set t.tables m (slice_set (table_at t m) n s) }
 
 -- whether the operation at site j makes an entry of its own
-abbrev pub makes_entry : ProgramView → TableState → Held → ℕ → Bool
+abbrev pub makes_entry : ProgramView → TableState → StageValues → ℕ → Bool
 makes_entry p t h j = is_update (site_at p.sites j).act && same_pointer (written_pointer p t h j) (Pending j)
 
 -- The slot that a pointer is to. Of an entry that another update of the packet's own made it is the slot that this one took; a new one
@@ -33,7 +33,7 @@ slot_under slots taken j (Pending i) = if i == j then free_slot slots else slice
 slot_under slots taken j Null = free_slot slots
 
 -- the slot that the operation at site j writes
-abbrev pub written_slot : ProgramView → TableState → List ℕ → Held → ℕ → ℕ
+abbrev pub written_slot : ProgramView → TableState → List ℕ → StageValues → ℕ → ℕ
 written_slot p t taken h j = slot_under (table_at t (site_at p.sites j).map) taken j (written_pointer p t h j)
 
 -- what stands in it after that
@@ -43,14 +43,14 @@ slot_as act.Delete new op key s = record s { used = false }
 slot_as a new op key s = record s { value = value_as op s.value }
 
 -- the tables after the operation of a packet at site j
-unfoldable pub committed : ProgramView → TableState → List ℕ → Held → ℕ → TableState
+unfoldable pub committed : ProgramView → TableState → List ℕ → StageValues → ℕ → TableState
 committed p t taken h j =
     let s = site_at p.sites j in
     let n = written_slot p t taken h j in
     with_slot t s.map n (slot_as s.act (makes_entry p t h j) (asked t.decls h s) (asked_key t.decls h s) (slot_at (table_at t s.map) n))
 
 -- the slots that the packet's updates took
-abbrev pub taken_after : ProgramView → TableState → List ℕ → Held → ℕ → List ℕ
+abbrev pub taken_after : ProgramView → TableState → List ℕ → StageValues → ℕ → List ℕ
 taken_after p t taken h j = if is_update (site_at p.sites j).act then slice_set taken j (written_slot p t taken h j) else taken
 
 -- the key of the change: that of an update or a delete, else the one in the slot
@@ -59,7 +59,7 @@ changed_key act.Update own held = own
 changed_key act.Delete own held = own
 changed_key a own held = held
 
-unfoldable pub change_by : ProgramView → TableState → List ℕ → Held → ℕ → Change
+unfoldable pub change_by : ProgramView → TableState → List ℕ → StageValues → ℕ → Change
 change_by p t taken h j =
     let s = site_at p.sites j in
     let n = written_slot p t taken h j in
@@ -115,9 +115,9 @@ host_written t a n = with_slot t a.map a.index (written_word (slot_at (table_at 
 
 -- While packets are inside, the host writes values of used slots alone; otherwise every word.
 abbrev pub may_write : Bool → Slot → Word → Bool
-may_write calm s Nothing = false
-may_write calm s (Value w) = calm || s.used
-may_write calm s other = calm
+may_write idle s Nothing = false
+may_write idle s (Value w) = idle || s.used
+may_write idle s other = idle
 
 abbrev pub host_change : TableState → Access → Change
 host_change t a = record { map = a.map; slot = a.index; key = (slot_at (table_at t a.map) a.index).key; presence = false }

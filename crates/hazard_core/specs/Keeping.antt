@@ -5,16 +5,16 @@ use Rattle.cell_core.specs.declared.site.Act.{Act}
 use Rattle.cell_core.specs.declared.site.Act.TheVariants as act
 use Rattle.cell_core.specs.Sites.{SiteView, ProgramView, site_at}
 use Rattle.hazard_core.specs.Tables.{TableState}
-use Rattle.hazard_core.specs.Held.{Held, held_value, pointer_in, pending}
+use Rattle.hazard_core.specs.StageValues.{StageValues, stage_value, pointer_in, pending}
 use Rattle.hazard_core.specs.Overlay.{found_pointer, answer_over}
 
 -- two packets hold the same of a cell
-pub record SameCell (h g : Held) (c : ℕ) : Type 0 where
-  pub value : held_value h c ≡ held_value g c
+pub record SameCell (h g : StageValues) (c : ℕ) : Type 0 where
+  pub value : stage_value h c ≡ stage_value g c
   pub pointer : pointer_in h c ≡ pointer_in g c
 
 -- and of all cells of the rows below r; past the last cell there is nothing
-abbrev pub AreAlike : ProgramView → (ℕ → ℕ) → ℕ → Held → Held → Type 0
+abbrev pub AreAlike : ProgramView → (ℕ → ℕ) → ℕ → StageValues → StageValues → Type 0
 AreAlike p row r h g = (c : ℕ) → (row c < r) ⊎ (length p.cells ≤ c) → SameCell h g c
 
 -- the operands that the read of an operation looks at: of an update the flags, of an access its pointer
@@ -31,5 +31,5 @@ LooksBelow row r s = AllByRecursion (λ c. row c < r) s.key × AllByRecursion (�
 -- A read in row r finds and answers the same in packets that hold the same of the rows below.
 abbrev pub ReadsKeep : Type 0
 ReadsKeep =
-    (p : ProgramView) (row : ℕ → ℕ) (r j : ℕ) (t : TableState) (h g : Held) → AreAlike p row r h g → LooksBelow row r (site_at p.sites j)
+    (p : ProgramView) (row : ℕ → ℕ) (r j : ℕ) (t : TableState) (h g : StageValues) → AreAlike p row r h g → LooksBelow row r (site_at p.sites j)
     → (found_pointer p t h (pending p row r j) j ≡ found_pointer p t g (pending p row r j) j) × (answer_over p t h (pending p row r j) j ≡ answer_over p t g (pending p row r j) j)

@@ -4,7 +4,7 @@ pub use Rattle.cell_core.specs.xdp_machine as xdp_machine
 pub use Rattle.xdp_maps.specs as xdp_maps
 pub mod Tables
 pub mod Shaped
-pub mod Held
+pub mod StageValues
 pub mod Overlay
 pub mod Answering
 pub mod Rows

@@ -5,23 +5,23 @@ ghost use Rattle.cell_core.specs.Formed.{AllFit, FitsMap};
 ghost use Rattle.cell_core.specs.View.{program_of, site_of};
 ghost use Rattle.hazard_core.specs.Tables.{decl_of, slot_at};
 ghost use Rattle.hazard_core.specs.Shaped.{IsShaped};
-ghost use Rattle.hazard_core.specs.Held.{asked, asked_key};
+ghost use Rattle.hazard_core.specs.StageValues.{asked, asked_key};
 ghost use Rattle.hazard_core.specs.Commits.{makes_entry, slot_under, written_slot, slot_as, committed, taken_after, change_by};
 
 use crate::change::Change;
-use crate::held::Held;
 use crate::operation::{key_of, operate};
 use crate::overlay::written_pointer;
 use crate::pointer::Pointer;
 use crate::site::{is_delete, is_update, site_at};
 use crate::slot::{Slot, free_slot};
+use crate::stage_values::StageValues;
 use crate::tables::Tables;
 use cell_core::program::CellProgram;
 use cell_core::site::{Act, Site};
 use xdp_maps::short::ShortBytes;
 
 /// Whether the operation at site j makes an entry of its own.
-fn makes_entry(program: &CellProgram, tables: &Tables, held: &Held, j: usize) -> bool
+fn makes_entry(program: &CellProgram, tables: &Tables, held: &StageValues, j: usize) -> bool
     requires site { j < length program.now.sites.items }
     requires fits { AllFit tables.now.decls (program_of program.now).sites }
     ensures { result ≡ makes_entry (program_of program.now) tables.now held.now j }
@@ -54,7 +54,7 @@ pub fn written_slot(
     program: &CellProgram,
     tables: &Tables,
     taken: &[usize],
-    held: &Held,
+    held: &StageValues,
     j: usize,
 ) -> usize
     requires site { j < length program.now.sites.items }
@@ -66,7 +66,14 @@ pub fn written_slot(
 }
 
 /// What stands in a slot after the operation of a site, which makes a new entry there or not.
-fn operate_slot(act: Act, tables: &Tables, held: &Held, site: &Site, new: bool, slot: &Slot) -> Slot
+fn operate_slot(
+    act: Act,
+    tables: &Tables,
+    held: &StageValues,
+    site: &Site,
+    new: bool,
+    slot: &Slot,
+) -> Slot
     requires fits { FitsMap tables.now.decls (site_of site.now) }
     requires shape { IsShaped (decl_of tables.now.decls site.now.map) slot.now }
     ensures slot { result ≡ slot_as act new (asked tables.now.decls held.now (site_of site.now)) (asked_key tables.now.decls held.now (site_of site.now)) slot.now }
@@ -94,7 +101,7 @@ pub fn commit(
     program: &CellProgram,
     tables: &mut Tables,
     taken: &mut [usize],
-    held: &Held,
+    held: &StageValues,
     j: usize,
 )
     requires site { j < length program.now.sites.items }
@@ -132,7 +139,7 @@ pub fn change_by(
     program: &CellProgram,
     tables: &Tables,
     taken: &[usize],
-    held: &Held,
+    held: &StageValues,
     j: usize,
 ) -> Change
     requires site { j < length program.now.sites.items }

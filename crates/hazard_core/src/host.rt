@@ -133,14 +133,14 @@ pub fn write(tables: &mut Tables, access: Access, number: u64)
 }
 
 /// Whether the host may write the word that an access names: while packets are inside a value of a used slot alone.
-pub fn may_write(tables: &Tables, calm: bool, access: Access) -> bool
-    ensures may { result ≡ may_write calm (slot_at (table_at tables.now access.map) access.index) (word_in tables.now access) }
+pub fn may_write(tables: &Tables, idle: bool, access: Access) -> bool
+    ensures may { result ≡ may_write idle (slot_at (table_at tables.now access.map) access.index) (word_in tables.now access) }
     ensures map { result ≡ true → access.map < length tables.now.decls }
 {
     match word_in(tables, access) {
         Word::Nothing => false,
-        Word::Value(_) => calm || tables.slots(access.map)[access.index as usize].used,
-        _ => calm,
+        Word::Value(_) => idle || tables.slots(access.map)[access.index as usize].used,
+        _ => idle,
     }
 }
 

@@ -37,7 +37,7 @@ pub fn in_turn()
     xdp_maps::laws::index_laws();
 }
 
-/// A read that has behind it each earlier operation of its map that writes finds what it finds over all of them.
+/// A read that has after it each earlier operation of its map that writes finds what it finds over all of them.
 pub fn sees_earlier()
     ensures { SeesEarlier }
 {}

@@ -5,7 +5,6 @@
 pub mod access;
 pub mod change;
 pub mod commit;
-pub mod held;
 pub mod held_rows;
 pub mod host;
 pub mod laws;
@@ -17,6 +16,7 @@ pub mod pointer;
 pub mod rows;
 pub mod site;
 pub mod slot;
+pub mod stage_values;
 pub mod table_laws;
 pub mod table_maps;
 pub mod tables;

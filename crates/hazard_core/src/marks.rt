@@ -7,15 +7,15 @@ ghost use Rattle.cell_core.specs.View.{program_of, site_of};
 ghost use Rattle.std.specs.Str.{bytes_eq};
 ghost use Rattle.cell_core.specs.Sites.{site_at, operation_with};
 ghost use Rattle.hazard_core.specs.Tables.{decl_of};
-ghost use Rattle.hazard_core.specs.Held.{held_value, asked, asked_key, is_null, pointer_in, found_cell};
+ghost use Rattle.hazard_core.specs.StageValues.{stage_value, asked, asked_key, is_null, pointer_in, found_cell};
 ghost use Rattle.hazard_core.specs.Marks.{key_touched, entry_touched, presence_touched, touched_as, touches, known_on, known_off, has_read, is_marked};
 
 use crate::change::Change;
-use crate::held::Held;
 use crate::operation::key_of;
 use crate::pending::row_in;
 use crate::pointer::Pointer;
 use crate::site::{answer_cell, found_cell, site_at};
+use crate::stage_values::StageValues;
 use crate::tables::Tables;
 use cell_core::program::CellProgram;
 use cell_core::site::{Act, Site};
@@ -25,13 +25,13 @@ use xdp_maps::decl::MapKind;
 fn key_touched(
     act: Act,
     tables: &Tables,
-    held: &Held,
+    held: &StageValues,
     site: &Site,
     found: bool,
     changed: &[u8],
 ) -> bool
     requires { FitsMap tables.now.decls (site_of site.now) }
-    ensures { result ≡ key_touched (operation_with (decl_of tables.now.decls site.now.map) act (map_list (held_value held.now) site.now.key.items) (map_list (held_value held.now) site.now.operands.items)) found changed.now }
+    ensures { result ≡ key_touched (operation_with (decl_of tables.now.decls site.now.map) act (map_list (stage_value held.now) site.now.key.items) (map_list (stage_value held.now) site.now.operands.items)) found changed.now }
 {
     match act {
         Act::Lookup | Act::Delete => key_of(tables, held, site).as_slice() == changed,
@@ -45,7 +45,13 @@ fn key_touched(
 }
 
 /// The key of a pending entry is a change's. There is no key past the last site.
-fn is_key_of(program: &CellProgram, tables: &Tables, held: &Held, i: usize, key: &[u8]) -> bool
+fn is_key_of(
+    program: &CellProgram,
+    tables: &Tables,
+    held: &StageValues,
+    i: usize,
+    key: &[u8],
+) -> bool
     requires { AllFit tables.now.decls (program_of program.now).sites }
     ensures { result ≡ bytes_eq (asked_key tables.now.decls held.now (site_at (program_of program.now).sites i)) key.now }
 {
@@ -60,7 +66,7 @@ fn is_key_of(program: &CellProgram, tables: &Tables, held: &Held, i: usize, key:
 fn entry_touched(
     program: &CellProgram,
     tables: &Tables,
-    held: &Held,
+    held: &StageValues,
     change: &Change,
     under: Pointer,
 ) -> bool
@@ -78,7 +84,7 @@ fn entry_touched(
 fn presence_touched(
     program: &CellProgram,
     tables: &Tables,
-    held: &Held,
+    held: &StageValues,
     j: usize,
     change: &Change,
 ) -> bool
@@ -101,7 +107,7 @@ fn touched_as(
     act: Act,
     program: &CellProgram,
     tables: &Tables,
-    held: &Held,
+    held: &StageValues,
     j: usize,
     change: &Change,
 ) -> bool
@@ -126,7 +132,7 @@ fn touched_as(
 pub fn touches(
     program: &CellProgram,
     tables: &Tables,
-    held: &Held,
+    held: &StageValues,
     j: usize,
     change: &Change,
 ) -> bool
@@ -139,14 +145,14 @@ pub fn touches(
 }
 
 /// Whether a site's guard stands in the rows up to one, and is on.
-pub fn known_on(rows: &[u32], r: u32, held: &Held, site: &Site) -> bool
+pub fn known_on(rows: &[u32], r: u32, held: &StageValues, site: &Site) -> bool
     ensures { result ≡ known_on (slice_index rows.now) r held.now (site_of site.now) }
 {
     row_in(rows, site.guard as usize) <= r && held.guard_on(site)
 }
 
 /// Whether it stands there, and is off.
-pub fn known_off(rows: &[u32], r: u32, held: &Held, site: &Site) -> bool
+pub fn known_off(rows: &[u32], r: u32, held: &StageValues, site: &Site) -> bool
     ensures { result ≡ known_off (slice_index rows.now) r held.now (site_of site.now) }
 {
     row_in(rows, site.guard as usize) <= r && !held.guard_on(site)
@@ -160,7 +166,7 @@ fn is_read(program: &CellProgram, rows: &[u32], cell: usize, r: u32) -> bool
 }
 
 /// Whether a packet that holds the rows up to one has read at a site.
-#[tactic(auto, using(crate::proofs::Parts::any_two))]
+#[tactic(auto, using(list_laws::proofs::ListLaws::any_two))]
 fn has_read(program: &CellProgram, rows: &[u32], r: u32, j: usize) -> bool
     ensures { result ≡ has_read (program_of program.now) (slice_index rows.now) r j }
 {
@@ -174,7 +180,7 @@ pub fn is_marked(
     rows: &[u32],
     tables: &Tables,
     r: u32,
-    held: &Held,
+    held: &StageValues,
     change: &Change,
     j: usize,
 ) -> bool

@@ -8,10 +8,10 @@ ghost use Rattle.cell_core.specs.Sites.{bytes_of, change_of, operation_with};
 ghost use Rattle.cell_core.specs.Formed.{FitsMap, HasWords, IsInside};
 ghost use Rattle.cell_core.specs.View.{program_of, site_of};
 ghost use Rattle.hazard_core.specs.Tables.{decl_of};
-ghost use Rattle.hazard_core.specs.Held.{held_value, asked, asked_key, writes_as};
+ghost use Rattle.hazard_core.specs.StageValues.{stage_value, asked, asked_key, writes_as};
 ghost use Rattle.hazard_core.specs.Overlay.{value_as};
 
-use crate::held::Held;
+use crate::stage_values::StageValues;
 use crate::tables::Tables;
 use byteorder::{ByteOrder, LittleEndian};
 use cell_core::site::{Act, Atomic, Site};
@@ -22,10 +22,10 @@ use xdp_maps::short::ShortBytes;
 
 /// The first `count` bytes of words of eight.
 #[tactic(auto, using(crate::proofs::Spelling::spelled_more, crate::proofs::Spelling::spelled_all))]
-fn spell(held: &Held, words: &[u32], count: usize) -> ShortBytes
+fn spell(held: &StageValues, words: &[u32], count: usize) -> ShortBytes
     requires short { count ≤ 64 }
     requires enough { count ≤ 8 * length words.now }
-    ensures { result ≡ bytes_of count (map_list (held_value held.now) words.now) }
+    ensures { result ≡ bytes_of count (map_list (stage_value held.now) words.now) }
 {
     let mut bytes = [0; 64];
     let needed = (count + 7) / 8;
@@ -37,8 +37,8 @@ fn spell(held: &Held, words: &[u32], count: usize) -> ShortBytes
 }
 
 /// The key of a site's operation.
-#[tactic(auto, using(crate::proofs::Lengths::key_is, crate::proofs::Lengths::words_length))]
-pub fn key_of(tables: &Tables, held: &Held, site: &Site) -> ShortBytes
+#[tactic(auto, using(crate::proofs::ActsLaws::key_is, cell_core::proofs::SpelledLaws::words_length))]
+pub fn key_of(tables: &Tables, held: &StageValues, site: &Site) -> ShortBytes
     requires { FitsMap tables.now.decls (site_of site.now) }
     ensures key { result ≡ asked_key tables.now.decls held.now (site_of site.now) }
     ensures count { length result ≡ (decl_of tables.now.decls site.now.map).key }
@@ -58,17 +58,17 @@ fn rest(operands: &[u32]) -> &[u32]
 }
 
 /// The value of an update.
-fn value_of(held: &Held, site: &Site, decl: &MapDecl) -> ShortBytes
+fn value_of(held: &StageValues, site: &Site, decl: &MapDecl) -> ShortBytes
     requires short { decl.now.value ≤ 64 }
     requires words { decl.now.value + 8 ≤ 8 * length site.now.operands.items }
-    ensures { result ≡ bytes_of decl.now.value (drop 1 (map_list (held_value held.now) site.now.operands.items)) }
+    ensures { result ≡ bytes_of decl.now.value (drop 1 (map_list (stage_value held.now) site.now.operands.items)) }
 {
     spell(held, rest(&site.operands), decl.value as usize)
 }
 
 /// The atomic change of a site.
-pub fn change_of(held: &Held, site: &Site, atomic: Atomic) -> Change
-    ensures { result ≡ change_of atomic (get_or (map_list (held_value held.now) (site_of site.now).operands) 0 0) (get_or (map_list (held_value held.now) (site_of site.now).operands) 1 0) }
+pub fn change_of(held: &StageValues, site: &Site, atomic: Atomic) -> Change
+    ensures { result ≡ change_of atomic (get_or (map_list (stage_value held.now) (site_of site.now).operands) 0 0) (get_or (map_list (stage_value held.now) (site_of site.now).operands) 1 0) }
 {
     Change {
         kind: atomic.kind,
@@ -158,11 +158,11 @@ fn change_value(value: &mut ShortBytes, at: usize, change: Change)
 }
 
 /// Does to a value what an operation of a site does to the one under its key.
-fn operate_as(act: Act, held: &Held, site: &Site, decl: &MapDecl, value: &mut ShortBytes)
+fn operate_as(act: Act, held: &StageValues, site: &Site, decl: &MapDecl, value: &mut ShortBytes)
     requires short { decl.now.value ≤ 64 }
     requires words { HasWords decl.now.value act (length site.now.operands.items) }
     requires inside { IsInside decl.now.value act }
-    ensures { value.new ≡ value_as (operation_with decl.now act (map_list (held_value held.now) site.now.key.items) (map_list (held_value held.now) site.now.operands.items)) value.old }
+    ensures { value.new ≡ value_as (operation_with decl.now act (map_list (stage_value held.now) site.now.key.items) (map_list (stage_value held.now) site.now.operands.items)) value.old }
 {
     match act {
         Act::Update => *value = value_of(held, site, decl),
@@ -179,7 +179,7 @@ fn operate_as(act: Act, held: &Held, site: &Site, decl: &MapDecl, value: &mut Sh
 
 /// The same of the site's own operation.
 #[tactic(auto, using(crate::proofs::Lengths::value_length))]
-pub fn operate(tables: &Tables, held: &Held, site: &Site, value: &mut ShortBytes)
+pub fn operate(tables: &Tables, held: &StageValues, site: &Site, value: &mut ShortBytes)
     requires { FitsMap tables.now.decls (site_of site.now) }
     ensures value { value.new ≡ value_as (asked tables.now.decls held.now (site_of site.now)) value.old }
     ensures count { length value.old ≡ (decl_of tables.now.decls site.now.map).value → length value.new ≡ length value.old }

@@ -7,16 +7,16 @@ ghost use Rattle.cell_core.specs.View.{program_of, site_of};
 ghost use Rattle.xdp_maps.specs.Calls.{hash_refusal, array_refusal, number_of};
 ghost use Rattle.xdp_maps.specs.Contents.{index_of};
 ghost use Rattle.hazard_core.specs.Tables.{decl_of, table_at};
-ghost use Rattle.hazard_core.specs.Held.{held_value, slot_pointer, update_pointer, written_as, written_pointer, pending};
+ghost use Rattle.hazard_core.specs.StageValues.{stage_value, slot_pointer, update_pointer, written_as, written_pointer, pending};
 ghost use Rattle.hazard_core.specs.Answering.{number_under};
 ghost use Rattle.hazard_core.specs.Overlay.{found_as, found_over, key_pointer, found_pointer, looks, value_over, value_under, entry_value, update_answer, delete_answer, answer_as, answer_over};
 
-use crate::held::Held;
 use crate::operation::{key_of, number_in, operate};
 use crate::pending::{is_pending, keys_added, keys_taken, writes};
 use crate::pointer::Pointer;
 use crate::site::{found_cell, site_at};
 use crate::slot::{Slot, slot_of, used_count};
+use crate::stage_values::StageValues;
 use crate::tables::Tables;
 use byteorder::{ByteOrder, LittleEndian};
 use cell_core::program::CellProgram;
@@ -54,7 +54,7 @@ fn written_as(
     kind: MapKind,
     program: &CellProgram,
     tables: &Tables,
-    held: &Held,
+    held: &StageValues,
     j: usize,
 ) -> Pointer
     requires site { j < length program.now.sites.items }
@@ -76,7 +76,12 @@ fn written_as(
 }
 
 /// The entry that a packet's operation at a site writes.
-pub fn written_pointer(program: &CellProgram, tables: &Tables, held: &Held, j: usize) -> Pointer
+pub fn written_pointer(
+    program: &CellProgram,
+    tables: &Tables,
+    held: &StageValues,
+    j: usize,
+) -> Pointer
     requires site { j < length program.now.sites.items }
     requires fits { AllFit tables.now.decls (program_of program.now).sites }
     ensures { result ≡ written_pointer (program_of program.now) tables.now held.now j }
@@ -100,7 +105,7 @@ fn found_as(act: Act, written: Pointer, found: Pointer) -> Pointer
 fn found_over(
     program: &CellProgram,
     tables: &Tables,
-    held: &Held,
+    held: &StageValues,
     key: &[u8],
     found: Pointer,
     i: usize,
@@ -125,7 +130,7 @@ fn found_after(
     rows: &[u32],
     r: u32,
     tables: &Tables,
-    held: &Held,
+    held: &StageValues,
     j: usize,
     key: &[u8],
     start: Pointer,
@@ -149,7 +154,7 @@ fn key_pointer(
     rows: &[u32],
     r: u32,
     tables: &Tables,
-    held: &Held,
+    held: &StageValues,
     j: usize,
 ) -> Pointer
     requires site { j < length program.now.sites.items }
@@ -166,8 +171,8 @@ fn key_pointer(
 }
 
 /// Whether an operation of a site looks for its key: an update with flags that no one knows does not.
-fn looks_as(act: Act, held: &Held, site: &Site, decl: &MapDecl) -> bool
-    ensures { result ≡ looks (operation_with decl.now act (map_list (held_value held.now) site.now.key.items) (map_list (held_value held.now) site.now.operands.items)) }
+fn looks_as(act: Act, held: &StageValues, site: &Site, decl: &MapDecl) -> bool
+    ensures { result ≡ looks (operation_with decl.now act (map_list (stage_value held.now) site.now.key.items) (map_list (stage_value held.now) site.now.operands.items)) }
 {
     match act {
         Act::Update => held.operand(site, 0) <= 2,
@@ -181,7 +186,7 @@ pub fn found_pointer(
     rows: &[u32],
     r: u32,
     tables: &Tables,
-    held: &Held,
+    held: &StageValues,
     j: usize,
 ) -> Pointer
     requires site { j < length program.now.sites.items }
@@ -221,7 +226,7 @@ fn entry_value(
     rows: &[u32],
     r: u32,
     tables: &Tables,
-    held: &Held,
+    held: &StageValues,
     j: usize,
     under: Pointer,
 ) -> ShortBytes
@@ -242,7 +247,7 @@ fn entry_value(
 fn value_over(
     program: &CellProgram,
     tables: &Tables,
-    held: &Held,
+    held: &StageValues,
     under: Pointer,
     value: &mut ShortBytes,
     i: usize,
@@ -334,7 +339,7 @@ fn number_under(
     rows: &[u32],
     r: u32,
     tables: &Tables,
-    held: &Held,
+    held: &StageValues,
     j: usize,
     at: u32,
     count: usize,
@@ -360,14 +365,14 @@ fn answer_as(
     rows: &[u32],
     r: u32,
     tables: &Tables,
-    held: &Held,
+    held: &StageValues,
     j: usize,
 ) -> u64
     requires site { j < length program.now.sites.items }
     requires few { length program.now.sites.items < 2 ^ 32 }
     requires fits { AllFit tables.now.decls (program_of program.now).sites }
     ensures { let s = site_at (program_of program.now).sites j in
-        result ≡ answer_as act (operation_with (decl_of tables.now.decls s.map) act (map_list (held_value held.now) s.key) (map_list (held_value held.now) s.operands)) (program_of program.now) tables.now held.now
+        result ≡ answer_as act (operation_with (decl_of tables.now.decls s.map) act (map_list (stage_value held.now) s.key) (map_list (stage_value held.now) s.operands)) (program_of program.now) tables.now held.now
         (pending (program_of program.now) (slice_index rows.now) r j) j }
 {
     let site = site_at(program, j);
@@ -420,7 +425,7 @@ pub fn answer_over(
     rows: &[u32],
     r: u32,
     tables: &Tables,
-    held: &Held,
+    held: &StageValues,
     j: usize,
 ) -> u64
     requires site { j < length program.now.sites.items }

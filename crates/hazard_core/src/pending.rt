@@ -5,11 +5,11 @@ ghost use Rattle.std.specs.List.{list_all};
 ghost use Rattle.cell_core.specs.Formed.{AllFit};
 ghost use Rattle.cell_core.specs.Rows.{taken_by};
 ghost use Rattle.cell_core.specs.View.{program_of, site_of};
-ghost use Rattle.hazard_core.specs.Held.{parts, read_cells, is_pending, pending, writes, adds_key, takes_key};
+ghost use Rattle.hazard_core.specs.StageValues.{parts, read_cells, is_pending, pending, writes, adds_key, takes_key};
 
-use crate::held::Held;
 use crate::operation::writes_as;
 use crate::site::{answer_cell, found_cell, is_delete, is_update, site_at};
+use crate::stage_values::StageValues;
 use crate::tables::Tables;
 use cell_core::program::CellProgram;
 use cell_core::site::Site;
@@ -76,7 +76,7 @@ pub fn is_pending(program: &CellProgram, rows: &[u32], r: u32, j: usize, i: usiz
 }
 
 /// Whether a packet's operation at a site writes.
-pub fn writes(program: &CellProgram, tables: &Tables, held: &Held, j: usize) -> bool
+pub fn writes(program: &CellProgram, tables: &Tables, held: &StageValues, j: usize) -> bool
     requires site { j < length program.now.sites.items }
     requires fits { AllFit tables.now.decls (program_of program.now).sites }
     ensures { result ≡ writes (program_of program.now) tables.now.decls held.now j }
@@ -87,7 +87,7 @@ pub fn writes(program: &CellProgram, tables: &Tables, held: &Held, j: usize) -> 
 }
 
 /// Whether it adds a key.
-fn adds_key(program: &CellProgram, tables: &Tables, held: &Held, j: usize) -> bool
+fn adds_key(program: &CellProgram, tables: &Tables, held: &StageValues, j: usize) -> bool
     requires site { j < length program.now.sites.items }
     requires fits { AllFit tables.now.decls (program_of program.now).sites }
     ensures { result ≡ adds_key (program_of program.now) tables.now.decls held.now j }
@@ -98,7 +98,7 @@ fn adds_key(program: &CellProgram, tables: &Tables, held: &Held, j: usize) -> bo
 }
 
 /// Whether it takes one away.
-fn takes_key(program: &CellProgram, tables: &Tables, held: &Held, j: usize) -> bool
+fn takes_key(program: &CellProgram, tables: &Tables, held: &StageValues, j: usize) -> bool
     requires site { j < length program.now.sites.items }
     requires fits { AllFit tables.now.decls (program_of program.now).sites }
     ensures { result ≡ takes_key (program_of program.now) tables.now.decls held.now j }
@@ -112,7 +112,7 @@ fn sees_added(
     rows: &[u32],
     r: u32,
     tables: &Tables,
-    held: &Held,
+    held: &StageValues,
     j: usize,
     i: usize,
 ) -> bool
@@ -130,7 +130,7 @@ fn sees_taken(
     rows: &[u32],
     r: u32,
     tables: &Tables,
-    held: &Held,
+    held: &StageValues,
     j: usize,
     i: usize,
 ) -> bool
@@ -149,7 +149,7 @@ pub fn keys_added(
     rows: &[u32],
     r: u32,
     tables: &Tables,
-    held: &Held,
+    held: &StageValues,
     j: usize,
 ) -> usize
     requires site { j < length program.now.sites.items }
@@ -173,7 +173,7 @@ pub fn keys_taken(
     rows: &[u32],
     r: u32,
     tables: &Tables,
-    held: &Held,
+    held: &StageValues,
     j: usize,
 ) -> usize
     requires site { j < length program.now.sites.items }

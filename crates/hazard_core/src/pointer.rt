@@ -13,7 +13,7 @@ pub enum Pointer {
 }
 
 impl Pointer {
-    ghost use Rattle.hazard_core.specs.Held.{is_null, same_pointer};
+    ghost use Rattle.hazard_core.specs.StageValues.{is_null, same_pointer};
 
     pub fn is_null(self) -> bool
         ensures { result ≡ is_null self }

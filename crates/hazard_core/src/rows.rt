@@ -4,13 +4,13 @@ ghost use Rattle.std.specs.Prelude.{ℕ, ◌≡◌, ◌<◌, ◌≤◌, ◌^◌,
 ghost use Rattle.cell_core.specs.Cells.{number, site_in, cell_at};
 ghost use Rattle.cell_core.specs.Formed.{AllFit, AreFormed, IsInRange};
 ghost use Rattle.cell_core.specs.View.{program_of, cell_of};
-ghost use Rattle.hazard_core.specs.Held.{held_value};
+ghost use Rattle.hazard_core.specs.StageValues.{stage_value};
 ghost use Rattle.hazard_core.specs.Rows.{phi_pointer, cell_number, cell_pointer, with_made, with_row};
 
-use crate::held::Held;
 use crate::overlay::{answer_over, found_pointer};
 use crate::pending::row_in;
 use crate::pointer::Pointer;
+use crate::stage_values::StageValues;
 use crate::tables::Tables;
 use cell_core::cell::Cell;
 use cell_core::operator::Operator;
@@ -50,9 +50,9 @@ fn taken(source: &Source, op: Operator) -> Option<u64>
 
 /// The number of an operator on what a packet holds. `other` is any packet: no operator that is left looks at it.
 #[tactic(auto, using(crate::proofs::Made::other_packet))]
-fn number(source: &Source, other: &PacketIn, op: Operator, held: &Held, ins: &[u32]) -> u64
+fn number(source: &Source, other: &PacketIn, op: Operator, held: &StageValues, ins: &[u32]) -> u64
     requires { IsInRange op }
-    ensures { result ≡ number (packet_of source.now) op (map_list (held_value held.now) ins.now) }
+    ensures { result ≡ number (packet_of source.now) op (map_list (stage_value held.now) ins.now) }
 {
     match taken(source, op) {
         Some(n) => n,
@@ -61,7 +61,7 @@ fn number(source: &Source, other: &PacketIn, op: Operator, held: &Held, ins: &[u
 }
 
 /// The pointer of the first edge that is on, or of the last.
-fn phi_pointer(held: &Held, ins: &[u32]) -> Pointer
+fn phi_pointer(held: &StageValues, ins: &[u32]) -> Pointer
     ensures { result ≡ phi_pointer held.now ins.now }
 {
     let mut left = ins;
@@ -82,7 +82,7 @@ fn make(
     tables: &Tables,
     source: &Source,
     other: &PacketIn,
-    held: &Held,
+    held: &StageValues,
     cell: &Cell,
 ) -> (u64, Pointer)
     requires in_range { IsInRange cell.now.op }
@@ -138,7 +138,7 @@ fn take_cell(
     source: &Source,
     other: &PacketIn,
     k: usize,
-    held: &mut Held,
+    held: &mut StageValues,
 )
     requires cell { k < length program.now.cells.items }
     requires formed { AreFormed (program_of program.now).cells }
@@ -163,7 +163,7 @@ pub fn take_row(
     tables: &Tables,
     source: &Source,
     other: &PacketIn,
-    held: &mut Held,
+    held: &mut StageValues,
 )
     requires formed { AreFormed (program_of program.now).cells }
     requires sites { (k j : ℕ) → k < length program.now.cells.items → site_in (cell_at (program_of program.now).cells k).op ≡ Some j → j < length program.now.sites.items }

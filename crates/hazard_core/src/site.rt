@@ -5,7 +5,7 @@ ghost use Rattle.xdp_maps.specs.declared.decl.MapDecl.{MapDecl};
 ghost use Rattle.cell_core.specs.Formed.{AllFit, FitsMap};
 ghost use Rattle.cell_core.specs.Sites.{site_at};
 ghost use Rattle.cell_core.specs.View.{program_of, site_of};
-ghost use Rattle.hazard_core.specs.Held.{found_cell, answer_cell, is_found_of, is_answer_of, is_update, is_delete};
+ghost use Rattle.hazard_core.specs.StageValues.{found_cell, answer_cell, is_found_of, is_answer_of, is_update, is_delete};
 
 use cell_core::cell::Cell;
 use cell_core::operator::Operator;

@@ -19,3 +19,5 @@ pub mod MachineAtomics
 pub mod SoundAtomics
 pub mod SoundSteps
 pub mod TransferLaws
+pub mod AllowedLaws
+pub mod SizeLaws

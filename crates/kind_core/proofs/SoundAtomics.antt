@@ -23,8 +23,8 @@ use Rattle.kind_core.specs.declared.places.Place.{Place}
 use Rattle.kind_core.specs.declared.places.Place.TheVariants.{InPacket, InStack, InEntry}
 use Rattle.kind_core.specs.declared.effects.Effect.{Effect}
 use Rattle.kind_core.specs.declared.effects.Effect.TheVariants.{Nothing, Register}
-use Rattle.kind_core.specs.declared.why.Why.{Why}
-use Rattle.kind_core.specs.declared.why.Why.TheVariants as why
+use Rattle.xdp_state.specs.declared.refusal.Why.{Why}
+use Rattle.xdp_state.specs.declared.refusal.Why.TheVariants as why
 use Rattle.kind_core.specs.Kinds.{register, value_in, value_bytes}
 use Rattle.kind_core.specs.Tests.{◌>>=◌, passed, number_in, aligned}
 use Rattle.kind_core.specs.Places.{in_packet, in_stack, in_value, accessed}

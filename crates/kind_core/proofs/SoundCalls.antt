@@ -32,7 +32,7 @@ use Rattle.kind_core.specs.declared.helpers.Helper.{Helper}
 use Rattle.kind_core.specs.declared.effects.Effect.{Effect}
 use Rattle.kind_core.specs.declared.effects.Effect.TheVariants.{Lookup, Answered, Changed}
 use Rattle.kind_core.specs.declared.refinements.Refinement.TheVariants.{IsStale}
-use Rattle.kind_core.specs.declared.why.Why.TheVariants as why
+use Rattle.xdp_state.specs.declared.refusal.Why.TheVariants as why
 use Rattle.kind_core.specs.Kinds.{register, answering, key_in, value_in, hash_in, is_hash_kind, key_bytes, value_bytes, is_hash}
 use Rattle.kind_core.specs.Tests.{◌>>=◌, Test, passed, readable, number_in, one_number, all_numbers, within}
 use Rattle.kind_core.specs.Places.{in_packet}

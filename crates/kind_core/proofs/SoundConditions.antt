@@ -26,7 +26,7 @@ use Rattle.kind_core.specs.declared.effects.Effect.{Effect}
 use Rattle.kind_core.specs.declared.effects.Effect.TheVariants.{Compared}
 use Rattle.kind_core.specs.declared.refinements.Refinement.{Refinement}
 use Rattle.kind_core.specs.declared.refinements.Refinement.TheVariants.{IsNull, IsEntry}
-use Rattle.kind_core.specs.declared.why.Why.{Why}
+use Rattle.xdp_state.specs.declared.refusal.Why.{Why}
 use Rattle.kind_core.specs.Kinds.{register}
 use Rattle.kind_core.specs.Tests.{◌>>=◌}
 use Rattle.kind_core.specs.Conditions.{bounds_test, mirrored, null_test, against_number, null_condition, pointer_condition, condition_of}

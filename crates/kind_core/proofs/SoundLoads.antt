@@ -20,8 +20,8 @@ use Rattle.kind_core.specs.declared.kind.Kind.TheVariants.{Unset, Num, Packet, E
 use Rattle.kind_core.specs.declared.kind.Kinds.{Kinds}
 use Rattle.kind_core.specs.declared.places.Place.{Place}
 use Rattle.kind_core.specs.declared.places.Place.TheVariants.{InPacket, InStack, InEntry}
-use Rattle.kind_core.specs.declared.why.Why.{Why}
-use Rattle.kind_core.specs.declared.why.Why.TheVariants as why
+use Rattle.xdp_state.specs.declared.refusal.Why.{Why}
+use Rattle.xdp_state.specs.declared.refusal.Why.TheVariants as why
 use Rattle.kind_core.specs.Numbers.{number_extended}
 use Rattle.kind_core.specs.Kinds.{value_in, value_bytes}
 use Rattle.kind_core.specs.Tests.{◌>>=◌, readable, number_in, within, aligned}

@@ -25,7 +25,7 @@ use Rattle.kind_core.specs.declared.helpers.Answer.TheVariants.{EntryOrNull, Pla
 use Rattle.kind_core.specs.declared.helpers.Helper.{Helper}
 use Rattle.kind_core.specs.declared.effects.Effect.{Effect}
 use Rattle.kind_core.specs.declared.effects.Effect.TheVariants.{Nothing, Register, Constant, Lookup, Answered, Changed, Compared}
-use Rattle.kind_core.specs.declared.why.Why.{Why}
+use Rattle.xdp_state.specs.declared.refusal.Why.{Why}
 use Rattle.kind_core.specs.Kinds.{register, is_hash}
 use Rattle.kind_core.specs.Tests.{◌>>=◌, passed, number_in}
 use Rattle.kind_core.specs.Places.{accessed}

@@ -24,7 +24,7 @@ use Rattle.kind_core.specs.declared.kind.Kinds.{Kinds}
 use Rattle.kind_core.specs.declared.places.Place.TheVariants.{InStack, InEntry}
 use Rattle.kind_core.specs.declared.effects.Effect.{Effect}
 use Rattle.kind_core.specs.declared.effects.Effect.TheVariants.{Nothing, Slot}
-use Rattle.kind_core.specs.declared.why.Why.{Why}
+use Rattle.xdp_state.specs.declared.refusal.Why.{Why}
 use Rattle.kind_core.specs.Numbers.{number_patched}
 use Rattle.kind_core.specs.Kinds.{register, value_in, value_bytes}
 use Rattle.kind_core.specs.Tests.{◌>>=◌, passed, readable, read_if, number_in, aligned}

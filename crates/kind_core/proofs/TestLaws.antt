@@ -1,6 +1,6 @@
 -- Tests one after another.
 use Rattle.std.proofs.Common.{◌≡◌, refl, Result, Ok, Err, IfOk}
-use Rattle.kind_core.specs.declared.why.Why.{Why}
+use Rattle.xdp_state.specs.declared.refusal.Why.{Why}
 use Rattle.kind_core.specs.Tests.{◌>>=◌}
 
 pub bind_passed : {A B : Type 0} (r : Result A Why) (f : A → Result B Why) (b : B) → (r >>= f) ≡ Ok b → (a : A) × (r ≡ Ok a) × (f a ≡ Ok b)

@@ -23,7 +23,7 @@ use Rattle.kind_core.specs.declared.helpers.Helper.{Helper}
 use Rattle.kind_core.specs.declared.places.Place.{Place}
 use Rattle.kind_core.specs.declared.places.Place.TheVariants.{InPacket, InStack, InEntry}
 use Rattle.kind_core.specs.declared.refinements.Refinement.TheVariants.{IsStale}
-use Rattle.kind_core.specs.declared.why.Why.{Why}
+use Rattle.xdp_state.specs.declared.refusal.Why.{Why}
 use Rattle.kind_core.specs.Tests.{number_in}
 use Rattle.kind_core.specs.Joins.{join_list, joined}
 use Rattle.kind_core.specs.Kinds.{register, is_hash, answering}

@@ -12,8 +12,8 @@ use Rattle.kind_core.specs.declared.helpers.Answer.TheVariants.{EntryOrNull, Pla
 use Rattle.kind_core.specs.declared.helpers.Helper.{Helper}
 use Rattle.kind_core.specs.declared.effects.Effect.{Effect}
 use Rattle.kind_core.specs.declared.effects.Effect.TheVariants.{Lookup, Answered, Changed}
-use Rattle.kind_core.specs.declared.why.Why.{Why}
-use Rattle.kind_core.specs.declared.why.Why.TheVariants as why
+use Rattle.xdp_state.specs.declared.refusal.Why.{Why}
+use Rattle.xdp_state.specs.declared.refusal.Why.TheVariants as why
 use Rattle.kind_core.specs.Kinds.{register, key_bytes, value_bytes, is_hash}
 use Rattle.kind_core.specs.Tests.{◌>>=◌, Test, passed, read_if, all_numbers, within}
 use Rattle.kind_core.specs.Places.{in_packet}

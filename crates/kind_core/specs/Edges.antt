@@ -16,7 +16,7 @@ use Rattle.kind_core.specs.declared.effects.Effect.{Effect}
 use Rattle.kind_core.specs.declared.effects.Effect.TheVariants.{Nothing, Register, Constant, Slot, Lookup, Answered, Changed, Compared}
 use Rattle.kind_core.specs.declared.refinements.Refinement.{Refinement}
 use Rattle.kind_core.specs.declared.refinements.Refinement.TheVariants.{IsNull, IsEntry, IsStale}
-use Rattle.kind_core.specs.declared.why.Why.{Why}
+use Rattle.xdp_state.specs.declared.refusal.Why.{Why}
 use Rattle.kind_core.specs.Kinds.{with_register, with_slot, answering}
 use Rattle.kind_core.specs.Effects.{effect_of, jump}
 

@@ -1,4 +1,3 @@
-pub mod Reasons
 pub mod Numbers
 pub mod Kinds
 pub mod Joins

@@ -7,8 +7,8 @@ use Rattle.kind_core.specs.declared.kind.Kind.{Kind}
 use Rattle.kind_core.specs.declared.kind.Kind.TheVariants.{Packet, Stack, Maybe, Entry}
 use Rattle.kind_core.specs.declared.places.Place.{Place}
 use Rattle.kind_core.specs.declared.places.Place.TheVariants.{InPacket, InStack, InEntry}
-use Rattle.kind_core.specs.declared.why.Why.{Why}
-use Rattle.kind_core.specs.declared.why.Why.TheVariants as why
+use Rattle.xdp_state.specs.declared.refusal.Why.{Why}
+use Rattle.xdp_state.specs.declared.refusal.Why.TheVariants as why
 use Rattle.kind_core.specs.Kinds.{value_bytes}
 use Rattle.kind_core.specs.Tests.{◌>>=◌, within, aligned}
 

@@ -12,8 +12,8 @@ use Rattle.kind_core.specs.declared.number.Number.{Number}
 use Rattle.kind_core.specs.declared.number.Number.TheVariants.{Known, Unknown}
 use Rattle.kind_core.specs.declared.kind.Kind.{Kind}
 use Rattle.kind_core.specs.declared.kind.Kind.TheVariants.{Num, Packet, End, Stack, Entry}
-use Rattle.kind_core.specs.declared.why.Why.{Why}
-use Rattle.kind_core.specs.declared.why.Why.TheVariants as why
+use Rattle.xdp_state.specs.declared.refusal.Why.{Why}
+use Rattle.xdp_state.specs.declared.refusal.Why.TheVariants as why
 use Rattle.kind_core.specs.Numbers.{number_arithmetic, number_sum, number_difference, number_extended}
 use Rattle.kind_core.specs.Kinds.{value_bytes}
 use Rattle.kind_core.specs.Tests.{◌>>=◌, number_in, within}

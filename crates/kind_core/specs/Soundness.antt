@@ -1,4 +1,4 @@
--- Kinds are sound: where an instruction is allowed, the machine has a step, and the kinds behind it describe what the step leaves.
+-- Kinds are sound: where an instruction is allowed, the machine has a step, and the kinds after it describe what the step leaves.
 use Rattle.std.specs.Prelude.{ℕ, ℤ, pos, ◌+◌, ◌+ℤ◌, if◌then◌else◌, ◌<◌, ◌≡◌, ◌==◌, ◌≤◌, ◌⊎◌, Bool, true, false, Some, None, IfOk, List, length}
 use Rattle.std.specs.List.{list_any}
 use Rattle.xdp_machine.specs.bpf_isa.declared.operation.Src.{Src}

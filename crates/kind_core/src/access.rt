@@ -12,9 +12,9 @@ use crate::kind::{Kind, Kinds};
 use crate::number::{self, Number};
 use crate::places::{Place, accessed};
 use crate::tests::{number_in, readable};
-use crate::why::Why;
 use xdp_machine::bpf_isa::{Insn, Size, Width};
 use xdp_machine::xdp_maps::decl::MapDecl;
+use xdp_state::Why;
 use xdp_state::memory::bytes_in;
 
 // The fields of the context.

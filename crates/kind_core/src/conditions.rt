@@ -5,8 +5,8 @@ ghost use Rattle.kind_core.specs.Conditions.{of_numbers, bounds_test, mirrored, 
 
 use crate::kind::Kind;
 use crate::number::{self, Number};
-use crate::why::Why;
 use xdp_machine::bpf_isa::{JumpCode, Width};
+use xdp_state::Why;
 
 /// What the kinds say of a condition.
 #[derive(Copy, Clone)]

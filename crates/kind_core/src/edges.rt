@@ -11,9 +11,9 @@ use crate::effects::{Effect, effect_of, jump};
 use crate::kind::{Kind, Kinds};
 use crate::number::Number;
 use crate::refinements::{Refinement, raise, refine};
-use crate::why::Why;
 use xdp_machine::bpf_isa::{Insn, Op};
 use xdp_machine::xdp_maps::decl::MapDecl;
+use xdp_state::Why;
 
 // Whether an edge is the one that is meant.
 fn agrees(taken: bool, edge: bool) -> bool
@@ -98,7 +98,7 @@ pub fn allowed(insn: &Insn, kinds: &Kinds, decls: &[MapDecl]) -> Result<(), Why>
     }
 }
 
-/// Goes along one edge in place: `kinds` becomes the kinds behind the instruction. A refused instruction changes nothing.
+/// Goes along one edge in place: `kinds` becomes the kinds after the instruction. A refused instruction changes nothing.
 pub fn advance(
     kinds: &mut Kinds,
     insn: &Insn,
@@ -115,7 +115,7 @@ pub fn advance(
     }
 }
 
-/// The kinds behind an allowed instruction at a node, on one edge: `taken` tells which of a conditional jump, `is_ref` whether the
+/// The kinds after an allowed instruction at a node, on one edge: `taken` tells which of a conditional jump, `is_ref` whether the
 /// place is a reference to a map.
 pub fn transfer(
     insn: &Insn,

@@ -16,9 +16,9 @@ use crate::number::{self, Number};
 use crate::pointers::combined;
 use crate::profile::profiled;
 use crate::tests::number_in;
-use crate::why::Why;
 use xdp_machine::bpf_isa::{AluCode, Insn, JumpCode, Op, Src, Width};
 use xdp_machine::xdp_maps::decl::MapDecl;
+use xdp_state::Why;
 
 /// What an instruction does to kinds.
 #[derive(Copy, Clone)]

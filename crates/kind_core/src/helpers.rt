@@ -9,8 +9,8 @@ use crate::effects::Effect;
 use crate::kind::{Kind, Kinds};
 use crate::places::{STACK_BYTES, in_packet, is_hash, key_bytes, value_bytes};
 use crate::tests::{all_numbers, read_if, within};
-use crate::why::Why;
 use xdp_machine::xdp_maps::decl::MapDecl;
+use xdp_state::Why;
 
 /// What an argument is.
 #[derive(Copy, Clone)]

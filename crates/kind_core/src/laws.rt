@@ -29,7 +29,7 @@ pub fn join_describes()
     ensures { JoinDescribes }
 {}
 
-/// Where arithmetic, a constant or a load is allowed, the machine has a step, and the kinds behind it describe what the step leaves.
+/// Where arithmetic, a constant or a load is allowed, the machine has a step, and the kinds after it describe what the step leaves.
 pub fn registers_are_sound()
     ensures { RegistersAreSound }
 {}

@@ -8,9 +8,9 @@ ghost use Rattle.kind_core.specs.Places.{in_packet, in_stack, in_value, accessed
 
 use crate::kind::Kind;
 use crate::tests::{aligned, within};
-use crate::why::Why;
 use xdp_machine::bpf_isa::Size;
 use xdp_machine::xdp_maps::decl::{MapDecl, MapKind};
+use xdp_state::Why;
 use xdp_state::memory::bytes_in;
 
 /// The bytes that the profile has of a packet.

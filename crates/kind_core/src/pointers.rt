@@ -7,9 +7,9 @@ use crate::kind::Kind;
 use crate::number::{self, Number};
 use crate::places::{WINDOW, value_bytes};
 use crate::tests::{number_in, within};
-use crate::why::Why;
 use xdp_machine::bpf_isa::{AluCode, Width};
 use xdp_machine::xdp_maps::decl::MapDecl;
+use xdp_state::Why;
 
 // How far a number with its sign moves a pointer, on or back.
 fn distance(back: bool, n: Number) -> Result<i128, Why>

@@ -8,8 +8,8 @@ use crate::access::{compares, fetches};
 use crate::helpers::{arguments_read, helper_of};
 use crate::kind::Kinds;
 use crate::tests::read_if;
-use crate::why::Why;
 use xdp_machine::bpf_isa::{AluCode, Insn, Op, Src};
+use xdp_state::Why;
 
 // Whether the destination is written.
 fn writes_destination(op: Op) -> bool

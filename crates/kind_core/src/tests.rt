@@ -5,7 +5,7 @@ ghost use Rattle.kind_core.specs.Tests.{readable, read_if, number_in, one_number
 
 use crate::kind::Kind;
 use crate::number::Number;
-use crate::why::Why;
+use xdp_state::Why;
 
 /// A kind may be read.
 pub(crate) fn readable(kind: Kind) -> Result<(), Why>

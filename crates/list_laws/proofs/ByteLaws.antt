@@ -1,5 +1,6 @@
--- Parts of a list of bytes.
-use Rattle.std.proofs.Common.{ℕ, List, take, drop, ◌+◌, arith, inl, inr}
+-- Lists of bytes: parts of one, two joined, and one byte written.
+use Rattle.std.specs.Prelude.{◌<◌, slice_set}
+use Rattle.std.proofs.Common.{ℕ, zero, suc, List, [], ◌∷◌, ◌++◌, take, drop, ◌+◌, arith, inl, inr}
 use Rattle.std.proofs.lemmas.Bool.{cases_lt}
 use Rattle.std.proofs.lemmas.List.{length-take, get_or-take, get_or-drop, get_or_past}
 use Rattle.list_laws.specs.Bytes.{IsBytes}
@@ -12,3 +13,15 @@ IsBytes-take n xs h i = elim (cases_lt i n) [
 
 pub IsBytes-drop : (n : ℕ) (xs : List ℕ) → IsBytes xs → IsBytes (drop n xs)
 IsBytes-drop n xs h i = rw get_or-drop (h (n + i))
+
+pub IsBytes-append : (xs ys : List ℕ) → IsBytes xs → IsBytes ys → IsBytes (xs ++ ys)
+IsBytes-append [] ys h k i = k i
+IsBytes-append (x ∷ xs) ys h k zero = h 0
+IsBytes-append (x ∷ xs) ys h k (suc i) = IsBytes-append xs ys (λ j. h (suc j)) k i
+
+pub IsBytes-set : (xs : List ℕ) (k x : ℕ) → x < 256 → IsBytes xs → IsBytes (slice_set xs k x)
+IsBytes-set [] k x h b i = b i
+IsBytes-set (y ∷ ys) zero x h b zero = h
+IsBytes-set (y ∷ ys) zero x h b (suc i) = b (suc i)
+IsBytes-set (y ∷ ys) (suc k) x h b zero = b 0
+IsBytes-set (y ∷ ys) (suc k) x h b (suc i) = IsBytes-set ys k x h (λ j. b (suc j)) i

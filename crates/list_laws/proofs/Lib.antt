@@ -1,3 +1,12 @@
+pub mod BoolLaws
+pub mod NumberLaws
 pub mod ByteLaws
 pub mod FirstLaws
+pub mod ListLaws
+pub mod AllLaws
+pub mod OneMoreLaws
+pub mod OptionLaws
 pub mod PlaceLaws
+pub mod PositionLaws
+pub mod WrittenLaws
+pub mod DigitLaws

@@ -22,7 +22,7 @@ cut_none separator (b ∷ bytes) before =
     let later = cut_none separator bytes (λ k below. before (suc k) (omega arith)) in
     rw (no, later) refl
 
--- the lines behind the first
+-- the lines after the first
 abbrev pub lines_behind : Option (List ℕ) → List (List ℕ)
 lines_behind None = lines_of []
 lines_behind (Some rest) = lines_of rest
@@ -45,7 +45,7 @@ lines_of-by [] line rest some p r = absurd (some refl)
 lines_of-by (b ∷ bytes) line rest some p r =
     lines_of-cons b bytes ∙ ap (λ (x : List ℕ). x ∷ lines_behind (cut 10 (b ∷ bytes)).1) (sym p) ∙ ap (λ (o : Option (List ℕ)). line ∷ lines_behind o) (sym r)
 
--- what is left behind the first line is shorter
+-- what is left after the first line is shorter
 pub cut_shorter : (separator b : ℕ) (bytes : List ℕ) → length (unwrap_or (cut separator (b ∷ bytes)).1 []) < suc (length bytes)
 unfolding cut
 cut_shorter separator b [] = elim (cases_eq b separator) [
@@ -67,7 +67,7 @@ rest_shorter (b ∷ bytes) rest some r =
     let less = cut_shorter 10 b bytes in
     omega (arith, len, less)
 
--- the fields behind the first
+-- the fields after the first
 abbrev pub fields_behind : Option (List ℕ) → List (List ℕ)
 fields_behind None = []
 fields_behind (Some rest) = fields_of rest

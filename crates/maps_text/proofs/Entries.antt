@@ -1,6 +1,6 @@
 -- The entry of a line, by its fields as they are written.
 use Rattle.std.proofs.Common.{◌≡◌, ℕ, ◌%◌, Bool, true, false, List, [], ◌∷◌, length, Option, Some, None, Result, Ok, Err, is_some, is_ok, IsTrue, refl, sym, ap, ◌∙◌}
-use Rattle.std.specs.Prelude.{◌↔◌, not, ◌&&◌, ◌||◌, if◌then◌else◌}
+use Rattle.std.specs.Prelude.{◌↔◌, ◌||◌, if◌then◌else◌}
 use Rattle.std.specs.List.{AllPass}
 use Rattle.hex.specs.declared.error.FromHexError.{FromHexError}
 use Rattle.hex.specs.Hex.{decode_of, is_hex_digit}
@@ -34,17 +34,8 @@ digits_by text false even is = sym (not_ok text (λ _ all. (let clash : false �
 
 -- ---- the tests of a line's fields
 
-some_decoded : (empty : Bool) (name : List ℕ) (key value : Result (List ℕ) FromHexError) → is_some (if empty then None else decoded name key value) ≡ (not empty && (is_ok key && is_ok value))
-some_decoded true name key value = refl
-some_decoded false name (Ok key) (Ok value) = refl
-some_decoded false name (Ok key) (Err e) = refl
-some_decoded false name (Err e) value = refl
-
 abbrev pub some_empty : List ℕ → List ℕ → List ℕ → Bool
 some_empty name key value = is_empty name || (is_empty key || is_empty value)
-
-pub entry_as-some : (name key value : List ℕ) → is_some (entry_as (name ∷ key ∷ value ∷ [])) ≡ (not (some_empty name key value) && (is_ok (decode_of key) && is_ok (decode_of value)))
-entry_as-some name key value = some_decoded (some_empty name key value) name (decode_of key) (decode_of value)
 
 -- ---- the entry
 

@@ -1,11 +1,11 @@
 -- Lines are read one after another.
-use Rattle.std.proofs.Common.{◌≡◌, ℕ, ◌+◌, ◌*◌, ◌<◌, ◌≤◌, Bool, false, List, [], ◌∷◌, length, replicate, get_or, Result, Ok, Err, is_some, sym, ap, ◌∙◌, inl, inr, arith}
-use Rattle.std.proofs.lemmas.Bool.{cases_lt}
-use Rattle.std.proofs.lemmas.List.{get_or-replicate, get_or-map, get_or_past, length-replicate}
+use Rattle.std.proofs.Common.{◌≡◌, ℕ, ◌+◌, ◌*◌, ◌<◌, ◌≤◌, Bool, false, List, [], ◌∷◌, length, replicate, Result, Ok, Err, is_some, sym, ap, ◌∙◌, arith}
+use Rattle.std.proofs.lemmas.List.{get_or-map, length-replicate}
 use Rattle.std.specs.Ordering.{nat_cmp}
 use Rattle.std.specs.Cmp.Lexicographic.{slice_cmp}
 use Rattle.std.specs.FinMap as map
 use Rattle.std.specs.FinMap.{get-empty}
+use Rattle.list_laws.proofs.PlaceLaws.{no_mark}
 use Rattle.xdp_maps.specs.declared.decl.MapKind.TheVariants.{Hash}
 use Rattle.xdp_maps.specs.declared.decl.MapDecl.{MapDecl}
 use Rattle.xdp_maps.specs.Contents.{Contents, opened, opened_as}
@@ -26,12 +26,6 @@ pub record IsReading (decls : List MapDecl) (text rest : List ℕ) (n : ℕ) (ma
   pub marked : length marks ≡ length decls * 65536
 
 -- ---- nothing is listed at first
-
-no_mark : (n i : ℕ) → get_or (replicate n false) i false ≡ false
-no_mark n i = elim (cases_lt i n) [
-  | inl within ↦ get_or-replicate n i false false within
-  | inr past ↦ get_or_past (replicate n false) i false (let len = length-replicate n false in omega (arith, past, len))
-]
 
 opened_hash : (d : MapDecl) (key : List ℕ) → d.kind ≡ Hash → map.contains_key (opened d) key ≡ false
 unfolding opened

@@ -194,10 +194,6 @@ listed_value (item ∷ items) before m key value within own there =
 
 -- ---- each key once
 
-or_left : (a b : Bool) → (a || b) ≡ false → a ≡ false
-or_left true b h = cc
-or_left false b h = refl
-
 or_right : (a b : Bool) → (a || b) ≡ false → b ≡ false
 or_right true b h = cc
 or_right false b h = h

@@ -20,7 +20,7 @@ unfoldable pub lines_of : List ℕ → List (List ℕ)
 lines_of [] = []
 lines_of (b ∷ bytes) = if b == line_feed then [] ∷ lines_of bytes else in_front b (lines_of bytes)
 
--- The fields of a line: what stands before, between and behind its spaces.
+-- The fields of a line: what stands before, between and after its spaces.
 unfoldable pub fields_of : List ℕ → List (List ℕ)
 fields_of [] = [] ∷ []
 fields_of (b ∷ bytes) = if b == space then [] ∷ fields_of bytes else in_front b (fields_of bytes)

@@ -83,7 +83,7 @@ abbrev pub and_then : {A : Type 0} → Result Listed MapsError → (Listed → R
 and_then (Ok after) later = later after
 and_then (Err e) later = Err e
 
--- what the lines from line n on list, behind what was listed before
+-- what the lines from line n on list, after what was listed before
 unfoldable pub read_from : ℕ → Listed → List (List ℕ) → Result Listed MapsError
 read_from n before [] = Ok before
 read_from n before (line ∷ lines) = and_then (line_read n before line) (λ after. read_from (n + 1) after lines)

@@ -67,7 +67,7 @@ pub record IsMapsText (decls : List MapDecl) (text : List ℕ) (s : MapState) : 
 
 -- ---- the first bad line
 
--- Behind lines that list these items, a line fails its checks, this one first.
+-- After lines that list these items, a line fails its checks, this one first.
 abbrev pub Fails : List MapDecl → List Item → ℕ → List ℕ → MapsError → Type 0
 Fails decls items at line (error.Line n) = (n ≡ at) × (entry_in line ≡ None)
 Fails decls items at line (error.Unknown n) = (n ≡ at) × (e : Entry) × (entry_in line ≡ Some e) × (map_named e.name decls ≡ None)

@@ -1,6 +1,5 @@
-pub use Rattle.beat_core.proofs as beat_core_laws
-pub use Rattle.beat_core.proofs.list_laws_laws as list_laws_laws
 pub mod PortLaws
+pub mod BitLaws
 pub mod LowBitsLaws
 pub mod ClockLaws
 pub mod NameLaws
@@ -11,3 +10,7 @@ pub mod RegisterLemmas
 pub mod ConcatenationLemmas
 pub mod TestLemmas
 pub mod SameClocks
+pub mod WordLaws
+pub mod PartLaws
+pub mod EdgeLaws
+pub mod DeclaredLaws

@@ -178,7 +178,7 @@ shift_fits a b v f small h = record { width = sym (shift_parts a.width b.width h
 test_fits : (a b : Word) (t : Bool) → 0 < test_width a.width b.width → IsOfWidth (test_width a.width b.width) (bit t)
 test_fits a b t h = record { width = sym (test_parts a.width b.width h).is; fits = bit_fits t }
 
-if_small : (t : Bool) (v w : ℕ) → v < 2 ^ w → (if t then v else 0) < 2 ^ w
+pub if_small : (t : Bool) (v w : ℕ) → v < 2 ^ w → (if t then v else 0) < 2 ^ w
 if_small true v w h = h
 if_small false v w h = pow_pos w
 
@@ -224,7 +224,7 @@ concatenated_fit a b f g h =
     let m = p.left in
     record { width = sym p.is; fits = record { some = omega arith; most = p.most; small = concatenated_small a.value b.value a.width b.width f.small g.small } }
 
-conditional_fits : (w : ℕ) (t : Bool) (a b : Word) → IsOfWidth w a → IsOfWidth w b → IsOfWidth w (if t then b else a)
+pub conditional_fits : (w : ℕ) (t : Bool) (a b : Word) → IsOfWidth w a → IsOfWidth w b → IsOfWidth w (if t then b else a)
 conditional_fits w true a b f g = g
 conditional_fits w false a b f g = f
 

@@ -1,5 +1,3 @@
-pub use Rattle.beat_core.specs as beat_core
-pub use Rattle.beat_core.specs.list_laws as list_laws
 pub mod Nets
 pub mod Value
 pub mod Clock
@@ -10,7 +8,7 @@ pub mod Width
 pub mod Names
 pub mod Suits
 pub mod Codes
-pub mod History
+pub mod Trace
 pub mod PortNames
 pub mod ProductRules
 pub mod SameClocks

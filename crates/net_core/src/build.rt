@@ -1,13 +1,12 @@
 //! Trees and statements from their parts.
 
 ghost use Rattle.std.specs.Prelude.{◌≡◌, IfOk, map};
-ghost use Rattle.net_core.specs.View.{tree_of, trees_of, statement_of, statements_of, wire_of};
+ghost use Rattle.net_core.specs.View.{tree_of, trees_of, statement_of, statements_of};
 ghost use Rattle.net_core.specs.Chains.{parts_before, statements_before};
 ghost use Rattle.net_core.specs.Value.{word};
-ghost use Rattle.net_core.specs.Nets.{TConst, TMemoryWord, TUnary, TBinary, TConditional, TLast, RPlain, SIf, SIfElse, SBlock, SThen, SEnd};
+ghost use Rattle.net_core.specs.Nets.{TConst, TMemoryWord, TUnary, TBinary, TConditional, TLast, SIf, SIfElse, SBlock, SThen, SEnd};
 
-use crate::design::Wire;
-use crate::tree::{Expr, Net, Op, Parts, Right, Stmt, Stmts, UnaryOp, Word};
+use crate::tree::{Expr, Op, Parts, Stmt, Stmts, UnaryOp, Word};
 use std::alloc::{AllocError, Global};
 
 /// A constant of a width.
@@ -53,16 +52,6 @@ pub fn conditional<N: Drop>(
     let a = Box::new(alloc, a)?;
     let b = Box::new(alloc, b)?;
     Ok(Expr::Conditional(condition, a, b))
-}
-
-/// A wire of a width.
-pub fn wire(width: u8, value: Expr<Net>) -> Wire
-    ensures { wire_of result ≡ record { width = width; right = RPlain (tree_of value) } }
-{
-    Wire {
-        width,
-        right: Right::Plain(value),
-    }
 }
 
 /// A statement where the condition is 1.

@@ -6,4 +6,4 @@ mod found;
 mod statements;
 mod trees;
 
-pub use design::are_products_apart;
+pub use design::has_no_product_chains;

@@ -62,7 +62,7 @@ fn parts_width(design: &Design, before: usize, parts: &Parts<Net>) -> u8
     }
 }
 
-// The width of a concatenation of these parts behind others, whose widths are so many together.
+// The width of a concatenation of these parts after others, whose widths are so many together.
 #[cycle(width_of)]
 fn width_behind(design: &Design, before: usize, front: u8, parts: &Parts<Net>) -> u8
     requires { before ≤ length design.now.wires.items }

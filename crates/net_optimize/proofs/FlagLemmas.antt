@@ -1,22 +1,13 @@
 -- Single bits.
 use Rattle.std.specs.Prelude.{◌≡◌, ℕ, ◌+◌, ◌-◌, ◌/◌, ◌%◌, ◌^◌, ◌<◌, ◌==◌, nat_lt, nat_le, if◌then◌else◌, Bool, true, false}
 use Rattle.std.proofs.Common.{refl, sym, arith, subst, inl, inr, ◌⊎◌}
-use Rattle.std.proofs.lemmas.Bool.{cases_lt}
 use Rattle.net_core.specs.declared.tree.Word.{Word}
 use Rattle.net_core.specs.declared.tree.Op.{Op}
 use Rattle.net_core.specs.declared.tree.Op.TheVariants.{Equal, NotEqual, Less, LessEqual, Greater, GreaterEqual}
 use Rattle.net_core.specs.declared.tree.UnaryOp.TheVariants.{Not, ReduceOr}
 use Rattle.net_core.specs.Value.{word, bit, apply, apply_unary, conditional, part_select}
+use Rattle.net_core.proofs.WordLaws.{flag_small}
 use Rattle.net_optimize.specs.Flags.{IsFlag}
-
-same : (n a b : ℕ) → n ≡ 1 → a ≡ b → word n a ≡ word 1 b
-same n a b p q = cc
-
-pub flag_small : (w : Word) → w.width ≡ 1 → w.value < 2 → IsFlag w
-flag_small w one small = elim (cases_lt w.value 1) [
-  | inl below ↦ (false, same w.width w.value 0 one (omega arith))
-  | inr above ↦ (true, same w.width w.value 1 one (omega arith))
-]
 
 pub flag_bit : (w : Word) (i : ℕ) → IsFlag (part_select w i i)
 flag_bit w i =

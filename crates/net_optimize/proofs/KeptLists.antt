@@ -8,6 +8,7 @@ use Rattle.net_core.specs.declared.design.Declared.{Declared}
 use Rattle.net_core.specs.declared.design.Declared.TheVariants as declared
 use Rattle.net_core.specs.Names.{is_register}
 use Rattle.net_core.specs.Clock.{first_words, first_memories}
+use Rattle.net_core.proofs.DeclaredLaws.{words_append, memories_append}
 use Rattle.net_optimize.specs.Renumber.{dropped, numbers, kept}
 
 length_kept : {A : Type 0} (ks : List Bool) (xs : List A) → length (kept ks xs) ≤ length ks
@@ -113,18 +114,6 @@ words_counted [] = omega arith
 words_counted (declared.Integer ∷ ds) = let h = words_counted ds in omega arith
 words_counted (declared.Register w ∷ ds) = let h = words_counted ds in omega arith
 words_counted (declared.Memory i w n ∷ ds) = let h = words_counted ds in omega arith
-
-words_append : (xs ys : List Declared) → first_words (xs ++ ys) ≡ first_words xs ++ first_words ys
-words_append [] ys = refl
-words_append (declared.Integer ∷ xs) ys = words_append xs ys
-words_append (declared.Register w ∷ xs) ys = ap (λ l. w ∷ l) (words_append xs ys)
-words_append (declared.Memory i w n ∷ xs) ys = words_append xs ys
-
-memories_append : (xs ys : List Declared) → first_memories (xs ++ ys) ≡ first_memories xs ++ first_memories ys
-memories_append [] ys = refl
-memories_append (declared.Integer ∷ xs) ys = memories_append xs ys
-memories_append (declared.Register w ∷ xs) ys = memories_append xs ys
-memories_append (declared.Memory i w n ∷ xs) ys = ap (λ l. replicate (2 ^ i) w ∷ l) (memories_append xs ys)
 
 -- what a loop has kept of what is declared, where so many registers were seen and these are left
 pub record IsDeclared (keep : List Bool) (all left : List Declared) (register : ℕ) (firsts : List Word) (contents : List (List Word)) : Type 0 where

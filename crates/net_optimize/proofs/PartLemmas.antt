@@ -7,16 +7,12 @@ use Rattle.net_core.specs.declared.tree.Word.{Word}
 use Rattle.net_core.specs.declared.tree.Expr.{Expr}
 use Rattle.net_core.specs.View.{tree_of}
 use Rattle.net_core.specs.Nets.{Tree, TLast}
-use Rattle.net_core.specs.Value.{word, nothing, Env, value, part_select, concatenated, concatenated_parts}
+use Rattle.net_core.specs.Value.{nothing, Env, value, part_select, concatenated, concatenated_parts}
 use Rattle.net_core.specs.Chains.{parts_before}
+use Rattle.net_core.proofs.WordLaws.{word_same}
+use Rattle.net_core.proofs.PartLaws.{concatenated_assoc}
 use Rattle.net_optimize.specs.Lists.{all_parts}
 use Rattle.net_optimize.proofs.ListLemmas.{map_append}
-
-word_same : (w x a b : ℕ) → w ≡ x → a ≡ b → word w a ≡ word x b
-word_same w x a b p q = cc
-
-moved_out : (a x b y c : ℕ) → (a * x + b) * y + c ≡ a * (x * y) + (b * y + c)
-moved_out a x b y c = omega arith
 
 pub nothing_before : (b : Word) → concatenated nothing b ≡ b
 nothing_before b = word_same (0 + b.width) b.width (0 * 2 ^ b.width + b.value) b.value (omega arith) (omega (arith, zero-mul (2 ^ b.width)))
@@ -24,21 +20,16 @@ nothing_before b = word_same (0 + b.width) b.width (0 * 2 ^ b.width + b.value) b
 pub nothing_behind : (a : Word) → concatenated a nothing ≡ a
 nothing_behind a = word_same (a.width + 0) a.width (a.value * 2 ^ 0 + 0) a.value (omega arith) (omega arith)
 
-pub in_turn : (a b c : Word) → concatenated (concatenated a b) c ≡ concatenated a (concatenated b c)
-in_turn a b c =
-    word_same (a.width + b.width + c.width) (a.width + (b.width + c.width)) ((a.value * 2 ^ b.width + b.value) * 2 ^ c.width + c.value) (a.value * 2 ^ (b.width + c.width) + (b.value * 2 ^ c.width + c.value)) (omega arith)
-    (moved_out a.value (2 ^ b.width) b.value (2 ^ c.width) c.value ∙ ap (λ x. a.value * x + (b.value * 2 ^ c.width + c.value)) (sym (pow-add 2 b.width c.width)))
-
 -- one part more, of those that are left
 pub part_step : (all new x rest left whole : Word) → new ≡ concatenated all x → left ≡ concatenated x rest → concatenated all left ≡ whole → concatenated new rest ≡ whole
-part_step all new x rest left whole n l h = ap (λ w. concatenated w rest) n ∙ in_turn all x rest ∙ ap (concatenated all) (sym l) ∙ h
+part_step all new x rest left whole n l h = ap (λ w. concatenated w rest) n ∙ concatenated_assoc all x rest ∙ ap (concatenated all) (sym l) ∙ h
 
 module _ {N : Type 0} (v : Env N) where
   all_parts_append : (xs ys : List (Tree N)) → all_parts v (xs ++ ys) ≡ concatenated (all_parts v xs) (all_parts v ys)
   all_parts_append [] ys = sym (nothing_before (all_parts v ys))
-  all_parts_append (t ∷ ts) ys = ap (concatenated (value v t)) (all_parts_append ts ys) ∙ sym (in_turn (value v t) (all_parts v ts) (all_parts v ys))
+  all_parts_append (t ∷ ts) ys = ap (concatenated (value v t)) (all_parts_append ts ys) ∙ sym (concatenated_assoc (value v t) (all_parts v ts) (all_parts v ys))
 
-  -- a part behind others
+  -- a part after others
   pub part_behind : (old new : List (Expr N)) (x : Expr N) → new ≡ old ++ x ∷ [] → all_parts v (map_list tree_of new) ≡ concatenated (all_parts v (map_list tree_of old)) (value v (tree_of x))
   part_behind old new x e =
       ap (λ xs. all_parts v (map_list tree_of xs)) e ∙ ap (all_parts v) (map_append tree_of old (x ∷ [])) ∙ all_parts_append (map_list tree_of old) (tree_of x ∷ [])
@@ -49,13 +40,13 @@ module _ {N : Type 0} (v : Env N) where
       → all_parts v (map_list tree_of new) ≡ concatenated (all_parts v (map_list tree_of old)) (value v (tree_of part))
   one_for_two front old new last part one o n h =
       let f = all_parts v (map_list tree_of front) in
-      part_behind front new one n ∙ ap (concatenated f) h ∙ sym (in_turn f (value v (tree_of last)) (value v (tree_of part)))
+      part_behind front new one n ∙ ap (concatenated f) h ∙ sym (concatenated_assoc f (value v (tree_of last)) (value v (tree_of part)))
       ∙ ap (λ w. concatenated w (value v (tree_of part))) (sym (part_behind front old last o))
 
   -- the tree of these parts
   pub parts_all : (xs : List (Tree N)) (x : Tree N) → concatenated_parts v (parts_before xs (TLast x)) ≡ concatenated (all_parts v xs) (value v x)
   parts_all [] x = sym (nothing_before (value v x))
-  parts_all (t ∷ ts) x = ap (concatenated (value v t)) (parts_all ts x) ∙ sym (in_turn (value v t) (all_parts v ts) (value v x))
+  parts_all (t ∷ ts) x = ap (concatenated (value v t)) (parts_all ts x) ∙ sym (concatenated_assoc (value v t) (all_parts v ts) (value v x))
 
 -- neighbouring bits of one net
 pub bits_joined : (x y a b : Word) (h g m l : ℕ) → a ≡ part_select x h g → b ≡ part_select y m l → x ≡ y → g ≤ h → l ≤ m → g ≡ m + 1 → part_select x h l ≡ concatenated a b

@@ -78,7 +78,7 @@ fn one_part(a: &Expr<Net>, b: &Expr<Net>) -> Option<Expr<Net>>
     None
 }
 
-// A part behind others: one with the last of these where they can be one.
+// A part after others: one with the last of these where they can be one.
 fn with_part(
     alloc: Global,
     mut list: Vec<Expr<Net>>,
@@ -102,7 +102,7 @@ fn with_part(
     Ok(list)
 }
 
-// Parts behind others. Without a recursion over them: there may be any number.
+// Parts after others. Without a recursion over them: there may be any number.
 fn with_copies(
     alloc: Global,
     list: Vec<Expr<Net>>,
@@ -127,7 +127,7 @@ fn with_copies(
     }
 }
 
-/// A part behind others, or its parts where it is a concatenation.
+/// A part after others, or its parts where it is a concatenation.
 pub(crate) fn with_parts(
     alloc: Global,
     list: Vec<Expr<Net>>,

@@ -144,7 +144,7 @@ pub(crate) fn folded_stmt(
     }
 }
 
-/// Statements, and behind them one that does the same as this, or those of a block by themselves.
+/// Statements, and after them one that does the same as this, or those of a block by themselves.
 #[cycle(statements)]
 pub(crate) fn with_folded(
     alloc: Global,

@@ -5,7 +5,7 @@ use net_core::design::Wire;
 use net_core::tree::{Expr, Net, Parts, Right, Stmt, Stmts};
 use std::alloc::{AllocError, Global};
 
-// More rounds than a design needs. Behind them all is kept.
+// More rounds than a design needs. After them all is kept.
 const ROUNDS: u32 = 300;
 
 /// Which wires and registers are read by what has to stay. A register is read as the first of those that hold the same.

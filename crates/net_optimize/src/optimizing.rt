@@ -3,7 +3,7 @@
 ghost use Rattle.std.specs.Prelude.{◌≡◌, ◌<◌, IfOk, IfSome, IsTrue, length};
 ghost use Rattle.net_core.specs.View.{netlist_of};
 ghost use Rattle.design_rules.specs.Formed.{IsWellFormed};
-ghost use Rattle.net_core.specs.ProductRules.Products.{products_apart};
+ghost use Rattle.net_core.specs.ProductRules.Products.{no_product_chains};
 ghost use Rattle.net_core.specs.declared.tree.Net.{Net};
 ghost use Rattle.net_core.specs.Value.{Env};
 ghost use Rattle.net_core.specs.SameClocks.Same.{ShowTheSame};
@@ -22,7 +22,7 @@ use crate::shared_expressions::shared;
 use crate::simple_logic::simplified_design;
 use design_rules::formed::well_formed;
 use net_core::design::Design;
-use net_core::product_rules::are_products_apart;
+use net_core::product_rules::has_no_product_chains;
 use net_core::same_clocks::laws::same_in_turn;
 use register_rules::equal_registers::equal_registers;
 use register_rules::narrow_registers::narrowed;
@@ -31,7 +31,7 @@ use std::alloc::{AllocError, Global};
 // How often a design is made shorter at most.
 const ROUNDS: u32 = 2;
 
-// Sections that do the same: shared first, so that what is read once is counted behind it, and then moved.
+// Sections that do the same: shared first, so that what is read once is counted after it, and then moved.
 fn shortened(alloc: Global, design: &Design) -> Result<Sections, AllocError>
     requires { length design.now.wires.items < 4294967295 }
     ensures count { IfOk result (λ s. length s.wires.items ≡ length design.now.wires.items) }
@@ -95,13 +95,13 @@ fn next(alloc: Global, design: &Design) -> Result<Option<Design>, AllocError>
     requires { IsWellFormed (netlist_of design.now) }
     ensures same { IfOk result (λ n. IfSome n (λ d. ShowTheSame (netlist_of design.now) (netlist_of d))) }
     ensures formed { IfOk result (λ n. IfSome n (λ d. IsWellFormed (netlist_of d))) }
-    ensures apart { IfOk result (λ n. IfSome n (λ d. IsTrue (products_apart (netlist_of d)))) }
+    ensures apart { IfOk result (λ n. IfSome n (λ d. IsTrue (no_product_chains (netlist_of d)))) }
 {
     if design.wires.len() >= u32::MAX as usize || design.declared.len() >= u32::MAX as usize {
         return Ok(None);
     }
     let next = shorter(alloc, design)?;
-    if well_formed(&next).is_ok() && are_products_apart(alloc, &next)? {
+    if well_formed(&next).is_ok() && has_no_product_chains(alloc, &next)? {
         return Ok(Some(next));
     }
     Ok(None)
@@ -114,10 +114,10 @@ fn is_shorter(a: &Design, b: &Design) -> bool {
 // The same, as often as that makes it shorter.
 fn repeated(alloc: Global, design: Design) -> Result<Design, AllocError>
     requires formed { IsWellFormed (netlist_of design) }
-    requires apart { IsTrue (products_apart (netlist_of design)) }
+    requires apart { IsTrue (no_product_chains (netlist_of design)) }
     ensures same { IfOk result (λ d. ShowTheSame (netlist_of design) (netlist_of d)) }
     ensures formed { IfOk result (λ d. IsWellFormed (netlist_of d)) }
-    ensures apart { IfOk result (λ d. IsTrue (products_apart (netlist_of d))) }
+    ensures apart { IfOk result (λ d. IsTrue (no_product_chains (netlist_of d))) }
 {
     let mut best = design;
     for _ in 0..ROUNDS {
@@ -136,10 +136,10 @@ fn repeated(alloc: Global, design: Design) -> Result<Design, AllocError>
 // Fewer operators by what is known of the sizes of nets, and shorter again.
 fn simpler(alloc: Global, design: Design) -> Result<Design, AllocError>
     requires formed { IsWellFormed (netlist_of design) }
-    requires apart { IsTrue (products_apart (netlist_of design)) }
+    requires apart { IsTrue (no_product_chains (netlist_of design)) }
     ensures same { IfOk result (λ d. ShowTheSame (netlist_of design) (netlist_of d)) }
     ensures formed { IfOk result (λ d. IsWellFormed (netlist_of d)) }
-    ensures apart { IfOk result (λ d. IsTrue (products_apart (netlist_of d))) }
+    ensures apart { IfOk result (λ d. IsTrue (no_product_chains (netlist_of d))) }
 {
     same_in_turn();
     let simple = simplified_design(alloc, design)?;
@@ -152,10 +152,10 @@ fn simpler(alloc: Global, design: Design) -> Result<Design, AllocError>
 // The same thrice: what is then known of wires is read where they are, and makes more of it simpler.
 fn simplest(alloc: Global, design: Design) -> Result<Design, AllocError>
     requires formed { IsWellFormed (netlist_of design) }
-    requires apart { IsTrue (products_apart (netlist_of design)) }
+    requires apart { IsTrue (no_product_chains (netlist_of design)) }
     ensures same { IfOk result (λ d. ShowTheSame (netlist_of design) (netlist_of d)) }
     ensures formed { IfOk result (λ d. IsWellFormed (netlist_of d)) }
-    ensures apart { IfOk result (λ d. IsTrue (products_apart (netlist_of d))) }
+    ensures apart { IfOk result (λ d. IsTrue (no_product_chains (netlist_of d))) }
 {
     same_in_turn();
     let once = simpler(alloc, design)?;
@@ -167,10 +167,10 @@ fn simplest(alloc: Global, design: Design) -> Result<Design, AllocError>
 // What stands at several places as wires, and what is read once where it is read again.
 fn common(alloc: Global, design: Design) -> Result<Design, AllocError>
     requires formed { IsWellFormed (netlist_of design) }
-    requires apart { IsTrue (products_apart (netlist_of design)) }
+    requires apart { IsTrue (no_product_chains (netlist_of design)) }
     ensures same { IfOk result (λ d. ShowTheSame (netlist_of design) (netlist_of d)) }
     ensures formed { IfOk result (λ d. IsWellFormed (netlist_of d)) }
-    ensures apart { IfOk result (λ d. IsTrue (products_apart (netlist_of d))) }
+    ensures apart { IfOk result (λ d. IsTrue (no_product_chains (netlist_of d))) }
 {
     same_in_turn();
     let wired = shared(alloc, design)?;
@@ -187,10 +187,10 @@ fn common(alloc: Global, design: Design) -> Result<Design, AllocError>
 /// break a rule, the design stays as it is.
 pub fn optimized(alloc: Global, design: Design) -> Result<Design, AllocError>
     requires formed { IsWellFormed (netlist_of design) }
-    requires apart { IsTrue (products_apart (netlist_of design)) }
+    requires apart { IsTrue (no_product_chains (netlist_of design)) }
     ensures same { IfOk result (λ d. ShowTheSame (netlist_of design) (netlist_of d)) }
     ensures formed { IfOk result (λ d. IsWellFormed (netlist_of d)) }
-    ensures apart { IfOk result (λ d. IsTrue (products_apart (netlist_of d))) }
+    ensures apart { IfOk result (λ d. IsTrue (no_product_chains (netlist_of d))) }
 {
     same_in_turn();
     let short = repeated(alloc, design)?;

@@ -54,7 +54,7 @@ fn is_idle(stmt: &Stmt<Net>) -> bool
     }
 }
 
-// Always blocks, and behind them one that does the same as this.
+// Always blocks, and after them one that does the same as this.
 fn with_block(
     alloc: Global,
     known: &[Option<Expr<Net>>],

@@ -1,4 +1,3 @@
 pub mod FlagLemmas
 pub mod NeutralLemmas
 pub mod SelectLemmas
-pub mod PartLemmas

@@ -9,7 +9,6 @@ use Rattle.std.proofs.Math.Nat.{pow-le-pow_right}
 use Rattle.cell_core.specs.xdp_machine.State.{PacketIn}
 use Rattle.cell_core.specs.Cells.{CellView, IsRun, cell_at, on, phi, bits_from}
 use Rattle.cell_core.specs.CellLaws.{ValuesFit}
-use Rattle.cell_core.specs.Rows.{greatest}
 use Rattle.operator_cells.specs.declared.joining.Arm.{Arm}
 use Rattle.operator_cells.specs.Joining.{chosen, followed, flat, AreThere, ChoiceIsRight}
 use Rattle.operator_cells.specs.Following.{picked}
@@ -83,11 +82,6 @@ flat_there n (a ∷ more) there = ((there 0 a (omega arith)).0, ((there 0 a (ome
 pub flat_long : (arms : List Arm) → 1 ≤ length arms → 2 ≤ length (flat arms)
 flat_long [] h = absurd (omega arith)
 flat_long (a ∷ more) h = omega arith
-
--- what the first edge brings stands in no later row than all
-pub flat_first : (row : ℕ → ℕ) (arms : List Arm) (d : Arm) → 1 ≤ length arms → row (get_or arms 0 d).cell ≤ greatest row (flat arms)
-flat_first row [] d h = absurd (omega arith)
-flat_first row (a ∷ more) d h = omega arith
 
 pub choice_is_right : ChoiceIsRight
 choice_is_right v [] n i d l h all = absurd (omega arith)

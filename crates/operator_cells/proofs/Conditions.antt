@@ -1,5 +1,5 @@
 -- Conditions of jumps.
-use Rattle.std.proofs.Common.{◌≡◌, ℕ, ◌-◌, ◌^◌, ◌<◌, Bool, true, false, [], ◌∷◌, nat_lt, nat_le, int_lt, int_le, refl, ◌∙◌, ap, arith}
+use Rattle.std.proofs.Common.{◌≡◌, ℕ, ◌-◌, ◌^◌, ◌<◌, true, false, [], ◌∷◌, nat_lt, nat_le, int_lt, int_le, refl, ◌∙◌, ap, arith}
 use Rattle.std.specs.Prelude.{◌==◌, bit_and}
 use Rattle.std.proofs.lemmas.Bool.Decides.{nat_tests}
 use Rattle.std.proofs.lemmas.Int.{ints}
@@ -16,13 +16,6 @@ use Rattle.cell_core.specs.Cells.{bit, joined, bits_from}
 use Rattle.operator_cells.specs.Comparing.{turned, is_signed, unsigned}
 use Rattle.operator_cells.proofs.Numbers.{from_zero, low_same, low_below}
 use Rattle.operator_cells.proofs.MakingLaws.{not_bit}
-
-pub low_bit : (b : Bool) → low 1 (bit b) ≡ bit b
-low_bit true = refl
-low_bit false = refl
-
-pub bit_is : (b : Bool) → bits_from (bit b) 0 1 ≡ bit b
-bit_is b = from_zero (bit b) 1 ∙ low_bit b
 
 -- what the cells of `turn` make
 turned_32 : (n : ℕ) → bits_from (joined 31 (low 1 (2 ^ 64 - 1 - bits_from n 31 1) ∷ bits_from n 0 31 ∷ [])) 0 32 ≡ turned 32 n

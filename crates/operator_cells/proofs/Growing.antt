@@ -1,10 +1,9 @@
 -- One cell more, and more of them.
-use Rattle.std.proofs.Common.{◌≡◌, ℕ, ◌+◌, ◌<◌, ◌≤◌, ◌⊎◌, inl, inr, true, false, Some, List, [], ◌∷◌, ◌++◌, length, get_or, length-append, refl, sym, ◌∙◌, ap, subst, arith}
+use Rattle.std.proofs.Common.{◌≡◌, ℕ, ◌+◌, ◌<◌, ◌≤◌, ◌⊎◌, inl, inr, true, false, Some, List, [], ◌∷◌, ◌++◌, length, length-append, refl, sym, ◌∙◌, ap, subst, arith}
 use Rattle.std.specs.Prelude.{slice_index, All, Contains}
 use Rattle.std.proofs.Math.ListN.{get_or-append}
 use Rattle.std.proofs.Math.Seq.{get_or-append_seam}
 use Rattle.std.proofs.lemmas.Bool.{cases_lt}
-use Rattle.std.proofs.lemmas.List.{length-map, get_or-map}
 use Rattle.cell_core.specs.xdp_machine.State.{PacketIn}
 use Rattle.cell_core.specs.declared.cell.Cell.{Cell}
 use Rattle.cell_core.specs.declared.operator.Operator.{Operator}
@@ -13,6 +12,7 @@ use Rattle.cell_core.specs.Formed.{AreFormed, IsFormed, IsSome, takes, divides, 
 use Rattle.cell_core.specs.View.{cell_of}
 use Rattle.operator_cells.specs.Making.{seen, Adds, IsAlone, NumbersAreAlone, GrowsWith, Grows, Makes, operated}
 use Rattle.operator_cells.proofs.MakingLaws as law
+use Rattle.operator_cells.proofs.SeenLaws.{seen_length}
 
 pub old-cell : (cells : List CellView) (cell : CellView) (k : ℕ) → k < length cells → cell_at (cells ++ cell ∷ []) k ≡ cell_at cells k
 old-cell cells cell k h = get_or-append cells (cell ∷ []) no_cell k h
@@ -23,7 +23,7 @@ new-cell cells cell = get_or-append_seam cells cell [] no_cell
 pub one-longer : (cells : List CellView) (cell : CellView) → length (cells ++ cell ∷ []) ≡ length cells + 1
 one-longer cells cell = length-append cells (cell ∷ [])
 
--- a cell that may stand behind others
+-- a cell that may stand after others
 pub record IsNext (cells : List CellView) (cell : CellView) : Type 0 where
   pub earlier : All (λ i. i < length cells) cell.ins
   pub enough : takes cell.op ≤ length cell.ins
@@ -155,17 +155,13 @@ unfolding seen
 seen_more [] x = refl
 seen_more (y ∷ cells) x = ap (λ (cs : List CellView). cell_of y ∷ cs) (seen_more cells x)
 
-pub seen_length : (cells : List Cell) → length (seen cells) ≡ length cells
-unfolding seen
-seen_length cells = length-map cells cell_of
-
 pub pushed_adds : (cells more : List Cell) (x : Cell) (cell : CellView) (at : ℕ) → more ≡ cells ++ x ∷ [] → cell_of x ≡ cell → at ≡ length cells → Adds (seen cells) (seen more) at cell
 pushed_adds cells more x cell at e is n = record {
   is = ap seen e ∙ seen_more cells x ∙ ap (λ (c : CellView). seen cells ++ c ∷ []) is;
   at = n ∙ sym (seen_length cells);
 }
 
--- cells behind others that were added before
+-- cells after others that were added before
 pub makes_after : (a b d : List CellView) (c : ℕ) (f g : PacketIn → (ℕ → ℕ) → ℕ) → Grows a b → Makes b d c f
     → ((packet : PacketIn) (v : ℕ → ℕ) → IsRun packet b v → f packet v ≡ g packet v) → Makes a d c g
 makes_after a b d c f g before made same = record {
@@ -173,7 +169,3 @@ makes_after a b d c f g before made same = record {
   there = made.there;
   value = λ packet v r. made.value packet v r ∙ same packet v (made.grows.run packet v r);
 }
-
-pub seen_at : (cells : List Cell) (k : ℕ) (d : Cell) → k < length cells → cell_at (seen cells) k ≡ cell_of (get_or cells k d)
-unfolding seen
-seen_at cells k d h = get_or-map cell_of cells k d no_cell h

@@ -7,9 +7,9 @@ use Rattle.cell_core.specs.xdp_machine.State.{PacketIn}
 use Rattle.cell_core.specs.CellLaws.{ValuesFit}
 use Rattle.cell_core.specs.Cells.{CellView, IsRun, cell_at, site_in, bit}
 use Rattle.cell_core.specs.Formed.{AreFormed}
-use Rattle.operator_cells.specs.Making.{GrowsWith, Grows}
+use Rattle.operator_cells.specs.Making.{GrowsWith, Grows, Makes}
 
--- one growth behind another, with what may be read
+-- one growth after another, with what may be read
 pub grown_with : (R : ℕ → ℕ → Type 0) (a b c : List CellView) → GrowsWith R a b → GrowsWith R b c → GrowsWith R a c
 grown_with R a b c g h = record {
   longer = omega (arith, g.longer, h.longer);
@@ -44,3 +44,14 @@ fits_64 packet cells v fit formed run a h = omega (arith, fit packet cells v run
 pub not_bit : (b : Bool) → low 1 (2 ^ 64 - 1 - bit b) ≡ bit (not b)
 not_bit true = refl
 not_bit false = refl
+
+-- what is made of the cells of two numbers
+pub made_of_two : {a b d e : List CellView} {x y c : ℕ} {f g : PacketIn → (ℕ → ℕ) → ℕ} (h : ℕ → ℕ → ℕ) → Makes a b x f → Makes b d y g → Makes d e c (λ packet v. h (v x) (v y))
+    → Makes a e c (λ packet v. h (f packet v) (g packet v))
+made_of_two {y = y} {f = f} h first second last = record {
+  grows = grown first.grows (grown second.grows last.grows);
+  there = last.there;
+  value = λ packet v r.
+      let before = last.grows.run packet v r in
+      last.value packet v r ∙ ap (λ (n : ℕ). h n (v y)) (first.value packet v (second.grows.run packet v before)) ∙ ap (h (f packet v)) (second.value packet v before);
+}

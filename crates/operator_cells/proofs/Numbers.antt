@@ -1,5 +1,5 @@
 -- What operators on 64 bits are on w.
-use Rattle.std.proofs.Common.{◌≡◌, ℕ, ◌+◌, ◌-◌, ◌*◌, ◌%◌, ◌^◌, ◌<◌, ◌≤◌, Bool, true, false, List, [], ◌∷◌, refl, ◌∙◌, ap, arith}
+use Rattle.std.proofs.Common.{◌≡◌, ℕ, ◌+◌, ◌-◌, ◌*◌, ◌%◌, ◌^◌, ◌<◌, Bool, true, false, [], ◌∷◌, refl, ◌∙◌, ap, arith}
 use Rattle.std.specs.Int.Bits.{and_lt}
 use Rattle.std.proofs.lemmas.Nat.{mod_below, pow_pos, or_lt, xor_lt}
 use Rattle.std.proofs.Math.Nat.{div-one, mod-eq_of_lt}
@@ -11,9 +11,8 @@ use Rattle.cell_core.specs.xdp_machine.Arithmetic.{bits_in, low, arithmetic, neg
 use Rattle.cell_core.specs.xdp_machine.State.{PacketIn}
 use Rattle.kind_core.proofs.xdp_machine_laws.NumberLaws.{widened}
 use Rattle.cell_core.specs.declared.operator.Operator.TheVariants as op
-use Rattle.cell_core.specs.Cells.{number, bits_from, is_read}
-use Rattle.cell_core.specs.Formed.{takes, divides, AreInputs, IsInRange}
-use Rattle.operator_cells.specs.Making.{operator_of, is_one, IsAlone}
+use Rattle.cell_core.specs.Cells.{number, bits_from}
+use Rattle.operator_cells.specs.Making.{operator_of, is_one}
 
 pub from_zero : (n w : ℕ) → bits_from n 0 w ≡ low w n
 from_zero n w = ap (λ (k : ℕ). k % 2 ^ w) (div-one n)
@@ -69,54 +68,6 @@ operated_one packet w c signed p q t h g =
     from_zero (number packet (operator_of c) (p ∷ q ∷ [])) (bits_in w)
     ∙ ap (low (bits_in w)) (operator_number packet c p q t ∙ (ap (λ (n : ℕ). arithmetic c false 64 n (low 64 q)) (low_same 64 p (widened w p h)) ∙ ap (arithmetic c false 64 p) (low_same 64 q (widened w q g))))
     ∙ one_is w c signed p q t h g
-
-pub operator_two : (c : AluCode) → takes (operator_of c) ≤ 2
-operator_two alu.Add = omega arith
-operator_two alu.Sub = omega arith
-operator_two alu.Mul = omega arith
-operator_two alu.Or = omega arith
-operator_two alu.Xor = omega arith
-operator_two c = omega arith
-
-pub operator_plain : (c : AluCode) → is_read (operator_of c) ≡ false
-operator_plain alu.Add = refl
-operator_plain alu.Sub = refl
-operator_plain alu.Mul = refl
-operator_plain alu.Or = refl
-operator_plain alu.Xor = refl
-operator_plain c = refl
-
-pub operator_undivided : (c : AluCode) → divides (operator_of c) ≡ false
-operator_undivided alu.Add = refl
-operator_undivided alu.Sub = refl
-operator_undivided alu.Mul = refl
-operator_undivided alu.Or = refl
-operator_undivided alu.Xor = refl
-operator_undivided c = refl
-
-pub operator_inputs : (c : AluCode) (ins : List ℕ) → AreInputs (operator_of c) ins
-operator_inputs alu.Add ins = tt
-operator_inputs alu.Sub ins = tt
-operator_inputs alu.Mul ins = tt
-operator_inputs alu.Or ins = tt
-operator_inputs alu.Xor ins = tt
-operator_inputs c ins = tt
-
-pub operator_alone : (c : AluCode) (ins : List ℕ) → IsAlone (operator_of c) ins
-operator_alone alu.Add ins = tt
-operator_alone alu.Sub ins = tt
-operator_alone alu.Mul ins = tt
-operator_alone alu.Or ins = tt
-operator_alone alu.Xor ins = tt
-operator_alone c ins = tt
-
-pub operator_in_range : (c : AluCode) → IsInRange (operator_of c)
-operator_in_range alu.Add = tt
-operator_in_range alu.Sub = tt
-operator_in_range alu.Mul = tt
-operator_in_range alu.Or = tt
-operator_in_range alu.Xor = tt
-operator_in_range c = tt
 
 -- 0 less a number is the number with the other sign
 pub negated_is : (packet : PacketIn) (w : Width) (n nil x : ℕ) → nil ≡ bits_from 0 0 1 → x ≡ low (bits_in w) n → bits_from (number packet op.Sub (nil ∷ x ∷ [])) 0 (bits_in w) ≡ negated (bits_in w) n

@@ -6,15 +6,12 @@ use Rattle.std.proofs.lemmas.List.{take-append-drop}
 use Rattle.cell_core.specs.xdp_maps.Calls.{patched}
 use Rattle.cell_core.specs.Cells.{CellView, is_heavy, bit}
 use Rattle.cell_core.specs.Rows.{AreRows, greatest}
+use Rattle.cell_core.proofs.RowLaws.{greatest_append}
 use Rattle.operator_cells.specs.Making.{GrowsWith, Adds}
 use Rattle.operator_cells.specs.Rising.{GrowsTo, Rises, RiseAll}
 use Rattle.operator_cells.proofs.Growing.{old-cell, new-cell, one-longer}
 
 -- ---- the greatest row of several cells
-pub greatest_append : (row : ℕ → ℕ) (xs ys : List ℕ) → greatest row (xs ++ ys) ≡ max (greatest row xs) (greatest row ys)
-greatest_append row [] ys = omega arith
-greatest_append row (x ∷ xs) ys = omega (arith, greatest_append row xs ys)
-
 pub greatest_reverse : (row : ℕ → ℕ) (xs : List ℕ) → greatest row (reverse xs) ≡ greatest row xs
 greatest_reverse row [] = refl
 greatest_reverse row (x ∷ xs) = omega (arith, ap (greatest row) (reverse_onto xs x []), greatest_append row (reverse xs) (x ∷ []), greatest_reverse row xs)
@@ -75,7 +72,7 @@ stand_none = record {
   known = λ row rows. tt;
 }
 
-grown_to : {a b d : List CellView} {P : (ℕ → ℕ) → Type 0} {last f : (ℕ → ℕ) → ℕ} → Stand a b P last → GrowsTo b d f → ((row : ℕ → ℕ) → P row → f row ≤ last row) → GrowsTo a d last
+pub grown_to : {a b d : List CellView} {P : (ℕ → ℕ) → Type 0} {last f : (ℕ → ℕ) → ℕ} → Stand a b P last → GrowsTo b d f → ((row : ℕ → ℕ) → P row → f row ≤ last row) → GrowsTo a d last
 grown_to {a} {b} {d} {last = last} s g h = record {
   rows = λ row rows. s.grows.rows row (g.rows row rows);
   each = λ row rows k low high. by row rows k low high (cases_lt k (length b));

@@ -42,30 +42,6 @@ signed_result : (w : Width) (s : Bool) (n : ℕ) → n < 2 ^ bits_in w → low (
 signed_result w true n h = low_same (bits_in w) _ (low_below (bits_in w) _) ∙ low_same (bits_in w) _ (low_below (bits_in w) _) ∙ sym (below_zero w n h)
 signed_result w false n h = low_same (bits_in w) _ (low_below (bits_in w) _)
 
-quotient_pp : (a b : ℕ) → quotient_of (pos a) (pos (suc b)) ≡ pos (a / suc b)
-quotient_pp a b = refl
-
-quotient_pn : (a b : ℕ) → quotient_of (pos a) (negsuc b) ≡ neg_ℤ (pos (a / suc b))
-quotient_pn a b = refl
-
-quotient_np : (a b : ℕ) → quotient_of (negsuc a) (pos (suc b)) ≡ neg_ℤ (pos (suc a / suc b))
-quotient_np a b = refl
-
-quotient_nn : (a b : ℕ) → quotient_of (negsuc a) (negsuc b) ≡ pos (suc a / suc b)
-quotient_nn a b = refl
-
-remainder_pp : (a b : ℕ) → remainder_of (pos a) (pos (suc b)) ≡ pos (a % suc b)
-remainder_pp a b = refl
-
-remainder_pn : (a b : ℕ) → remainder_of (pos a) (negsuc b) ≡ pos (a % suc b)
-remainder_pn a b = refl
-
-remainder_np : (a b : ℕ) → remainder_of (negsuc a) (pos (suc b)) ≡ neg_ℤ (pos (suc a % suc b))
-remainder_np a b = refl
-
-remainder_nn : (a b : ℕ) → remainder_of (negsuc a) (negsuc b) ≡ neg_ℤ (pos (suc a % suc b))
-remainder_nn a b = refl
-
 -- whether a result is below 0, by whether the numbers are not
 abbrev side : Bool → Bool → Bool → Bool
 side true tx ty = not tx

@@ -1,24 +1,24 @@
 -- The bytes of numbers.
 use Rattle.std.proofs.Common.{◌≡◌, ℕ, zero, suc, ◌+◌, ◌-◌, ◌*◌, ◌/◌, ◌%◌, ◌^◌, ◌<◌, ◌≤◌, List, [], ◌∷◌, ◌++◌, length, take, drop, fold, All, get_or, length-append, map as map_list, refl, sym, ◌∙◌, ap, subst, arith}
 use Rattle.std.specs.Int.{byte_at, bytes_low_first}
-use Rattle.std.proofs.lemmas.Nat.{mod_below, mod-mul-add, pow_pos}
-use Rattle.std.proofs.Math.Nat.{div-add-mod', mul_assoc, div-one, pow-suc, pow-le-pow_right, div-div-eq-div-mul, mul-le-mul_right}
+use Rattle.std.proofs.lemmas.Nat.{mod_below}
+use Rattle.std.proofs.Math.Nat.{div-one, pow-suc, pow-le-pow_right, div-div-eq-div-mul, mul-le-mul_right}
 use Rattle.std.proofs.lemmas.List.{length-take, length-drop, map-append, take-map, drop-map, length-map}
 use Rattle.std.proofs.lemmas.List.Elements.{All-append, All-take, All-drop}
 use Rattle.byteorder.specs.Endian.{little_number, little_bytes}
 use Rattle.byteorder.specs.Numbers.{little_from-take, little_from-bytes}
 use Rattle.cell_core.specs.bits_core.Bits.{reversed_of}
-use Rattle.cell_core.specs.bpf_isa.declared.operation.Src.TheVariants as src
 use Rattle.cell_core.specs.bpf_isa.declared.operation.Size.{Size}
 use Rattle.cell_core.specs.xdp_maps.Calls.{patched}
-use Rattle.cell_core.specs.xdp_machine.Arithmetic.{low, ordered}
+use Rattle.cell_core.specs.xdp_machine.Arithmetic.{low}
 use Rattle.cell_core.specs.xdp_machine.Memory.{bytes_in, number_at}
 use Rattle.cell_core.specs.Cells.{joined, bits_from}
 use Rattle.operator_cells.proofs.Bytes.{bytes_power}
 use Rattle.cell_core.specs.Cells.{CellView}
+use Rattle.list_laws.proofs.DigitLaws.{byte_is as byte_of_rest, byte_small}
 use Rattle.operator_cells.specs.Making.{Makes, MakesIf}
 use Rattle.operator_cells.specs.Spreading.{MakesBytes}
-use Rattle.operator_cells.proofs.Growing.{grown, grown_none}
+use Rattle.operator_cells.proofs.Growing.{grown}
 use Rattle.operator_cells.proofs.Numbers.{from_zero, low_same, low_below}
 
 byte_is : (i n : ℕ) → bits_from n (8 * i) 8 ≡ byte_at i n
@@ -73,14 +73,6 @@ step higher x = low 64 (low 64 (higher * 2 ^ 8) + x)
 step_is : (n x : ℕ) → n * 256 + x < 2 ^ 64 → step n x ≡ n * 256 + x
 step_is n x h = omega (arith, h)
 
-byte_small : (j x : ℕ) → byte_at j x < 256
-byte_small zero x = mod_below x 256 (omega arith)
-byte_small (suc j) x = mod_below (x / 256 ^ suc j) 256 (omega arith)
-
-byte_of_rest : (j x : ℕ) → byte_at j x ≡ x / 256 ^ j % 256
-byte_of_rest zero x = ap (λ (k : ℕ). k % 256) (sym (div-one x))
-byte_of_rest (suc j) x = refl
-
 reversed_step : (k j x : ℕ) → reversed_of (suc k) (x / 256 ^ j) ≡ byte_at j x * 256 ^ k + reversed_of k (x / 256 ^ suc j)
 reversed_step k j x =
     let shift : x / 256 ^ j / 256 ≡ x / 256 ^ suc j = div-div-eq-div-mul x (256 ^ j) 256 ∙ ap (λ (p : ℕ). x / p) (sym (pow-suc 256 j)) in
@@ -119,27 +111,6 @@ reversed_joined v k x bytes most e =
     ∙ ap (low (8 * k)) (folded_is k 0 x 0 0 (omega arith) (omega (arith, most)) ∙ whole)
     ∙ low_same (8 * k) _ (subst (λ (n : ℕ). reversed_of k x < n) (bytes_power k) (reversed_below k x))
 
-reversed_low : (k x : ℕ) → reversed_of k (x % 256 ^ k) ≡ reversed_of k x
-reversed_low zero x = refl
-reversed_low (suc k) x =
-    let q : ℕ = x / 256 in
-    let y : ℕ = q % 256 ^ k in
-    let some : 0 < 256 ^ k = subst (λ (n : ℕ). 0 < n) (sym (bytes_power k)) (pow_pos (8 * k)) in
-    let high : q ≡ q / 256 ^ k * 256 ^ k + y = sym (div-add-mod' q (256 ^ k)) in
-    let product : q / 256 ^ k * 256 ^ suc k ≡ q / 256 ^ k * 256 ^ k * 256 = ap (λ (n : ℕ). q / 256 ^ k * n) (pow-suc 256 k) ∙ sym (mul_assoc (q / 256 ^ k) (256 ^ k) 256) in
-    let whole : x ≡ q / 256 ^ k * 256 ^ suc k + (y * 256 + x % 256) = omega (arith, high, product) in
-    let below : y * 256 + x % 256 < 256 ^ suc k = omega (arith, mod_below q (256 ^ k) some, pow-suc 256 k, mod_below x 256 (omega arith)) in
-    let split : x % 256 ^ suc k ≡ x / 256 % 256 ^ k * 256 + x % 256 = ap (λ (n : ℕ). n % 256 ^ suc k) whole ∙ mod-mul-add (q / 256 ^ k) (256 ^ suc k) (y * 256 + x % 256) below in
-    let lowest : x % 256 ^ suc k % 256 ≡ x % 256 = omega (arith, split) in
-    let rest : x % 256 ^ suc k / 256 ≡ x / 256 % 256 ^ k = omega (arith, split) in
-    ap (λ (b : ℕ). b * 256 ^ k + reversed_of k (x % 256 ^ suc k / 256)) lowest
-    ∙ ap (λ (y : ℕ). x % 256 * 256 ^ k + reversed_of k y) rest
-    ∙ ap (λ (n : ℕ). x % 256 * 256 ^ k + n) (reversed_low k (x / 256))
-
--- to big-endian
-pub ordered_is : (bits x : ℕ) → bits ≡ 8 * (bits / 8) → reversed_of (bits / 8) x ≡ ordered src.X bits x
-ordered_is bits x e = sym (reversed_low (bits / 8) x) ∙ ap (λ (m : ℕ). reversed_of (bits / 8) (x % m)) (bytes_power (bits / 8) ∙ ap (λ (n : ℕ). 2 ^ n) (sym e))
-
 -- ---- bytes that are stored over others
 
 pub all_patched : (P : ℕ → Type 0) (xs ys : List ℕ) (at : ℕ) → All P xs → All P ys → All P (patched xs at ys)
@@ -170,15 +141,6 @@ bytes_next a b d i n c cs more is before made = rw is (record {
     small-one : (v : ℕ → ℕ) (j e : ℕ) → j < length (c ∷ []) → v c < 256 → v (get_or (c ∷ []) j e) < 256
     small-one v zero e l h = h
     small-one v (suc j) e l h = absurd (omega (arith, l))
-
-pub no_bytes : (a : List CellView) (n : ℕ) → MakesBytes a a 0 [] (λ v. little_bytes 0 (v n))
-no_bytes a n = record {
-  grows = grown_none a;
-  count = refl;
-  there = λ j e l. absurd (omega (arith, l));
-  small = λ packet v r j e l. absurd (omega (arith, l));
-  values = λ packet v r. refl;
-}
 
 patched_length : (xs ys : List ℕ) (at : ℕ) → at + length ys ≤ length xs → length (patched xs at ys) ≡ length xs
 patched_length xs ys at h = grind (arith, length-append, length-take, length-drop)

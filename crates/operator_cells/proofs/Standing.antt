@@ -6,8 +6,9 @@ use Rattle.cell_core.specs.View.{cell_of}
 use Rattle.operator_cells.specs.Making.{seen, Makes, operated}
 use Rattle.operator_cells.specs.Rising.{Rises}
 use Rattle.operator_cells.specs.Standing.{Stands}
-use Rattle.operator_cells.proofs.Growing.{grown_none, value_at, seen_length, seen_at}
+use Rattle.operator_cells.proofs.Growing.{grown_none, value_at}
 use Rattle.operator_cells.proofs.RisingLaws.{row_of, IsMade, stand_none}
+use Rattle.operator_cells.proofs.SeenLaws.{seen_length, seen_at}
 
 -- a cell that was read
 pub stands_read : (cells : List Cell) (i k : ℕ) (x : Cell) (cell : CellView) → k ≡ i → i < length cells → x ≡ get_or cells i x → cell_of x ≡ cell → Stands (seen cells) k cell

@@ -1,4 +1,4 @@
-pub mod Held
+pub mod RegisterCells
 pub mod Carrying
 pub mod Paths
 pub mod Steps

@@ -14,7 +14,7 @@ use Rattle.cell_core.specs.View.{cell_of}
 unfoldable pub seen : List Cell → List CellView
 seen cells = map_list cell_of cells
 
--- one more cell, behind the others
+-- one more cell, after the others
 pub record Adds (old new : List CellView) (c : ℕ) (cell : CellView) : Type 0 where
   pub is : new ≡ old ++ cell ∷ []
   pub at : c ≡ length old

@@ -117,7 +117,7 @@ pub fn slice(cells: &mut Vec<Cell>, a: u32, from: u32, width: u32) -> Result<u32
     operate(cells, Operator::Wire, &[a], from, width)
 }
 
-/// A bit in a new cell, behind all others.
+/// A bit in a new cell, after all others.
 pub fn copy_bit(cells: &mut Vec<Cell>, a: u32) -> Result<u32, AllocError>
     requires { a < length (seen cells.old.items) }
     ensures makes { IfOk result (λ c. Makes (seen cells.old.items) (seen cells.new.items) c (operated Operator.Wire (a ∷ []) 0 1)) }

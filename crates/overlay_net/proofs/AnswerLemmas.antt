@@ -11,15 +11,16 @@ use Rattle.hazard_core.specs.cell_core.declared.site.Act.TheVariants as act
 use Rattle.hazard_core.specs.cell_core.Cells.{bit, on, bits_from, phi}
 use Rattle.hazard_core.specs.cell_core.Sites.{ProgramView, site_at, bytes_of, operation_with}
 use Rattle.hazard_core.specs.Tables.{TableState, decl_of, table_at, used_count}
-use Rattle.hazard_core.specs.Held.{Held, held_value, is_null, adds_key, takes_key}
+use Rattle.hazard_core.specs.StageValues.{StageValues, stage_value, is_null, adds_key, takes_key}
 use Rattle.hazard_core.specs.Overlay.{key_pointer, update_answer, delete_answer, answer_as, answer_over}
-use Rattle.cell_nets.proofs.NarrowLemmas.{from_zero}
+use Rattle.cell_nets.proofs.NarrowLaws.{from_zero}
 use Rattle.block_core.specs.net_core.Value.{Env}
 use Rattle.block_core.specs.Blocks.{BlockWireTree}
 use Rattle.block_core.specs.declared.name.Name.{Name}
 use Rattle.byteorder.specs.Endian.{little_number}
 use Rattle.byteorder.specs.Numbers.{little_from-bytes}
 use Rattle.hazard_core.specs.xdp_maps.Contents.{index_of}
+use Rattle.hazard_core.proofs.cell_core_laws.BitLaws.{small_bits}
 use Rattle.cell_nets.specs.declared.operand.Operand.{Operand}
 use Rattle.cell_nets.specs.Operands.{number_in, IsAvailable}
 use Rattle.cell_nets.specs.Wires.{always, Gives}
@@ -29,9 +30,9 @@ use Rattle.overlay_net.specs.Seen.{read_of, all_read, IsOf, ShowsPending, AreOf,
 use Rattle.cell_nets.proofs.StepNets.ChainLaws.{starts, next, last}
 use Rattle.overlay_net.proofs.FindLemmas.{read_at, tail_of}
 use Rattle.overlay_net.proofs.KeyLemmas.{front_bytes}
-use Rattle.cell_nets.proofs.StepNets.StepLaws.{on_bit, small_bits, all_each}
+use Rattle.cell_nets.proofs.StepNets.StepLaws.{on_bit, all_each}
 
--- ---- pairs, one behind another
+-- ---- pairs, one after another
 pub two_pairs : {X : Type 0} (l m n : List X) (a b c d : X) → l ≡ [] → m ≡ l ++ a ∷ b ∷ [] → n ≡ m ++ c ∷ d ∷ [] → n ≡ a ∷ b ∷ c ∷ d ∷ []
 two_pairs l m n a b c d e f g = g ∙ ap (λ k. k ++ c ∷ d ∷ []) (f ∙ ap (λ k. k ++ a ∷ b ∷ []) e)
 
@@ -135,7 +136,7 @@ pub count_all : (q : ℕ → Bool) (xs : List ℕ) (s : ℕ) → s < 2 ^ 17 → 
 count_all q xs s h l = small_bits (s + count_by q xs) 18 (omega (arith, count_by-le-length q xs))
 
 -- one operation more is counted
-module _ {P : Type 0} (q : P) (old : List (BlockWireTree (Name P))) (ds : List (Pending (Name P))) (start : Operand (Name P)) (p : ProgramView) (t : TableState) (h : Held) (m : ℕ) (before : List ℕ) (of : AreOf p m before ds) (counts : ℕ → Bool) where
+module _ {P : Type 0} (q : P) (old : List (BlockWireTree (Name P))) (ds : List (Pending (Name P))) (start : Operand (Name P)) (p : ProgramView) (t : TableState) (h : StageValues) (m : ℕ) (before : List ℕ) (of : AreOf p m before ds) (counts : ℕ → Bool) where
   pub count_more :
       (mid mid2 new : List (BlockWireTree (Name P))) (bs : List (Operand (Name P))) (k : ℕ) (x : Pending (Name P)) (count one out : Operand (Name P)) (more : ℕ → Env (Name P) → Type 0) → k < length ds → x ≡ get_or ds k x
       → Gives q old mid (start ∷ all_read ds) (λ v. ShowPending v p t h before ds) (λ v. bits_from (number_in v start + count_by counts (take k before)) 0 18) 18 count
@@ -165,19 +166,19 @@ index_first [] = refl
 index_first (x ∷ xs) = index_is x xs
 
 -- ---- answers
-module _ (p : ProgramView) (t : TableState) (h : Held) (before : List ℕ) (j : ℕ) (d : MapDecl) where
+module _ (p : ProgramView) (t : TableState) (h : StageValues) (before : List ℕ) (j : ℕ) (d : MapDecl) where
   abbrev keys : List ℕ
-  keys = map_list (held_value h) (site_at p.sites j).key
+  keys = map_list (stage_value h) (site_at p.sites j).key
 
   abbrev others : List ℕ
-  others = map_list (held_value h) (site_at p.sites j).operands
+  others = map_list (stage_value h) (site_at p.sites j).operands
 
   abbrev there : Bool
   there = not (is_null (key_pointer p t h before j))
 
   pub update_is : IsSite p t.decls j act.Update d
       → answer_over p t h before j
-      ≡ cast_unsigned w64 (update_answer d.kind d (used_count (table_at t (site_at p.sites j).map) + count_by (adds_key p t.decls h) before) (count_by (takes_key p t.decls h) before) (not (is_null (key_pointer p t h before j))) (bytes_of d.key (map_list (held_value h) (site_at p.sites j).key)) (slice_index (map_list (held_value h) (site_at p.sites j).operands) 0))
+      ≡ cast_unsigned w64 (update_answer d.kind d (used_count (table_at t (site_at p.sites j).map) + count_by (adds_key p t.decls h) before) (count_by (takes_key p t.decls h) before) (not (is_null (key_pointer p t h before j))) (bytes_of d.key (map_list (stage_value h) (site_at p.sites j).key)) (slice_index (map_list (stage_value h) (site_at p.sites j).operands) 0))
   update_is is =
       ap (λ a. answer_as a (operation_with (decl_of t.decls (site_at p.sites j).map) a keys others) p t h before j) is.act
       ∙ ap (λ (x : MapDecl). cast_unsigned w64 (update_answer x.kind x (used_count (table_at t (site_at p.sites j).map) + count_by (adds_key p t.decls h) before) (count_by (takes_key p t.decls h) before) there (bytes_of x.key keys) (slice_index others 0))) is.decl
@@ -187,8 +188,8 @@ module _ (p : ProgramView) (t : TableState) (h : Held) (before : List ℕ) (j : 
       ap (λ a. answer_as a (operation_with (decl_of t.decls (site_at p.sites j).map) a keys others) p t h before j) is.act
       ∙ ap (λ (x : MapDecl). cast_unsigned w64 (delete_answer x.kind there)) is.decl
 
-pub lookup_is : (p : ProgramView) (t : TableState) (h : Held) (before : List ℕ) (j : ℕ) → (site_at p.sites j).act ≡ act.Lookup → answer_over p t h before j ≡ bit (not (is_null (key_pointer p t h before j)))
-lookup_is p t h before j e = ap (λ a. answer_as a (operation_with (decl_of t.decls (site_at p.sites j).map) a (map_list (held_value h) (site_at p.sites j).key) (map_list (held_value h) (site_at p.sites j).operands)) p t h before j) e
+pub lookup_is : (p : ProgramView) (t : TableState) (h : StageValues) (before : List ℕ) (j : ℕ) → (site_at p.sites j).act ≡ act.Lookup → answer_over p t h before j ≡ bit (not (is_null (key_pointer p t h before j)))
+lookup_is p t h before j e = ap (λ a. answer_as a (operation_with (decl_of t.decls (site_at p.sites j).map) a (map_list (stage_value h) (site_at p.sites j).key) (map_list (stage_value h) (site_at p.sites j).operands)) p t h before j) e
 
 pub plus_none : (n : ℕ) → n ≡ n + 0
 plus_none n = omega arith

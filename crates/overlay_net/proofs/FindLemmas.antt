@@ -9,7 +9,6 @@ use Rattle.block_core.specs.declared.name.Name.{Name}
 use Rattle.block_core.specs.net_core.Value.{Env}
 use Rattle.hazard_core.specs.xdp_maps.declared.decl.MapDecl.{MapDecl}
 use Rattle.hazard_core.specs.xdp_maps.declared.decl.MapKind.TheVariants as kind
-use Rattle.hazard_core.specs.xdp_maps.Operations.{key_in}
 use Rattle.hazard_core.specs.cell_core.declared.site.Act.{Act}
 use Rattle.hazard_core.specs.cell_core.declared.site.Act.TheVariants as act
 use Rattle.hazard_core.specs.cell_core.Cells.{bit, on}
@@ -17,8 +16,9 @@ use Rattle.hazard_core.specs.cell_core.Sites.{ProgramView, site_at, bytes_of, op
 use Rattle.hazard_core.specs.Tables.{TableState, decl_of, table_at}
 use Rattle.hazard_core.specs.declared.pointer.Pointer.{Pointer}
 use Rattle.hazard_core.specs.declared.pointer.Pointer.TheVariants.{Null}
-use Rattle.hazard_core.specs.Held.{Held, held_value, asked_key, slot_pointer, writes, written_pointer}
+use Rattle.hazard_core.specs.StageValues.{StageValues, stage_value, asked_key, slot_pointer, writes, written_pointer}
 use Rattle.hazard_core.specs.Overlay.{found_as, found_over, key_pointer_as, key_pointer, looks, found_pointer}
+use Rattle.hazard_core.proofs.ActsLaws.{key_is}
 use Rattle.cell_nets.specs.declared.operand.Operand.{Operand}
 use Rattle.cell_nets.specs.Operands.{number_in, IsAvailable}
 use Rattle.cell_nets.specs.Wires.{always, Gives}
@@ -27,6 +27,7 @@ use Rattle.overlay_net.specs.SiteOperands.Sites.{SiteOperands, operands_of, all_
 use Rattle.overlay_net.specs.declared.site_operands.Pending.{Pending}
 use Rattle.overlay_net.specs.Reading.{ShowsSlot}
 use Rattle.overlay_net.specs.Seen.{read_of, all_read, IsOf, ShowsPending, AreOf, ShowPending}
+use Rattle.overlay_net.proofs.SiteOperandLaws.{keys_of}
 use Rattle.cell_nets.proofs.StepNets.ChainLaws.{starts, next, last}
 use Rattle.cell_nets.proofs.StepNets.StepLaws.{on_bit}
 
@@ -48,12 +49,6 @@ module _ {X : Type 0} (Q : X → Type 0) where
   pub tail_of : (x : X) (xs : List X) → All Q (x ∷ xs) → All Q xs
   tail_of x xs h n d lt = h (suc n) d (omega arith)
 
-pub keys_of : {N : Type 0} (Q : Operand N → Type 0) (s : SiteOperands N) → All Q (all_of s) → All Q s.key
-keys_of Q s h = left_of Q s.key s.operands (λ n d lt. h (suc (suc (suc (suc n)))) d (omega arith))
-
-pub others_of : {N : Type 0} (Q : Operand N → Type 0) (s : SiteOperands N) → All Q (all_of s) → All Q s.operands
-others_of Q s h = right_of Q s.key s.operands (λ n d lt. h (suc (suc (suc (suc n)))) d (omega arith))
-
 pub keys_read : {N : Type 0} (Q : Operand N → Type 0) (d : Pending N) → All Q (read_of d) → All Q d.nets.now.key.items
 keys_read Q d h = keys_of Q (operands_of d.nets.now) (λ n e lt. h (suc (suc n)) e (omega arith))
 
@@ -64,29 +59,20 @@ read_at Q (e ∷ ds) zero d lt is h = subst (λ x. All Q (read_of x)) (sym is) (
 read_at Q (e ∷ ds) (suc k) d lt is h = read_at Q ds k d (omega arith) is (right_of Q (read_of e) (all_read ds) h)
 
 -- ---- keys
-key_is : (d : MapDecl) (a : Act) (ks xs : List ℕ) → key_in (operation_with d a ks xs) ≡ bytes_of d.key ks
-key_is d act.Lookup ks xs = refl
-key_is d (act.Load at size) ks xs = refl
-key_is d act.Update ks xs = refl
-key_is d act.Delete ks xs = refl
-key_is d (act.Store at size) ks xs = refl
-key_is d (act.Atomic at a) ks xs = refl
 
-pub shown_key : {N : Type 0} (v : Env N) (p : ProgramView) (t : TableState) (h : Held) (j n : ℕ) (s : SiteOperands N) → (decl_of t.decls (site_at p.sites j).map).key ≡ n → ShowsAsked v p h j s → bytes_of n (map_list (number_in v) s.key) ≡ asked_key t.decls h (site_at p.sites j)
+-- ---- keys
+pub shown_key : {N : Type 0} (v : Env N) (p : ProgramView) (t : TableState) (h : StageValues) (j n : ℕ) (s : SiteOperands N) → (decl_of t.decls (site_at p.sites j).map).key ≡ n → ShowsAsked v p h j s → bytes_of n (map_list (number_in v) s.key) ≡ asked_key t.decls h (site_at p.sites j)
 shown_key v p t h j n s e k =
     ap (bytes_of n) k.key
-    ∙ ap (λ m. bytes_of m (map_list (held_value h) (site_at p.sites j).key)) (sym e)
-    ∙ sym (key_is (decl_of t.decls (site_at p.sites j).map) (site_at p.sites j).act (map_list (held_value h) (site_at p.sites j).key) (map_list (held_value h) (site_at p.sites j).operands))
+    ∙ ap (λ m. bytes_of m (map_list (stage_value h) (site_at p.sites j).key)) (sym e)
+    ∙ sym (key_is (decl_of t.decls (site_at p.sites j).map) (site_at p.sites j).act (map_list (stage_value h) (site_at p.sites j).key) (map_list (stage_value h) (site_at p.sites j).operands))
 
 inside : (b : Bool) (q r : Pointer) → (if b then pointer_number q else pointer_number r) ≡ pointer_number (if b then q else r)
 inside true q r = refl
 inside false q r = refl
 
 -- ---- over one operation
-module _ {N : Type 0} (v : Env N) (p : ProgramView) (t : TableState) (h : Held) (m i bytes : ℕ) (own : List ℕ) (f : Pointer) (d : Pending N) (is : IsOf p m i d) (key : (decl_of t.decls m).key ≡ bytes) (s : ShowsPending v p t h i d) where
-  written : Pointer
-  written = written_pointer p t h i
-
+module _ {N : Type 0} (v : Env N) (p : ProgramView) (t : TableState) (h : StageValues) (m i bytes : ℕ) (own : List ℕ) (f : Pointer) (d : Pending N) (is : IsOf p m i d) (key : (decl_of t.decls m).key ≡ bytes) (s : ShowsPending v p t h i d) where
   over : found_over p t h own f i ≡ (if on (number_in v d.writes) && bytes_eq (bytes_of bytes (map_list (number_in v) d.nets.now.key.items)) own then found_as d.act (written_pointer p t h i) f else f)
   over =
       ap (λ b. if b && bytes_eq (asked_key t.decls h (site_at p.sites i)) own then found_as (site_at p.sites i).act (written_pointer p t h i) f else f) (sym (ap on s.writes ∙ on_bit (writes p t.decls h i)))
@@ -113,13 +99,13 @@ module _ {N : Type 0} (v : Env N) (p : ProgramView) (t : TableState) (h : Held) 
       same false = refl
 
 -- ---- over all of them
-pub hash_key : (p : ProgramView) (t : TableState) (h : Held) (before : List ℕ) (j : ℕ) (d : MapDecl) → decl_of t.decls (site_at p.sites j).map ≡ d → d.kind ≡ kind.Hash
+pub hash_key : (p : ProgramView) (t : TableState) (h : StageValues) (before : List ℕ) (j : ℕ) (d : MapDecl) → decl_of t.decls (site_at p.sites j).map ≡ d → d.kind ≡ kind.Hash
     → key_pointer p t h before j ≡ fold (found_over p t h (asked_key t.decls h (site_at p.sites j))) (slot_pointer (table_at t (site_at p.sites j).map) (asked_key t.decls h (site_at p.sites j))) before
 hash_key p t h before j d e k =
     ap (λ (x : MapDecl). key_pointer_as x.kind p t h before (site_at p.sites j).map (asked_key t.decls h (site_at p.sites j))) e
     ∙ ap (λ x. key_pointer_as x p t h before (site_at p.sites j).map (asked_key t.decls h (site_at p.sites j))) k
 
-pub array_key : (p : ProgramView) (t : TableState) (h : Held) (before : List ℕ) (j : ℕ) (d : MapDecl) → decl_of t.decls (site_at p.sites j).map ≡ d → d.kind ≡ kind.Array
+pub array_key : (p : ProgramView) (t : TableState) (h : StageValues) (before : List ℕ) (j : ℕ) (d : MapDecl) → decl_of t.decls (site_at p.sites j).map ≡ d → d.kind ≡ kind.Array
     → key_pointer p t h before j ≡ slot_pointer (table_at t (site_at p.sites j).map) (asked_key t.decls h (site_at p.sites j))
 array_key p t h before j d e k =
     ap (λ (x : MapDecl). key_pointer_as x.kind p t h before (site_at p.sites j).map (asked_key t.decls h (site_at p.sites j))) e
@@ -138,17 +124,17 @@ others_look d act.Delete ks xs u = refl
 others_look d (act.Store at size) ks xs u = refl
 others_look d (act.Atomic at a) ks xs u = refl
 
-module _ (p : ProgramView) (t : TableState) (h : Held) (before : List ℕ) (j : ℕ) (a : Act) (e : (site_at p.sites j).act ≡ a) where
-  pub update_found : a ≡ act.Update → (if nat_lt 2 (slice_index (map_list (held_value h) (site_at p.sites j).operands) 0) then 0 else pointer_number (key_pointer p t h before j)) ≡ pointer_number (found_pointer p t h before j)
+module _ (p : ProgramView) (t : TableState) (h : StageValues) (before : List ℕ) (j : ℕ) (a : Act) (e : (site_at p.sites j).act ≡ a) where
+  pub update_found : a ≡ act.Update → (if nat_lt 2 (slice_index (map_list (stage_value h) (site_at p.sites j).operands) 0) then 0 else pointer_number (key_pointer p t h before j)) ≡ pointer_number (found_pointer p t h before j)
   update_found u =
-      update_finds (nat_lt 2 (slice_index (map_list (held_value h) (site_at p.sites j).operands) 0)) (key_pointer p t h before j)
-      ∙ ap (λ x. pointer_number (if looks (operation_with (decl_of t.decls (site_at p.sites j).map) x (map_list (held_value h) (site_at p.sites j).key) (map_list (held_value h) (site_at p.sites j).operands)) then key_pointer p t h before j else Null)) (sym (e ∙ u))
+      update_finds (nat_lt 2 (slice_index (map_list (stage_value h) (site_at p.sites j).operands) 0)) (key_pointer p t h before j)
+      ∙ ap (λ x. pointer_number (if looks (operation_with (decl_of t.decls (site_at p.sites j).map) x (map_list (stage_value h) (site_at p.sites j).key) (map_list (stage_value h) (site_at p.sites j).operands)) then key_pointer p t h before j else Null)) (sym (e ∙ u))
 
   pub other_found : a ≢ act.Update → pointer_number (key_pointer p t h before j) ≡ pointer_number (found_pointer p t h before j)
   other_found u =
       ap (λ b. pointer_number (if b then key_pointer p t h before j else Null))
-      (sym (ap (λ x. looks (operation_with (decl_of t.decls (site_at p.sites j).map) x (map_list (held_value h) (site_at p.sites j).key) (map_list (held_value h) (site_at p.sites j).operands))) e
-      ∙ others_look (decl_of t.decls (site_at p.sites j).map) a (map_list (held_value h) (site_at p.sites j).key) (map_list (held_value h) (site_at p.sites j).operands) u))
+      (sym (ap (λ x. looks (operation_with (decl_of t.decls (site_at p.sites j).map) x (map_list (stage_value h) (site_at p.sites j).key) (map_list (stage_value h) (site_at p.sites j).operands))) e
+      ∙ others_look (decl_of t.decls (site_at p.sites j).map) a (map_list (stage_value h) (site_at p.sites j).key) (map_list (stage_value h) (site_at p.sites j).operands) u))
 
 -- ---- keys in other words
 pub key_given :
@@ -158,7 +144,7 @@ pub key_given :
 key_given q old new n l own key out e x = subst (λ o. Gives q old new (o ++ key) always (λ v. bit (bytes_eq (bytes_of n (map_list (number_in v) o)) (bytes_of n (map_list (number_in v) key)))) 1 out) e x
 
 pub over_key :
-    {P : Type 0} (q : P) (old new : List (BlockWireTree (Name P))) (d : Pending (Name P)) (l key : List (Operand (Name P))) (found out : Operand (Name P)) (bits bytes : ℕ) (p : ProgramView) (t : TableState) (h : Held) (i : ℕ) (own : List ℕ) (f : Pointer) → l ≡ key
+    {P : Type 0} (q : P) (old new : List (BlockWireTree (Name P))) (d : Pending (Name P)) (l key : List (Operand (Name P))) (found out : Operand (Name P)) (bits bytes : ℕ) (p : ProgramView) (t : TableState) (h : StageValues) (i : ℕ) (own : List ℕ) (f : Pointer) → l ≡ key
     → Gives q old new (found ∷ read_of d ++ l) (λ v. ShowsPending v p t h i d × (bytes_of bytes (map_list (number_in v) l) ≡ own) × (number_in v found ≡ pointer_number f)) (λ v. pointer_number (found_over p t h own f i)) bits out
     → Gives q old new (found ∷ read_of d ++ key) (λ v. ShowsPending v p t h i d × (bytes_of bytes (map_list (number_in v) key) ≡ own) × (number_in v found ≡ pointer_number f)) (λ v. pointer_number (found_over p t h own f i)) bits out
 over_key q old new d l key found out bits bytes p t h i own f e x =
@@ -171,7 +157,7 @@ module _ {P : Type 0} (q : P) where
       → Gives q old new (entry ∷ found ∷ read_of d ++ key) always
       (λ v. if on (number_in v d.writes) && bytes_eq (bytes_of bytes (map_list (number_in v) d.nets.now.key.items)) (bytes_of bytes (map_list (number_in v) key)) then number_in v entry else number_in v found) bits out
       → ((ins : List (Operand (Name P))) → All (IsAvailable ins) (found ∷ read_of d ++ key) → IsAvailable ins entry)
-      → (p : ProgramView) (t : TableState) (h : Held) (m i : ℕ) (own : List ℕ) (f : Pointer) → IsOf p m i d → (decl_of t.decls m).key ≡ bytes
+      → (p : ProgramView) (t : TableState) (h : StageValues) (m i : ℕ) (own : List ℕ) (f : Pointer) → IsOf p m i d → (decl_of t.decls m).key ≡ bytes
       → ((v : Env (Name P)) → ShowsPending v p t h i d → number_in v entry ≡ pointer_number (found_as d.act (written_pointer p t h i) f))
       → Gives q old new (found ∷ read_of d ++ key) (λ v. ShowsPending v p t h i d × (bytes_of bytes (map_list (number_in v) key) ≡ own) × (number_in v found ≡ pointer_number f)) (λ v. pointer_number (found_over p t h own f i)) bits out
   over_given old new d key entry found out bits bytes x there p t h m i own f is e shows =
@@ -181,7 +167,7 @@ module _ {P : Type 0} (q : P) where
       ∙ ap (λ n. if on (number_in v d.writes) && bytes_eq (bytes_of bytes (map_list (number_in v) d.nets.now.key.items)) own then number_in v entry else n) k.2
       ∙ over_number v p t h m i bytes own f d is e k.0 (number_in v entry) (shows v k.0))
 
-  module _ (old : List (BlockWireTree (Name P))) (nets : SiteOperands (Name P)) (ds : List (Pending (Name P))) (slot : Operand (Name P)) (p : ProgramView) (t : TableState) (h : Held) (before : List ℕ) (j : ℕ) (d : MapDecl) (e : decl_of t.decls (site_at p.sites j).map ≡ d)
+  module _ (old : List (BlockWireTree (Name P))) (nets : SiteOperands (Name P)) (ds : List (Pending (Name P))) (slot : Operand (Name P)) (p : ProgramView) (t : TableState) (h : StageValues) (before : List ℕ) (j : ℕ) (d : MapDecl) (e : decl_of t.decls (site_at p.sites j).map ≡ d)
       (of : AreOf p (site_at p.sites j).map before ds) where
     abbrev own : List ℕ
     own = asked_key t.decls h (site_at p.sites j)

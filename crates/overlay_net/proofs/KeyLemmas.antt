@@ -2,19 +2,21 @@
 use Rattle.std.specs.Int.{byte_at, bytes_low_first}
 use Rattle.std.specs.Prelude.{min}
 use Rattle.std.specs.Str.{bytes_eq}
-use Rattle.std.proofs.Common.{◌≡◌, ◌∙◌, ℕ, zero, suc, ◌+◌, ◌-◌, ◌*◌, ◌/◌, ◌%◌, ◌^◌, ◌==◌, ◌<◌, ◌≤◌, Bool, true, false, ◌&&◌, List, [], ◌∷◌, ◌++◌, length, take, drop, get_or, zero-add, refl, sym, ap, arith, ◌⊎◌, inl, inr, map as map_list}
+use Rattle.std.proofs.Common.{◌≡◌, ◌∙◌, ℕ, zero, suc, ◌+◌, ◌-◌, ◌*◌, ◌/◌, ◌%◌, ◌^◌, ◌==◌, ◌<◌, ◌≤◌, Bool, true, false, ◌&&◌, List, [], ◌∷◌, ◌++◌, length, drop, get_or, refl, sym, ap, arith, ◌⊎◌, inl, inr, map as map_list}
 use Rattle.std.proofs.Math.Arith.{mod-mul}
 use Rattle.std.proofs.Math.Seq.{drop-cons}
-use Rattle.std.proofs.Math.Nat.{div-div-eq-div-mul, div-one, pow-suc}
+use Rattle.std.proofs.Math.Nat.{div-div-eq-div-mul, pow-suc}
 use Rattle.std.proofs.lemmas.Bool.{cases_lt, eqb-true, eqb-false, eq-eqb}
 use Rattle.std.proofs.lemmas.List.{take-append-le}
-use Rattle.std.proofs.lemmas.Nat.{pow_pos, mod_below}
+use Rattle.std.proofs.lemmas.Nat.{pow_pos}
 use Rattle.byteorder.specs.Endian.{little_bytes}
 use Rattle.byteorder.specs.Numbers.{length-bytes_low_first}
 use Rattle.byteorder.proofs.Bytes.{take-bytes_low_first, pow256}
+use Rattle.block_core.proofs.list_laws_laws.ListLaws.{take_past}
 use Rattle.hazard_core.specs.cell_core.Cells.{bits_from}
 use Rattle.hazard_core.specs.cell_core.Sites.{spelled, bytes_of}
 use Rattle.block_core.specs.net_core.Value.{Env}
+use Rattle.block_core.proofs.list_laws_laws.DigitLaws.{byte_is, byte_small}
 use Rattle.cell_nets.specs.declared.operand.Operand.{Operand}
 use Rattle.cell_nets.specs.Operands.{number_in}
 
@@ -52,10 +54,6 @@ same_digits a b c d h k = by_low (a == c) refl
     by_low true e = by_high (b == d) refl (eqb-true a c e)
     by_low false e = sym (differs (b * 256 + a) (d * 256 + c) (λ f. eqb-false a c e (omega arith)))
 
-byte_is : (j x : ℕ) → byte_at j x ≡ x / 256 ^ j % 256
-byte_is zero x = ap (λ y. y % 256) (sym (div-one x))
-byte_is (suc j) x = refl
-
 some_power : (m : ℕ) → 0 < 256 ^ m
 some_power m = omega (arith, pow_pos (8 * m), pow256 m)
 
@@ -66,9 +64,6 @@ digits m j x =
     ∙ mod-mul (x / 256 ^ j) {m = 256 ^ m} {c = 256} (some_power m) (omega arith)
     ∙ ap (λ k. k % 256 ^ m * 256 + x / 256 ^ j % 256) (sym shift)
     ∙ ap (λ k. x / 256 ^ suc j % 256 ^ m * 256 + k) (sym (byte_is j x))
-
-byte_small : (j x : ℕ) → byte_at j x < 256
-byte_small j x = omega (arith, byte_is j x, mod_below (x / 256 ^ j) 256 (omega arith))
 
 -- so many low bytes are the same where the number in them is
 low_bytes : (m j x y : ℕ) → bytes_eq (bytes_low_first j m x) (bytes_low_first j m y) ≡ (x / 256 ^ j % 256 ^ m == y / 256 ^ j % 256 ^ m)
@@ -84,10 +79,6 @@ same_low m x y = low_bytes m 0 x y ∙ ap (λ k. x / 256 ^ 0 % k == y / 256 ^ 0 
 
 pub front_bytes : (n x : ℕ) (xs : List ℕ) → n ≤ 8 → bytes_of n (x ∷ xs) ≡ bytes_low_first 0 n x
 front_bytes n x xs h = take-append-le n (little_bytes 8 x) (spelled xs) (omega (arith, length-bytes_low_first 0 8 x)) ∙ take-bytes_low_first 0 8 n x h
-
-take_past : (p q : List ℕ) (n : ℕ) → take (length p + n) (p ++ q) ≡ p ++ take n q
-take_past [] q n = rw zero-add refl
-take_past (x ∷ p) q n = let e : suc (length p) + n ≡ suc (length p + n) = omega arith in rw e (ap (λ (xs : List ℕ). x ∷ xs) (take_past p q n))
 
 behind : (n x : ℕ) (xs : List ℕ) → bytes_of (8 + n) (x ∷ xs) ≡ little_bytes 8 x ++ bytes_of n xs
 behind n x xs = take_past (little_bytes 8 x) (spelled xs) n

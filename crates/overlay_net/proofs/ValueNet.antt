@@ -1,6 +1,6 @@
 pub mod Holding
 pub mod BitLemmas
-pub mod ByteLemmas
-pub mod ChangeLemmas
+pub mod ByteLaws
+pub mod ChangeLaws
 pub mod FollowLemmas
-pub mod EntryLemmas
+pub mod EntryLaws

@@ -1,7 +1,6 @@
 -- Whether operations write, and where, by what they do.
 use Rattle.std.specs.Prelude.{not, if◌then◌else◌}
-use Rattle.std.proofs.Common.{◌≡◌, ◌≢◌, ◌∙◌, ℕ, ◌+◌, ◌*◌, ◌==◌, ◌<◌, Bool, true, false, ◌&&◌, List, refl, sym, ap, arith}
-use Rattle.std.proofs.lemmas.Bool.{eqb-true}
+use Rattle.std.proofs.Common.{◌≡◌, ◌≢◌, ◌∙◌, ℕ, ◌+◌, ◌*◌, ◌==◌, Bool, true, false, ◌&&◌, List, refl, sym, ap, arith}
 use Rattle.block_core.specs.net_core.Value.{Env}
 use Rattle.hazard_core.specs.xdp_maps.declared.decl.MapDecl.{MapDecl}
 use Rattle.hazard_core.specs.xdp_maps.declared.decl.MapKind.{MapKind}
@@ -13,12 +12,14 @@ use Rattle.hazard_core.specs.cell_core.Sites.{ProgramView, site_at, records}
 use Rattle.hazard_core.specs.Tables.{TableState, decl_of}
 use Rattle.hazard_core.specs.declared.pointer.Pointer.{Pointer}
 use Rattle.hazard_core.specs.declared.pointer.Pointer.TheVariants.{Null, InSlot, Pending}
-use Rattle.hazard_core.specs.Held.{is_null, Held, held_value, answer_cell, is_update, is_delete, writes_as, writes, adds_key, takes_key, pointer_in, found_cell, update_pointer, written_as, written_pointer}
+use Rattle.hazard_core.specs.StageValues.{is_null, StageValues, stage_value, answer_cell, is_update, is_delete, writes_as, writes, adds_key, takes_key, pointer_in, found_cell, update_pointer, written_as, written_pointer}
 use Rattle.hazard_core.specs.Overlay.{found_as}
+use Rattle.hazard_core.proofs.ActsLaws.{no_update}
 use Rattle.cell_nets.specs.Operands.{number_in}
 use Rattle.overlay_net.specs.SiteOperands.Pointers.{pointer_number}
 use Rattle.overlay_net.specs.SiteOperands.Sites.{SiteOperands, ShowsSite}
 use Rattle.overlay_net.specs.Reading.{IsSite}
+use Rattle.overlay_net.proofs.PointerLaws.{found_on, some_on}
 use Rattle.cell_nets.proofs.StepNets.StepLaws.{on_bit}
 
 not_not : (b : Bool) → not (not b) ≡ b
@@ -36,19 +37,19 @@ pub and_all : (b : Bool) → bit b ≡ bit (b && true)
 and_all true = refl
 and_all false = refl
 
-module _ (p : ProgramView) (decls : List MapDecl) (h : Held) (j : ℕ) (a : Act) (d : MapDecl) (is : IsSite p decls j a d) where
-  writes_is : (w : ℕ → Bool) → ((n : ℕ) → writes_as a d.kind n ≡ w n) → writes p decls h j ≡ (on (held_value h (site_at p.sites j).guard) && w (held_value h (answer_cell p.cells j)))
+module _ (p : ProgramView) (decls : List MapDecl) (h : StageValues) (j : ℕ) (a : Act) (d : MapDecl) (is : IsSite p decls j a d) where
+  writes_is : (w : ℕ → Bool) → ((n : ℕ) → writes_as a d.kind n ≡ w n) → writes p decls h j ≡ (on (stage_value h (site_at p.sites j).guard) && w (stage_value h (answer_cell p.cells j)))
   writes_is w e =
-      let g = on (held_value h (site_at p.sites j).guard) in
-      let n = held_value h (answer_cell p.cells j) in
+      let g = on (stage_value h (site_at p.sites j).guard) in
+      let n = stage_value h (answer_cell p.cells j) in
       ap (λ b. g && writes_as b (decl_of decls (site_at p.sites j).map).kind n) is.act ∙ ap (λ (x : MapDecl). g && writes_as a x.kind n) is.decl ∙ ap (λ b. g && b) (e n)
 
   -- by what it answered
   pub shown_writes : {N : Type 0} (v : Env N) (s : SiteOperands N) (w : ℕ → Bool) → ((n : ℕ) → writes_as a d.kind n ≡ w n) → ShowsSite v p h j s → bit (on (number_in v s.guard) && w (number_in v s.answer)) ≡ bit (writes p decls h j)
   shown_writes v s w e k =
-      ap (λ n. bit (on n && w (number_in v s.answer))) k.guard ∙ ap (λ n. bit (on (held_value h (site_at p.sites j).guard) && w n)) k.answer ∙ ap bit (sym (writes_is w e))
+      ap (λ n. bit (on n && w (number_in v s.answer))) k.guard ∙ ap (λ n. bit (on (stage_value h (site_at p.sites j).guard) && w n)) k.answer ∙ ap bit (sym (writes_is w e))
 
-pub written_is : (p : ProgramView) (t : TableState) (h : Held) (j : ℕ) (a : Act) (d : MapDecl) → IsSite p t.decls j a d → written_pointer p t h j ≡ written_as a d.kind p t h j
+pub written_is : (p : ProgramView) (t : TableState) (h : StageValues) (j : ℕ) (a : Act) (d : MapDecl) → IsSite p t.decls j a d → written_pointer p t h j ≡ written_as a d.kind p t h j
 written_is p t h j a d is = ap (λ b. written_as b (decl_of t.decls (site_at p.sites j).map).kind p t h j) is.act ∙ ap (λ (x : MapDecl). written_as a x.kind p t h j) is.decl
 
 -- an access writes whatever it answers
@@ -61,21 +62,13 @@ others_write (act.Store at size) k n u e = refl
 others_write (act.Atomic at a) k n u e = refl
 
 -- and where its pointer is
-pub others_through : (a : Act) (d : MapDecl) (p : ProgramView) (t : TableState) (h : Held) (j : ℕ) → a ≢ act.Update → a ≢ act.Delete → written_as a d.kind p t h j ≡ written_as act.Lookup d.kind p t h j
+pub others_through : (a : Act) (d : MapDecl) (p : ProgramView) (t : TableState) (h : StageValues) (j : ℕ) → a ≢ act.Update → a ≢ act.Delete → written_as a d.kind p t h j ≡ written_as act.Lookup d.kind p t h j
 others_through act.Lookup d p t h j u e = refl
 others_through (act.Load at size) d p t h j u e = refl
 others_through act.Update d p t h j u e = absurd (u refl)
 others_through act.Delete d p t h j u e = absurd (e refl)
 others_through (act.Store at size) d p t h j u e = refl
 others_through (act.Atomic at a) d p t h j u e = refl
-
-pub no_update : (a : Act) → a ≢ act.Update → is_update a ≡ false
-no_update act.Update u = absurd (u refl)
-no_update act.Lookup u = refl
-no_update (act.Load at size) u = refl
-no_update act.Delete u = refl
-no_update (act.Store at size) u = refl
-no_update (act.Atomic at a) u = refl
 
 pub no_delete : (a : Act) → a ≢ act.Delete → is_delete a ≡ false
 no_delete act.Delete u = absurd (u refl)
@@ -94,18 +87,6 @@ others_stay (act.Store at size) written found u e = refl
 others_stay (act.Atomic at a) written found u e = refl
 
 -- ---- pointers as numbers
-some_on : (n : ℕ) → 0 < n → on n ≡ true
-some_on n h = by (n == 0) refl
-  where
-    by : (b : Bool) → (n == 0) ≡ b → not b ≡ true
-    by true e = absurd (let z : n ≡ 0 = eqb-true n 0 e in omega arith)
-    by false e = refl
-
-pub found_on : (q : Pointer) → on (pointer_number q) ≡ not (is_null q)
-found_on Null = refl
-found_on (InSlot n) = some_on (4 * n + 1) (omega arith)
-found_on (Pending j) = some_on (4 * j + 2) (omega arith)
-
 pub update_number : (j : ℕ) (q : Pointer) → (if on (pointer_number q) then pointer_number q else 4 * j + 2) ≡ pointer_number (update_pointer j q)
 update_number j Null = refl
 update_number j (InSlot n) = ap (λ b. if b then 4 * n + 1 else 4 * j + 2) (some_on (4 * n + 1) (omega arith))
@@ -128,7 +109,7 @@ two_all : (w u : Bool) → u ≡ true → bit w ≡ bit (w && u)
 two_all true u e = ap bit (sym e)
 two_all false u e = refl
 
-module _ (p : ProgramView) (decls : List MapDecl) (h : Held) (j : ℕ) (a : Act) (is : (site_at p.sites j).act ≡ a) where
+module _ (p : ProgramView) (decls : List MapDecl) (h : StageValues) (j : ℕ) (a : Act) (is : (site_at p.sites j).act ≡ a) where
   pub update_adds : (w f : ℕ) → a ≡ act.Update → w ≡ bit (writes p decls h j) → f ≡ pointer_number (pointer_in h (found_cell p.cells j)) → bit (on w && not (on f)) ≡ bit (adds_key p decls h j)
   update_adds w f u ew ef =
       let q = pointer_in h (found_cell p.cells j) in
@@ -147,7 +128,7 @@ module _ (p : ProgramView) (decls : List MapDecl) (h : Held) (j : ℕ) (a : Act)
   other_takes u = two_none (writes p decls h j) (is_delete (site_at p.sites j).act) (ap is_delete is ∙ no_delete a u)
 
 -- an update writes the entry that it found, or makes one
-pub update_written : (p : ProgramView) (t : TableState) (h : Held) (j : ℕ) (a : Act) (d : MapDecl) → IsSite p t.decls j a d → a ≡ act.Update → d.kind ≡ kind.Hash → (f : ℕ) → f ≡ pointer_number (pointer_in h (found_cell p.cells j)) → (if on f then f else 4 * j + 2) ≡ pointer_number (written_pointer p t h j)
+pub update_written : (p : ProgramView) (t : TableState) (h : StageValues) (j : ℕ) (a : Act) (d : MapDecl) → IsSite p t.decls j a d → a ≡ act.Update → d.kind ≡ kind.Hash → (f : ℕ) → f ≡ pointer_number (pointer_in h (found_cell p.cells j)) → (if on f then f else 4 * j + 2) ≡ pointer_number (written_pointer p t h j)
 update_written p t h j a d is u k f e =
     ap (λ n. if on n then n else 4 * j + 2) e
     ∙ update_number j (pointer_in h (found_cell p.cells j))

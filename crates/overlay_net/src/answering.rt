@@ -10,7 +10,7 @@ ghost use Rattle.hazard_core.specs.cell_core.declared.site.Act.TheVariants as ac
 ghost use Rattle.hazard_core.specs.cell_core.Cells.{bit, on, bits_from, phi};
 ghost use Rattle.hazard_core.specs.cell_core.Sites.{ProgramView, site_at};
 ghost use Rattle.hazard_core.specs.Tables.{TableState, table_at, used_count};
-ghost use Rattle.hazard_core.specs.Held.{Held, adds_key, takes_key};
+ghost use Rattle.hazard_core.specs.StageValues.{StageValues, adds_key, takes_key};
 ghost use Rattle.hazard_core.specs.Overlay.{answer_over};
 ghost use Rattle.cell_nets.specs.Operands.{IsOperand, IsNarrow, IsWide, number_in};
 ghost use Rattle.cell_nets.specs.Wires.{wires_of, always, HasBits, Gives};
@@ -48,7 +48,7 @@ fn keys_added<P: Copy>(
     requires pending { All HasOperands pending.now }
     ensures operand { IfOk result IsOperand }
     ensures bits { IfOk result (HasBits COUNT_BITS) }
-    ensures given { (p : ProgramView) (t : TableState) (h : Held) (m : ℕ) (before : List ℕ) → AreOf p m before pending.now → IfOk result (Gives part (wires_of wires.old.items) (wires_of wires.new.items) (start ∷ all_read pending.now)
+    ensures given { (p : ProgramView) (t : TableState) (h : StageValues) (m : ℕ) (before : List ℕ) → AreOf p m before pending.now → IfOk result (Gives part (wires_of wires.old.items) (wires_of wires.new.items) (start ∷ all_read pending.now)
         (λ v. ShowPending v p t h before pending.now) (λ v. bits_from (number_in v start + count_by (adds_key p t.decls h) before) 0 COUNT_BITS) COUNT_BITS) }
 {
     let mut count = cut(alloc, wires, part, start, 0, COUNT_BITS)?;
@@ -71,7 +71,7 @@ fn keys_taken<P: Copy>(
     requires pending { All HasOperands pending.now }
     ensures operand { IfOk result IsOperand }
     ensures bits { IfOk result (HasBits COUNT_BITS) }
-    ensures given { (p : ProgramView) (t : TableState) (h : Held) (m : ℕ) (before : List ℕ) → AreOf p m before pending.now → IfOk result (Gives part (wires_of wires.old.items) (wires_of wires.new.items) (start ∷ all_read pending.now)
+    ensures given { (p : ProgramView) (t : TableState) (h : StageValues) (m : ℕ) (before : List ℕ) → AreOf p m before pending.now → IfOk result (Gives part (wires_of wires.old.items) (wires_of wires.new.items) (start ∷ all_read pending.now)
         (λ v. ShowPending v p t h before pending.now) (λ v. bits_from (number_in v start + count_by (takes_key p t.decls h) before) 0 COUNT_BITS) COUNT_BITS) }
 {
     let mut count = cut(alloc, wires, part, start, 0, COUNT_BITS)?;
@@ -210,7 +210,7 @@ fn is_full<P: Copy>(
     requires used_narrow { IsNarrow 17 used }
     ensures operand { IfOk result IsOperand }
     ensures bits { IfOk result (HasBits 1) }
-    ensures given { (p : ProgramView) (t : TableState) (h : Held) (m : ℕ) (before : List ℕ) → AreOf p m before pending.now → IfOk result (Gives part (wires_of wires.old.items) (wires_of wires.new.items) (used ∷ all_read pending.now)
+    ensures given { (p : ProgramView) (t : TableState) (h : StageValues) (m : ℕ) (before : List ℕ) → AreOf p m before pending.now → IfOk result (Gives part (wires_of wires.old.items) (wires_of wires.new.items) (used ∷ all_read pending.now)
         (λ v. ShowPending v p t h before pending.now × (number_in v used ≡ used_count (table_at t m))) (λ v. bit (nat_le (cap + count_by (takes_key p t.decls h) before) (used_count (table_at t m) + count_by (adds_key p t.decls h) before))) 1) }
 {
     let room = Operand::Known(cap as u64);
@@ -245,7 +245,7 @@ pub fn update_answer<P: Copy>(
     requires width { width ≤ 64 }
     ensures operand { IfOk result IsOperand }
     ensures bits { IfOk result (HasBits width) }
-    ensures given { (p : ProgramView) (t : TableState) (h : Held) (before : List ℕ) (j : ℕ) → IsSite p t.decls j act.Update decl.now → AreOf p (site_at p.sites j).map before pending.now → IfOk result (Gives part (wires_of wires.old.items) (wires_of wires.new.items) (key ∷ used ∷ all_of (operands_of nets.now) ++ all_read pending.now)
+    ensures given { (p : ProgramView) (t : TableState) (h : StageValues) (before : List ℕ) (j : ℕ) → IsSite p t.decls j act.Update decl.now → AreOf p (site_at p.sites j).map before pending.now → IfOk result (Gives part (wires_of wires.old.items) (wires_of wires.new.items) (key ∷ used ∷ all_of (operands_of nets.now) ++ all_read pending.now)
         (λ v. ShowsAsked v p h j (operands_of nets.now) × ShowPending v p t h before pending.now × ShowsKey v p t h before j key × (number_in v used ≡ used_count (table_at t (site_at p.sites j).map)))
         (λ v. bits_from (answer_over p t h before j) from width) width) }
 {
@@ -301,7 +301,7 @@ pub fn delete_answer<P: Copy>(
     requires width { width ≤ 64 }
     ensures operand { IfOk result IsOperand }
     ensures bits { IfOk result (HasBits width) }
-    ensures given { (p : ProgramView) (t : TableState) (h : Held) (before : List ℕ) (j : ℕ) → IsSite p t.decls j act.Delete decl.now → IfOk result (Gives part (wires_of wires.old.items) (wires_of wires.new.items) (key ∷ [])
+    ensures given { (p : ProgramView) (t : TableState) (h : StageValues) (before : List ℕ) (j : ℕ) → IsSite p t.decls j act.Delete decl.now → IfOk result (Gives part (wires_of wires.old.items) (wires_of wires.new.items) (key ∷ [])
         (λ v. ShowsKey v p t h before j key) (λ v. bits_from (answer_over p t h before j) from width) width) }
 {
     match decl.kind {
@@ -328,7 +328,7 @@ pub fn lookup_answer<P: Copy>(
     requires width { width ≤ 64 }
     ensures operand { IfOk result IsOperand }
     ensures bits { IfOk result (HasBits width) }
-    ensures given { (p : ProgramView) (t : TableState) (h : Held) (before : List ℕ) (j : ℕ) → (site_at p.sites j).act ≡ act.Lookup → IfOk result (Gives part (wires_of wires.old.items) (wires_of wires.new.items) (key ∷ [])
+    ensures given { (p : ProgramView) (t : TableState) (h : StageValues) (before : List ℕ) (j : ℕ) → (site_at p.sites j).act ≡ act.Lookup → IfOk result (Gives part (wires_of wires.old.items) (wires_of wires.new.items) (key ∷ [])
         (λ v. ShowsKey v p t h before j key) (λ v. bits_from (answer_over p t h before j) from width) width) }
 {
     let out = by_presence(alloc, wires, part, key, 1, 0, from, width)?;

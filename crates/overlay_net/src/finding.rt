@@ -7,7 +7,7 @@ ghost use Rattle.hazard_core.specs.cell_core.Cells.{on};
 ghost use Rattle.hazard_core.specs.cell_core.Sites.{ProgramView, site_at, bytes_of};
 ghost use Rattle.hazard_core.specs.Tables.{TableState, decl_of};
 ghost use Rattle.hazard_core.specs.declared.pointer.Pointer.{Pointer};
-ghost use Rattle.hazard_core.specs.Held.{Held};
+ghost use Rattle.hazard_core.specs.StageValues.{StageValues};
 ghost use Rattle.hazard_core.specs.Overlay.{found_over, key_pointer, found_pointer};
 ghost use Rattle.cell_nets.specs.Operands.{IsOperand, IsNarrow, IsWide, IsAvailable, number_in};
 ghost use Rattle.cell_nets.specs.Wires.{wires_of, always, HasBits, Gives};
@@ -75,7 +75,7 @@ fn found_over<P: Copy>(
     requires found_bits { HasBits bits found }
     ensures operand { IfOk result IsOperand }
     ensures bits { IfOk result (HasBits bits) }
-    ensures given { (p : ProgramView) (t : TableState) (h : Held) (m i : ℕ) (own : List ℕ) (f : Pointer) → IsOf p m i seen.now → (decl_of t.decls m).key ≡ bytes → IfOk result (Gives part (wires_of wires.old.items) (wires_of wires.new.items) (found ∷ read_of seen.now ++ key.now)
+    ensures given { (p : ProgramView) (t : TableState) (h : StageValues) (m i : ℕ) (own : List ℕ) (f : Pointer) → IsOf p m i seen.now → (decl_of t.decls m).key ≡ bytes → IfOk result (Gives part (wires_of wires.old.items) (wires_of wires.new.items) (found ∷ read_of seen.now ++ key.now)
         (λ v. ShowsPending v p t h i seen.now × (bytes_of bytes (map_list (number_in v) key.now) ≡ own) × (number_in v found ≡ pointer_number f)) (λ v. pointer_number (found_over p t h own f i)) bits) }
 {
     match seen.act {
@@ -122,7 +122,7 @@ pub fn key_pointer<P: Copy>(
     requires slot_narrow { IsNarrow bits slot }
     ensures operand { IfOk result IsOperand }
     ensures bits { IfOk result (HasBits bits) }
-    ensures given { (p : ProgramView) (t : TableState) (h : Held) (before : List ℕ) (j : ℕ) → decl_of t.decls (site_at p.sites j).map ≡ decl.now → AreOf p (site_at p.sites j).map before pending.now → IfOk result (Gives part (wires_of wires.old.items) (wires_of wires.new.items) (slot ∷ all_of (operands_of nets.now) ++ all_read pending.now)
+    ensures given { (p : ProgramView) (t : TableState) (h : StageValues) (before : List ℕ) (j : ℕ) → decl_of t.decls (site_at p.sites j).map ≡ decl.now → AreOf p (site_at p.sites j).map before pending.now → IfOk result (Gives part (wires_of wires.old.items) (wires_of wires.new.items) (slot ∷ all_of (operands_of nets.now) ++ all_read pending.now)
         (λ v. ShowsAsked v p h j (operands_of nets.now) × ShowsSlot v p t h j slot × ShowPending v p t h before pending.now) (λ v. pointer_number (key_pointer p t h before j)) bits) }
 {
     let mut found = cut(alloc, wires, part, slot, 0, bits)?;
@@ -167,7 +167,7 @@ pub fn found_pointer<P: Copy>(
     requires key_narrow { IsNarrow bits key }
     ensures operand { IfOk result IsOperand }
     ensures bits { IfOk result (HasBits bits) }
-    ensures given { (p : ProgramView) (t : TableState) (h : Held) (before : List ℕ) (j : ℕ) → (site_at p.sites j).act ≡ act → IfOk result (Gives part (wires_of wires.old.items) (wires_of wires.new.items) (key ∷ all_of (operands_of nets.now))
+    ensures given { (p : ProgramView) (t : TableState) (h : StageValues) (before : List ℕ) (j : ℕ) → (site_at p.sites j).act ≡ act → IfOk result (Gives part (wires_of wires.old.items) (wires_of wires.new.items) (key ∷ all_of (operands_of nets.now))
         (λ v. ShowsAsked v p h j (operands_of nets.now) × ShowsKey v p t h before j key) (λ v. pointer_number (found_pointer p t h before j)) bits) }
 {
     match act {

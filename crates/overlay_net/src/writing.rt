@@ -7,7 +7,7 @@ ghost use Rattle.hazard_core.specs.cell_core.declared.site.Act.TheVariants as do
 ghost use Rattle.hazard_core.specs.cell_core.Cells.{bit};
 ghost use Rattle.hazard_core.specs.cell_core.Sites.{ProgramView, site_at};
 ghost use Rattle.hazard_core.specs.Tables.{TableState};
-ghost use Rattle.hazard_core.specs.Held.{Held, writes, written_pointer, adds_key, takes_key};
+ghost use Rattle.hazard_core.specs.StageValues.{StageValues, writes, written_pointer, adds_key, takes_key};
 ghost use Rattle.cell_nets.specs.Operands.{IsOperand, IsNarrow, IsWide, number_in};
 ghost use Rattle.cell_nets.specs.Wires.{wires_of, HasBits, Gives};
 ghost use Rattle.overlay_net.specs.SiteOperands.Pointers.{pointer_number};
@@ -36,7 +36,7 @@ pub fn writes<P: Copy>(
     requires { All IsOperand (all_of (operands_of nets.now)) }
     ensures operand { IfOk result IsOperand }
     ensures bits { IfOk result (HasBits 1) }
-    ensures given { (p : ProgramView) (decls : List MapDecl) (h : Held) (j : ℕ) → IsSite p decls j act decl.now → IfOk result (Gives part (wires_of wires.old.items) (wires_of wires.new.items) (all_of (operands_of nets.now)) (λ v. ShowsSite v p h j (operands_of nets.now)) (λ v. bit (writes p decls h j)) 1) }
+    ensures given { (p : ProgramView) (decls : List MapDecl) (h : StageValues) (j : ℕ) → IsSite p decls j act decl.now → IfOk result (Gives part (wires_of wires.old.items) (wires_of wires.new.items) (all_of (operands_of nets.now)) (λ v. ShowsSite v p h j (operands_of nets.now)) (λ v. bit (writes p decls h j)) 1) }
 {
     match act {
         Act::Update => {
@@ -81,7 +81,7 @@ pub fn written_pointer<P: Copy>(
     requires slot { IsNarrow bits slot }
     ensures operand { IfOk result IsOperand }
     ensures bits { IfOk result (HasBits bits) }
-    ensures given { (p : ProgramView) (t : TableState) (h : Held) → IsSite p t.decls number act decl.now → IfOk result (Gives part (wires_of wires.old.items) (wires_of wires.new.items) (slot ∷ all_of (operands_of nets.now)) (λ v. ShowsSite v p h number (operands_of nets.now) × (act ≡ does.Update → decl.now.kind ≡ kind.Array → ShowsSlot v p t h number slot)) (λ v. pointer_number (written_pointer p t h number)) bits) }
+    ensures given { (p : ProgramView) (t : TableState) (h : StageValues) → IsSite p t.decls number act decl.now → IfOk result (Gives part (wires_of wires.old.items) (wires_of wires.new.items) (slot ∷ all_of (operands_of nets.now)) (λ v. ShowsSite v p h number (operands_of nets.now) × (act ≡ does.Update → decl.now.kind ≡ kind.Array → ShowsSlot v p t h number slot)) (λ v. pointer_number (written_pointer p t h number)) bits) }
 {
     match act {
         Act::Update => match decl.kind {
@@ -119,7 +119,7 @@ pub fn adds_key<P: Copy>(
     requires wrote { IsOperand wrote }
     ensures operand { IfOk result IsOperand }
     ensures bits { IfOk result (HasBits 1) }
-    ensures given { (p : ProgramView) (decls : List MapDecl) (h : Held) (j : ℕ) → (site_at p.sites j).act ≡ act → IfOk result (Gives part (wires_of wires.old.items) (wires_of wires.new.items) (wrote ∷ all_of (operands_of nets.now)) (λ v. ShowsSite v p h j (operands_of nets.now) × (number_in v wrote ≡ bit (writes p decls h j))) (λ v. bit (adds_key p decls h j)) 1) }
+    ensures given { (p : ProgramView) (decls : List MapDecl) (h : StageValues) (j : ℕ) → (site_at p.sites j).act ≡ act → IfOk result (Gives part (wires_of wires.old.items) (wires_of wires.new.items) (wrote ∷ all_of (operands_of nets.now)) (λ v. ShowsSite v p h j (operands_of nets.now) × (number_in v wrote ≡ bit (writes p decls h j))) (λ v. bit (adds_key p decls h j)) 1) }
 {
     match act {
         Act::Update => {
@@ -141,7 +141,7 @@ pub fn takes_key<P: Copy>(
     requires { IsOperand wrote }
     ensures operand { IfOk result IsOperand }
     ensures bits { IfOk result (HasBits 1) }
-    ensures given { (p : ProgramView) (decls : List MapDecl) (h : Held) (j : ℕ) → (site_at p.sites j).act ≡ act → IfOk result (Gives part (wires_of wires.old.items) (wires_of wires.new.items) (wrote ∷ []) (λ v. number_in v wrote ≡ bit (writes p decls h j)) (λ v. bit (takes_key p decls h j)) 1) }
+    ensures given { (p : ProgramView) (decls : List MapDecl) (h : StageValues) (j : ℕ) → (site_at p.sites j).act ≡ act → IfOk result (Gives part (wires_of wires.old.items) (wires_of wires.new.items) (wrote ∷ []) (λ v. number_in v wrote ≡ bit (writes p decls h j)) (λ v. bit (takes_key p decls h j)) 1) }
 {
     match act {
         Act::Delete => {

@@ -1,5 +1,5 @@
 -- All the records of a capture, and the whole of it.
-use Rattle.std.proofs.Common.{◌≡◌, ℕ, zero, suc, ◌+◌, ◌<◌, ◌≤◌, List, [], ◌∷◌, ◌++◌, length, drop, Option, Some, None, Result, Ok, Err, refl, sym, ap, subst, ◌∙◌, arith, length-append, length-drop, append_assoc}
+use Rattle.std.proofs.Common.{◌≡◌, ℕ, zero, suc, ◌+◌, ◌<◌, List, [], ◌∷◌, ◌++◌, length, drop, Option, Some, None, Result, Ok, Err, refl, sym, ap, subst, ◌∙◌, arith, length-append, length-drop, append_assoc}
 use Rattle.std.specs.List.{flat_map, AllByRecursion}
 use Rattle.std.proofs.lemmas.List.{append-nil}
 use Rattle.pcap_core.specs.declared.order.Order.{Order}
@@ -41,25 +41,6 @@ records_at-step order index at rest =
     with_same (record_at order index at rest) _ _ (λ p later read.
     let shorter = length-later rest later p (record_at-after order index at rest p later read) in
     records-fuel (length rest) (suc (length later)) order (index + 1) (at + 16 + length p.bytes) later (omega arith) (omega arith))
-
-with_count : (read : Result (Option (Packet × List ℕ)) PcapError) (f : Packet → List ℕ → Coming) (k : ℕ) → ((p : Packet) (later : List ℕ) → read ≡ Ok (Some (p, later)) → length (f p later).0 < k) → length (with_record read f).0 ≤ k
-with_count (Err fault) f k h = omega arith
-with_count (Ok None) f k h = omega arith
-with_count (Ok (Some r)) f k h = omega (arith, h r.0 r.1 refl)
-
-records-count : (n : ℕ) (order : Order) (index at : ℕ) (rest : List ℕ) → length (records_within n order index at rest).0 ≤ length rest
-unfolding records_within
-records-count zero order index at rest = omega arith
-records-count (suc n) order index at rest =
-    with_count (record_at order index at rest) _ (length rest) (λ p later read.
-    let shorter = length-later rest later p (record_at-after order index at rest p later read) in
-    let count = records-count n order (index + 1) (at + 16 + length p.bytes) later in
-    omega arith)
-
--- there are no more records than bytes
-pub records_at-count : (order : Order) (index at : ℕ) (rest : List ℕ) → length (records_at order index at rest).0 ≤ length rest
-unfolding records_at
-records_at-count order index at rest = records-count (suc (length rest)) order index at rest
 
 -- ---- what is read is spelled
 

@@ -1,6 +1,6 @@
 -- A header is read where it is spelled, and its first fault where it is not.
 use Rattle.std.proofs.Common.{◌≡◌, ℕ, ◌<◌, ◌≤◌, ◌⊎◌, Bool, true, false, List, ◌++◌, length, drop, get_or, Option, Some, None, Result, Ok, Err, refl, sym, ap, subst, ◌∙◌, arith, inl, inr}
-use Rattle.std.specs.Prelude.{◌==◌, nat_lt, ◌&&◌, ◌||◌}
+use Rattle.std.specs.Prelude.{◌==◌, nat_lt, ◌||◌}
 use Rattle.std.proofs.lemmas.Bool.{eqb-true, eq-eqb, ltb-true, ltb-false, lt-ltb, le-ltb}
 use Rattle.pcap_core.specs.declared.order.Order.{Order}
 use Rattle.pcap_core.specs.declared.order.Order.TheVariants.{Little, Big}
@@ -10,6 +10,7 @@ use Rattle.pcap_core.specs.Number.{number, spelled}
 use Rattle.pcap_core.specs.Format.{IsMagic, BeginsIn, IsVersion, IsHeaderFault}
 use Rattle.pcap_core.specs.Reading.{is_magic, is_version, order_of, tested, header_of}
 use Rattle.beat_core.specs.list_laws.Bytes.{IsBytes}
+use Rattle.beat_core.proofs.list_laws_laws.BoolLaws.{both_of, either_of}
 
 -- ---- tests and choices
 
@@ -38,23 +39,10 @@ some x = Some x
 pub some_is : {A : Type 0} (x y : A) → some x ≡ some y → x ≡ y
 some_is x y p = cc
 
-both_true : (a b : Bool) → (a && b) ≡ true → (a ≡ true) × (b ≡ true)
-both_true true true h = (refl, refl)
-both_true true false h = absurd cc
-both_true false b h = absurd cc
-
-one_true : (a b : Bool) → (a || b) ≡ true → (a ≡ true) ⊎ (b ≡ true)
-one_true true b h = inl refl
-one_true false b h = inr h
-
-none_true : (a b : Bool) → (a || b) ≡ false → (a ≡ false) × (b ≡ false)
-none_true true b h = absurd cc
-none_true false b h = (refl, h)
-
 -- ---- the tests of a header
 
 is_magic-true : (n : ℕ) → is_magic n ≡ true → IsMagic n
-is_magic-true n h = elim (one_true (n == 0xa1b2c3d4) (n == 0xa1b23c4d) h) [
+is_magic-true n h = elim (either_of (n == 0xa1b2c3d4) (n == 0xa1b23c4d) h) [
   | inl micro ↦ inl (eqb-true n 0xa1b2c3d4 micro)
   | inr nano ↦ inr (eqb-true n 0xa1b23c4d nano)
 ]
@@ -63,12 +51,9 @@ pub IsMagic-is_magic : (n : ℕ) → IsMagic n → is_magic n ≡ true
 IsMagic-is_magic n (inl e) = rw e refl
 IsMagic-is_magic n (inr e) = rw e refl
 
-is_magic-false : (n : ℕ) → is_magic n ≡ false → ¬ IsMagic n
-is_magic-false n h m = let t : is_magic n ≡ true = IsMagic-is_magic n m in absurd cc
-
 is_version-true : (order : Order) (bytes : List ℕ) → is_version order bytes ≡ true → IsVersion order bytes
 is_version-true order bytes h =
-    let both = both_true (number order 2 (drop 4 bytes) == 2) (number order 2 (drop 6 bytes) == 4) h in
+    let both = both_of (number order 2 (drop 4 bytes) == 2) (number order 2 (drop 6 bytes) == 4) h in
     (eqb-true _ 2 both.0, eqb-true _ 4 both.1)
 
 pub IsVersion-is_version : (order : Order) (bytes : List ℕ) → IsVersion order bytes → is_version order bytes ≡ true

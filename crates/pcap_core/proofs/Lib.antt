@@ -5,4 +5,3 @@ pub mod Headers
 pub mod Records
 pub mod ContentLaws
 pub mod OpenLemmas
-pub mod CheckLemmas

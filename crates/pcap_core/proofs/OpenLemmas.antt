@@ -36,7 +36,7 @@ coming_none order index at bytes is = coming_by order index at bytes (Ok None) i
 pub coming_fault : (order : Order) (index at : ℕ) (bytes : List ℕ) (fault : PcapError) → record_at order index at (left_at at bytes) ≡ Err fault → records_at order index at (drop at bytes) ≡ ([], Some fault)
 coming_fault order index at bytes fault is = coming_by order index at bytes (Err fault) is
 
--- behind a packet
+-- after a packet
 abbrev pub place_after : ℕ → Packet → ℕ
 place_after at p = at + (16 + length p.bytes)
 

@@ -7,7 +7,7 @@ use Rattle.pcap_core.proofs.Numbers.{IsWide}
 use Rattle.beat_core.specs.list_laws.Bytes.{IsBytes}
 use Rattle.beat_core.proofs.list_laws_laws.ByteLaws.{IsBytes-drop}
 
--- what stands behind a part of n elements
+-- what stands after a part of n elements
 pub behind : (i n : ℕ) (xs p q : List ℕ) → drop i xs ≡ p ++ q → length p ≡ n → drop (i + n) xs ≡ q
 behind i n xs p q e len = sym (drop-drop n i xs) ∙ ap (drop n) e ∙ drop_at p q n len
 

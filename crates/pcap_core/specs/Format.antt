@@ -108,15 +108,6 @@ pub record IsContent (bytes : List ℕ) (c : Content) : Type 0 where
   pub packets : c.packets ≡ packets_of records
   pub ends : Ends header.order (length records) (length (capture_bytes header records)) rest c.fault
 
--- The bytes are a header and so many records, and nothing else.
-pub record IsCapture (bytes : List ℕ) (count : ℕ) : Type 0 where
-  pub header : Header
-  pub is_header : IsHeader header
-  pub records : List Record
-  pub are_records : AllByRecursion IsRecord records
-  pub spelling : bytes ≡ capture_bytes header records
-  pub counted : count ≡ length records
-
 -- ---- the first fault of a header
 
 -- the order in which the first four bytes are a magic number

@@ -1,5 +1,5 @@
 -- What a reader of a capture gives, as functions of the bytes. That they read the format is a law.
-use Rattle.std.specs.Prelude.{◌≡◌, ℕ, zero, suc, ◌+◌, Bool, ◌==◌, nat_lt, nat_le, ◌&&◌, ◌||◌, not, if◌then◌else◌, List, [], ◌∷◌, length, take, drop, Option, Some, None, Result, Ok, Err}
+use Rattle.std.specs.Prelude.{ℕ, zero, suc, ◌+◌, Bool, ◌==◌, nat_lt, nat_le, ◌&&◌, ◌||◌, not, if◌then◌else◌, List, [], ◌∷◌, length, take, drop, Option, Some, None, Result, Ok, Err}
 use Rattle.pcap_core.specs.declared.order.Order.{Order}
 use Rattle.pcap_core.specs.declared.order.Order.TheVariants.{Little, Big}
 use Rattle.pcap_core.specs.declared.error.PcapError.{PcapError}
@@ -80,20 +80,3 @@ with_header (Ok order) bytes = Ok (content_from (number order 4 bytes) (records_
 -- what a capture holds, or the fault of its header
 unfoldable pub content_of : List ℕ → Result Content PcapError
 content_of bytes = with_header (header_of bytes) bytes
-
--- how many packets there are, where no fault comes after them
-abbrev pub counted : Option PcapError → ℕ → Result ℕ PcapError
-counted None count = Ok count
-counted (Some fault) count = Err fault
-
--- how many packets a capture without fault holds, or its first fault
-abbrev pub count_of : Result Content PcapError → Result ℕ PcapError
-count_of (Err fault) = Err fault
-count_of (Ok c) = counted c.fault (length c.packets)
-
--- the bytes are read as so many packets, and no fault comes after them
-pub record IsReadWhole (bytes : List ℕ) (count : ℕ) : Type 0 where
-  pub content : Content
-  pub read : content_of bytes ≡ Ok content
-  pub faultless : content.fault ≡ None
-  pub count_is : count ≡ length content.packets

@@ -1,9 +1,9 @@
 //! A capture, packet by packet.
 
-ghost use Rattle.std.specs.Prelude.{◌≡◌, ℕ, ◌<◌, ◌^◌, length, MatchResult, IfOk, Ok};
+ghost use Rattle.std.specs.Prelude.{◌≡◌, ◌<◌, ◌^◌, length, MatchResult, IfOk, Ok};
 ghost use Rattle.beat_core.specs.Laws.{IsPacket};
-ghost use Rattle.pcap_core.specs.Format.{IsLength, IsContent, IsHeaderFault, IsCapture};
-ghost use Rattle.pcap_core.specs.Reading.{content_of, count_of, counted, IsReadWhole};
+ghost use Rattle.pcap_core.specs.Format.{IsLength, IsContent, IsHeaderFault};
+ghost use Rattle.pcap_core.specs.Reading.{content_of};
 ghost use Rattle.pcap_core.specs.Next.{GivesNext, GivesFrame, seen};
 ghost use Rattle.pcap_core.specs.Time.{time_of, timed_of};
 
@@ -107,35 +107,6 @@ impl<'a> Capture<'a> {
             }
             Ok(None) => Ok(None),
             Err(error) => Err(error),
-        }
-    }
-}
-
-/// How many packets a capture has that is whole, header and each record, or its first fault.
-pub fn check(bytes: &[u8]) -> Result<u64, PcapError>
-    ensures content { result ≡ count_of (content_of bytes.now) }
-    ensures whole { IfOk result (IsReadWhole bytes.now) }
-    // It is Ok exactly where the bytes are a capture.
-    ensures found { IfOk result (IsCapture bytes.now) }
-    ensures only { (count : ℕ) → IsCapture bytes.now count → result ≡ Ok count }
-{
-    match Capture::open(bytes) {
-        Ok(capture) => count(capture),
-        Err(fault) => Err(fault),
-    }
-}
-
-/// How many packets are to come, or the fault after them.
-fn count(mut capture: Capture) -> Result<u64, PcapError>
-    requires { length capture.packets < 2 ^ 64 }
-    ensures { result ≡ counted capture.entry.fault (length capture.entry.packets) }
-{
-    let mut count = 0;
-    loop {
-        match capture.next() {
-            Ok(Some(_)) => count += 1,
-            Ok(None) => return Ok(count),
-            Err(fault) => return Err(fault),
         }
     }
 }

@@ -1,5 +1,5 @@
 //! Capture files of the libpcap format, version 2.4, with link type 1 (Ethernet): a reader that borrows
-//! its packets from the file's bytes, a check of a whole file, and the bytes of a file to be written.
+//! its packets from the file's bytes, and the bytes of a file to be written.
 #![tactic(auto)]
 
 mod capture;
@@ -9,7 +9,7 @@ mod laws;
 mod order;
 mod record;
 
-pub use capture::{Capture, check};
+pub use capture::Capture;
 pub use error::PcapError;
 pub use header::{MICROSECONDS, NANOSECONDS, write_header};
 pub use laws::one_reading;

@@ -11,31 +11,32 @@ use Rattle.hazard_core.specs.cell_core.Sites.{SiteView, site_at}
 use Rattle.hazard_core.specs.cell_core.Rows.{numbers}
 use Rattle.hazard_core.specs.Tables.{TableState}
 use Rattle.hazard_core.specs.declared.pointer.Pointer.TheVariants.{Null}
-use Rattle.hazard_core.specs.Held.{Held, with_cell, guard_on, writes}
+use Rattle.hazard_core.specs.StageValues.{StageValues, with_cell, guard_on, writes}
 use Rattle.hazard_core.specs.Rows.{cell_number, cell_pointer, with_made, made_from, with_row}
 use Rattle.hazard_core.specs.declared.change.Change.{Change}
 use Rattle.hazard_core.specs.Marks.{known_on, known_off}
 use Rattle.hazard_core.specs.Changes.{IsRightCommit, CommitsChange}
 use Rattle.hazard_core.specs.Commits.{committed, change_by}
 use Rattle.realization.specs.beat_core.Ports.{Arrival}
-use Rattle.pipe_core.specs.Machine.{Packet, State, Build, Turn, Commits, Writes, Moves, packet_of, marked_at, injected, with_kept_marks, entered, struck, is_due, sends, some_send, worked, work}
+use Rattle.hazard_core.proofs.cell_core_laws.NumberLaws.{marked_of}
+use Rattle.pipe_core.specs.Machine.{Packet, State, Build, Action, Commits, Writes, Moves, packet_of, marked_at, injected, with_kept_marks, entered, marked_by, must_reload, sends, some_send, worked, work}
 use Rattle.pipe_core.specs.History.{next}
-use Rattle.pipe_core.specs.Agreement.{UpdatesFind, Agrees, excused_as, off_below, EnteringAgrees, StrikingAgrees}
+use Rattle.pipe_core.specs.Agreement.{UpdatesFind, Agrees, excused_as, off_below, EnteringAgrees, MarkingAgrees}
 use Rattle.pipe_core.specs.Pipeable.{IsPipeable}
 use Rattle.pipe_core.specs.Placed.{Placed}
-use Rattle.pipe_core.specs.Watched.{Watched, views_below, views_on, views_after, rest_of, turn_in, observed}
+use Rattle.pipe_core.specs.SeenChanges.{SeenChanges, views_below, views_on, views_after, rest_of, action_in, observed}
 use Rattle.pipe_core.specs.Marked.{touched_then, MarksAre}
-use Rattle.pipe_core.specs.Agreed.{IsClean, IsAgreed, IsRightTurn, KeepsAgreed, IsPathMade, PathsAreMade}
-use Rattle.pipe_core.proofs.Agreeing.{marked_of}
+use Rattle.pipe_core.specs.Agreed.{IsClean, IsAgreed, IsRightAction, KeepsAgreed, IsPathMade, PathsAreMade}
 use Rattle.pipe_core.proofs.Computing.{drop_next}
-use Rattle.pipe_core.proofs.Striking.{TablesSame, unread}
+use Rattle.pipe_core.proofs.MarkedBy.{TablesSame, unread}
 use Rattle.pipe_core.proofs.Marking.{keeps_marked}
-use Rattle.pipe_core.proofs.Placing.{Settled, StruckSteps, MovedSteps, TurnSteps, next_placed, settled}
-use Rattle.pipe_core.proofs.Turning.{TurnIs, turn_is, clock_aside}
+use Rattle.pipe_core.proofs.Placing.{Settled, MarkedBySteps, MovedSteps, ActionSteps, next_placed, settled}
+use Rattle.pipe_core.proofs.Acting.{ActionIs, action_is}
+use Rattle.pipe_core.proofs.ClockLaws.{clock_aside}
 
 -- ---- a row without reads does not see the tables
 
-made_without : (b : Build) (r : ℕ) (t u : TableState) (packet : PacketIn) (k : ℕ) (cs : List CellView) (h : Held) → drop k b.program.cells ≡ cs → ((c j : ℕ) → c < length b.program.cells → b.plan.row c ≡ r → site_in (cell_at b.program.cells c).op ≡ Some j → ⊥) →
+made_without : (b : Build) (r : ℕ) (t u : TableState) (packet : PacketIn) (k : ℕ) (cs : List CellView) (h : StageValues) → drop k b.program.cells ≡ cs → ((c j : ℕ) → c < length b.program.cells → b.plan.row c ≡ r → site_in (cell_at b.program.cells c).op ≡ Some j → ⊥) →
     made_from b.program b.plan.row r u packet k cs h ≡ made_from b.program b.plan.row r t packet k cs h
 made_without b r t u packet k [] h e none = refl
 made_without b r t u packet k (c ∷ cs) h e none =
@@ -43,7 +44,7 @@ made_without b r t u packet k (c ∷ cs) h e none =
     ap (made_from b.program b.plan.row r u packet (suc k) cs) (one (b.plan.row k == r) refl q.0 q.1)
     ∙ made_without b r t u packet (suc k) cs (with_made b.program b.plan.row r t packet h k c) q.2 none
   where
-    made : TableState → Held
+    made : TableState → StageValues
     made v = with_cell h k (bits_from (cell_number b.program b.plan.row r v packet h c c.op) c.from c.width) (cell_pointer b.program b.plan.row r v h c c.op)
 
     no_site : b.plan.row k ≡ r → cell_at b.program.cells k ≡ c → k < length b.program.cells → (o : Option ℕ) → site_in c.op ≡ o → site_in c.op ≡ None
@@ -60,7 +61,7 @@ made_without b r t u packet k (c ∷ cs) h e none =
 late_row : (b : Build) → IsPipeable b → (t u : TableState) (k : ℕ) (c : Arrival) (x : Packet) → b.plan.commit < k → entered b u k c x ≡ entered b t k c x
 unfolding entered with_row
 late_row b fit t u k c x late =
-    ap (λ (h : Held). with_kept_marks b k h x)
+    ap (λ (h : StageValues). with_kept_marks b k h x)
     (made_without b k t u (packet_of c) 0 b.program.cells x.held refl (λ i j l here e. let low = fit.read_rows i j l e in omega (arith, low, here, late)))
 
 -- ---- a packet that stays
@@ -86,7 +87,7 @@ guard_row b fit j k l up = let low = (fit.site_rows j l).0 in le-leb (b.plan.row
 -- at the commit place a packet that is not sent back has no mark
 unmarked_here : (b : Build) → IsPipeable b → (seen : Bool) (x : Packet) (j : ℕ) → j < length b.program.sites → sends b b.plan.commit (Some x) ≡ false →
     marked_at x j ≡ seen && not (known_off b.plan.row b.plan.commit x.held (site_at b.program.sites j)) → marked_at x j ≡ false
-unfolding is_due
+unfolding must_reload
 unmarked_here b fit seen x j l unsent m = by (marked_at x j) refl
   where
     s : SiteView
@@ -98,15 +99,15 @@ unmarked_here b fit seen x j l unsent m = by (marked_at x j) refl
     test : ℕ → Bool
     test i = marked_at x i && known_on b.plan.row b.plan.commit x.held (site_at b.program.sites i)
 
-    due : list_any test (numbers 0 (length b.program.sites)) ≡ false
-    due = ap (λ c. c && list_any test (numbers 0 (length b.program.sites))) (sym (le-leb b.plan.commit b.plan.commit (omega arith))) ∙ unsent
+    reload : list_any test (numbers 0 (length b.program.sites)) ≡ false
+    reload = ap (λ c. c && list_any test (numbers 0 (length b.program.sites))) (sym (le-leb b.plan.commit b.plan.commit (omega arith))) ∙ unsent
 
     by : (c : Bool) → marked_at x j ≡ c → c ≡ false
     by false e = refl
     by true e =
         let on : guard_on x.held s ≡ true = on_if (nat_le (b.plan.row s.guard) b.plan.commit) (guard_on x.held s) seen known (sym m ∙ e) in
         let passes : test (0 + j) ≡ true = ap test (omega arith) ∙ ap (λ c. c && known_on b.plan.row b.plan.commit x.held s) e ∙ ap (λ c. c && guard_on x.held s) known ∙ on in
-        absurd (no (sym (any_at test 0 (length b.program.sites) j l passes) ∙ due))
+        absurd (no (sym (any_at test 0 (length b.program.sites) j l passes) ∙ reload))
       where
         no : true ≡ false → ⊥
         no e = cc
@@ -120,7 +121,7 @@ entered_clean b t k c x j l e =
     marked_of (λ j. marked_at x j && not (known_off b.plan.row k g (site_at b.program.sites j))) (length b.program.sites) j l
     ∙ ap (λ d. d && not (known_off b.plan.row k g (site_at b.program.sites j))) e
 
-pub record Known (b : Build) (w : Watched) (k : ℕ) (c : Arrival) (x : Packet) : Type 0 where
+pub record Known (b : Build) (w : SeenChanges) (k : ℕ) (c : Arrival) (x : Packet) : Type 0 where
   pub marks : MarksAre b w.trace.state.tables.decls (w.seen k) k x
   pub clean : IsClean b k x
   pub agrees : Agrees b (w.views k) (packet_of c) (suc k) x
@@ -133,7 +134,7 @@ both_placed P Q R join fs k (Some x ∷ xs) p q = (join k _ x p.0 q.0, both_plac
 pub each_placed : (P Q : ℕ → Arrival → Packet → Type 0) → ((k : ℕ) (c : Arrival) (x : Packet) → P k c x → Q k c x) → (fs : List Arrival) (k : ℕ) (xs : List (Option Packet)) → Placed P fs k xs → Placed Q fs k xs
 each_placed P Q f fs k xs p = both_placed P P Q (λ k c x h g. f k c x h) fs k xs p p
 
-pub all_known : (b : Build) (w : Watched) → IsAgreed b w → Placed (Known b w) w.trace.state.frames 0 w.trace.state.places
+pub all_known : (b : Build) (w : SeenChanges) → IsAgreed b w → Placed (Known b w) w.trace.state.frames 0 w.trace.state.places
 all_known b w h =
     let s = w.trace.state in
     both_placed (λ k c x. MarksAre b s.tables.decls (w.seen k) k x × IsClean b k x) (λ k c x. Agrees b (w.views k) (packet_of c) (suc k) x) (Known b w) (λ k c x p q. record { marks = p.0; clean = p.1; agrees = q }) s.frames 0 s.places
@@ -141,7 +142,7 @@ all_known b w h =
     h.agree
 
 -- from the commit place on a packet that stays has no mark
-pub unmarked : (b : Build) → IsPipeable b → (w : Watched) (rest : List (Option Packet)) (k : ℕ) (c : Arrival) (x : Packet) → b.plan.commit ≤ k → Settled b rest (Known b w) k c x → (j : ℕ) → j < length b.program.sites → marked_at x j ≡ false
+pub unmarked : (b : Build) → IsPipeable b → (w : SeenChanges) (rest : List (Option Packet)) (k : ℕ) (c : Arrival) (x : Packet) → b.plan.commit ≤ k → Settled b rest (Known b w) k c x → (j : ℕ) → j < length b.program.sites → marked_at x j ≡ false
 unmarked b fit w rest k c x up m j l = elim (cases_lt b.plan.commit k) [
   | inl past ↦ m.holds.clean past j l
   | inr low ↦
@@ -149,8 +150,8 @@ unmarked b fit w rest k c x up m j l = elim (cases_lt b.plan.commit k) [
       unmarked_here b fit (list_any (touched_then b w.trace.state.tables.decls j) (w.seen k)) x j l (ap (λ n. sends b n (Some x)) e ∙ m.unsent) (m.holds.marks j l ∙ ap (λ n. list_any (touched_then b w.trace.state.tables.decls j) (w.seen k) && not (known_off b.plan.row n x.held (site_at b.program.sites j))) (sym e))
 ]
 
-struck_clean : (b : Build) (t : TableState) (e : Change) (w : Watched) (rest : List (Option Packet)) → StruckSteps b t e b.plan.commit (Settled b rest (Known b w)) (λ k c x. IsClean b k x)
-struck_clean b t e w rest = record {
+marked_by_clean : (b : Build) (t : TableState) (e : Change) (w : SeenChanges) (rest : List (Option Packet)) → MarkedBySteps b t e b.plan.commit (Settled b rest (Known b w)) (λ k c x. IsClean b k x)
+marked_by_clean b t e w rest = record {
   hit = λ k c x l m past. absurd (under k l past);
   missed = λ k c x l m. m.holds.clean;
 }
@@ -158,7 +159,7 @@ struck_clean b t e w rest = record {
     under : (k : ℕ) → nat_lt k b.plan.commit ≡ true → b.plan.commit < k → ⊥
     under k e past = let m : k < b.plan.commit = grind (arith, nat_tests) in omega (arith, m, past)
 
-moved_clean : (b : Build) → IsPipeable b → (t : TableState) (w : Watched) (rest : List (Option Packet)) → MovedSteps b t (Settled b rest (Known b w)) (λ k c x. IsClean b k x)
+moved_clean : (b : Build) → IsPipeable b → (t : TableState) (w : SeenChanges) (rest : List (Option Packet)) → MovedSteps b t (Settled b rest (Known b w)) (λ k c x. IsClean b k x)
 moved_clean b fit t w rest = record {
   first = λ c past. absurd (omega (arith, past));
   further = λ k c x m past j l. entered_clean b t (suc k) c x j l (unmarked b fit w rest k c x (omega (arith, past)) m j l);
@@ -169,14 +170,14 @@ moved_clean b fit t w rest = record {
 nothing_agrees : (b : Build) (t : TableState) (c : Arrival) → Agrees b t (packet_of c) 0 (injected b.program)
 nothing_agrees b t c = record { values = length-replicate (length b.program.cells) 0; pointers = length-replicate (length b.program.cells) Null; fit = λ i l low read. absurd (omega (arith, low)); each = λ i l low free. absurd (omega (arith, low)) }
 
-struck_agrees : StrikingAgrees → CommitsChange → (b : Build) → IsPipeable b → (w : Watched) (rest : List (Option Packet)) (j : ℕ) (y : Packet) → UpdatesFind w.trace.state.tables.decls b → IsAgreed b w → writes b.program w.trace.state.tables.decls y.held j ≡ true → IsRightCommit b.program w.trace.state.tables w.trace.state.taken y.held j →
-    StruckSteps b w.trace.state.tables (change_by b.program w.trace.state.tables w.trace.state.taken y.held j) b.plan.commit (Settled b rest (Known b w))
+marked_by_agrees : MarkingAgrees → CommitsChange → (b : Build) → IsPipeable b → (w : SeenChanges) (rest : List (Option Packet)) (j : ℕ) (y : Packet) → UpdatesFind w.trace.state.tables.decls b → IsAgreed b w → writes b.program w.trace.state.tables.decls y.held j ≡ true → IsRightCommit b.program w.trace.state.tables w.trace.state.taken y.held j →
+    MarkedBySteps b w.trace.state.tables (change_by b.program w.trace.state.tables w.trace.state.taken y.held j) b.plan.commit (Settled b rest (Known b w))
     (λ k c x. Agrees b (views_below b.plan.commit (committed b.program w.trace.state.tables w.trace.state.taken y.held j) w.views k) (packet_of c) (suc k) x)
 unfolding committed
-struck_agrees striking changes b fit w rest j y updates h on right = record {
+marked_by_agrees marking changes b fit w rest j y updates h on right = record {
   hit = λ k c x l m.
-      subst (λ (d : Bool). Agrees b (if d then u else w.views k) (packet_of c) (suc k) (struck b t k e x)) (sym l)
-      (striking b fit.reads t u.tables e (packet_of c) k x updates (changes b.program t w.trace.state.taken y.held j on right)
+      subst (λ (d : Bool). Agrees b (if d then u else w.views k) (packet_of c) (suc k) (marked_by b t k e x)) (sym l)
+      (marking b fit.reads t u.tables e (packet_of c) k x updates (changes b.program t w.trace.state.taken y.held j on right)
       (subst (λ (v : TableState). Agrees b v (packet_of c) (suc k) x) (h.current k (below k l)) m.holds.agrees));
   missed = λ k c x l m. subst (λ (d : Bool). Agrees b (if d then u else w.views k) (packet_of c) (suc k) x) (sym l) m.holds.agrees;
 }
@@ -193,7 +194,7 @@ struck_agrees striking changes b fit w rest j y updates h on right = record {
     below : (k : ℕ) → nat_lt k b.plan.commit ≡ true → k < b.plan.commit
     below k l = grind (arith, nat_tests)
 
-moved_agrees : EnteringAgrees → (b : Build) → IsPipeable b → (w : Watched) (rest : List (Option Packet)) → IsAgreed b w →
+moved_agrees : EnteringAgrees → (b : Build) → IsPipeable b → (w : SeenChanges) (rest : List (Option Packet)) → IsAgreed b w →
     MovedSteps b w.trace.state.tables (Settled b rest (Known b w)) (λ k c x. Agrees b (views_on b.plan.commit w.trace.state.tables w.views k) (packet_of c) (suc k) x)
 moved_agrees entering b fit w rest h = record {
   first = λ c. entering b fit.reads t c 0 (injected b.program) (nothing_agrees b t c);
@@ -214,22 +215,22 @@ moved_agrees entering b fit w rest h = record {
 
 -- ---- all of a clock
 
-turn_clean : (b : Build) → IsPipeable b → (w : Watched) (rest : List (Option Packet)) (u : Turn) → IsRightTurn b w.trace.state u → TurnSteps b w.trace.state (Settled b rest (Known b w)) (λ k c x. IsClean b k x) u
-turn_clean b fit w rest (Commits j x) right = struck_clean b w.trace.state.tables (change_by b.program w.trace.state.tables w.trace.state.taken x.held j) w rest
-turn_clean b fit w rest (Writes a n) right = absurd right
-turn_clean b fit w rest Moves right = moved_clean b fit w.trace.state.tables w rest
+action_clean : (b : Build) → IsPipeable b → (w : SeenChanges) (rest : List (Option Packet)) (u : Action) → IsRightAction b w.trace.state u → ActionSteps b w.trace.state (Settled b rest (Known b w)) (λ k c x. IsClean b k x) u
+action_clean b fit w rest (Commits j x) right = marked_by_clean b w.trace.state.tables (change_by b.program w.trace.state.tables w.trace.state.taken x.held j) w rest
+action_clean b fit w rest (Writes a n) right = absurd right
+action_clean b fit w rest Moves right = moved_clean b fit w.trace.state.tables w rest
 
-turn_agrees : EnteringAgrees → StrikingAgrees → CommitsChange → (b : Build) → IsPipeable b → (w : Watched) (rest : List (Option Packet)) (u : Turn) → UpdatesFind w.trace.state.tables.decls b → IsAgreed b w → TurnIs b w.trace.state rest u → IsRightTurn b w.trace.state u →
-    TurnSteps b w.trace.state (Settled b rest (Known b w)) (λ k c x. Agrees b (views_after b w.trace.state u w.views k) (packet_of c) (suc k) x) u
-turn_agrees entering striking changes b fit w rest (Commits j x) updates h is right = struck_agrees striking changes b fit w rest j x updates h is.writes_there right
-turn_agrees entering striking changes b fit w rest (Writes a n) updates h is right = absurd right
-turn_agrees entering striking changes b fit w rest Moves updates h is right = moved_agrees entering b fit w rest h
+action_agrees : EnteringAgrees → MarkingAgrees → CommitsChange → (b : Build) → IsPipeable b → (w : SeenChanges) (rest : List (Option Packet)) (u : Action) → UpdatesFind w.trace.state.tables.decls b → IsAgreed b w → ActionIs b w.trace.state rest u → IsRightAction b w.trace.state u →
+    ActionSteps b w.trace.state (Settled b rest (Known b w)) (λ k c x. Agrees b (views_after b w.trace.state u w.views k) (packet_of c) (suc k) x) u
+action_agrees entering marking changes b fit w rest (Commits j x) updates h is right = marked_by_agrees marking changes b fit w rest j x updates h is.writes_there right
+action_agrees entering marking changes b fit w rest (Writes a n) updates h is right = absurd right
+action_agrees entering marking changes b fit w rest Moves updates h is right = moved_agrees entering b fit w rest h
 
 record ViewsKeep (b : Build) (s v : State) (views : ℕ → TableState) : Type 0 where
   current : (k : ℕ) → k < b.plan.commit → views k ≡ v.tables
   begun : v.done ≡ 0 → views b.plan.commit ≡ v.tables
 
-views_keep : (b : Build) (s : State) (back : Bool) (rest : List (Option Packet)) (u : Turn) (views : ℕ → TableState) → IsRightTurn b s u → ViewsKeep b s (worked b s back rest u) (views_after b s u views)
+views_keep : (b : Build) (s : State) (back : Bool) (rest : List (Option Packet)) (u : Action) (views : ℕ → TableState) → IsRightAction b s u → ViewsKeep b s (worked b s back rest u) (views_after b s u views)
 views_keep b s back rest (Commits j x) views right = record {
   current = λ k l. ap (λ (c : Bool). if c then committed b.program s.tables s.taken x.held j else views k) (lt-ltb k b.plan.commit l);
   begun = λ e. absurd (omega (arith, e));
@@ -244,19 +245,19 @@ views_keep b s back rest Moves views right = record {
     at zero l = refl
     at (suc k) l = ap (λ (c : Bool). if c then s.tables else views k) (lt-ltb k b.plan.commit (omega (arith, l)))
 
-pub keeps_agreed : EnteringAgrees → StrikingAgrees → CommitsChange → KeepsAgreed
+pub keeps_agreed : EnteringAgrees → MarkingAgrees → CommitsChange → KeepsAgreed
 unfolding observed next work
-keeps_agreed entering striking changes b fit i silent w updates o right h =
+keeps_agreed entering marking changes b fit i silent w updates o right h =
     let s = w.trace.state in
-    let u = turn_in b i s in
+    let u = action_in b i s in
     let rest = rest_of b s in
     let known = all_known b w h in
     let v = views_keep b s (some_send b 0 s.places) rest u w.views right in
     let aside = clock_aside b i s in
     record {
       marked = keeps_marked b i w o h.marked;
-      clean = next_placed b i w.trace (Known b w) (λ k c x. IsClean b k x) o known (turn_clean b fit w rest u right);
-      agree = next_placed b i w.trace (Known b w) (λ k c x. Agrees b (views_after b s u w.views k) (packet_of c) (suc k) x) o known (turn_agrees entering striking changes b fit w rest u updates h (turn_is b i silent s rest) right);
+      clean = next_placed b i w.trace (Known b w) (λ k c x. IsClean b k x) o known (action_clean b fit w rest u right);
+      agree = next_placed b i w.trace (Known b w) (λ k c x. Agrees b (views_after b s u w.views k) (packet_of c) (suc k) x) o known (action_agrees entering marking changes b fit w rest u updates h (action_is b i silent s rest) right);
       current = λ k l. v.current k l ∙ sym aside.tables;
       begun = λ e. v.begun (sym aside.done ∙ e) ∙ sym aside.tables;
     }

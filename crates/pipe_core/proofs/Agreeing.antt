@@ -1,64 +1,58 @@
 -- What packets hold of reads.
-use Rattle.std.proofs.Common.{◌≡◌, ◌≢◌, ℕ, zero, suc, ◌+◌, ◌<◌, ◌≤◌, ◌⊎◌, inl, inr, Bool, true, false, List, [], ◌∷◌, Option, Some, None, length, get_or, drop, refl, sym, ap, ◌∙◌, subst, arith, not, length-set, get_or-set_other, get_or-set_same}
-use Rattle.std.specs.Prelude.{if◌then◌else◌, nat_lt, nat_le, ◌==◌, ◌^◌, ◌/◌, ◌&&◌, ◌||◌, map as map_list, All}
+use Rattle.std.proofs.Common.{◌≡◌, ◌≢◌, ℕ, suc, ◌+◌, ◌<◌, ◌≤◌, ◌⊎◌, inl, inr, Bool, true, false, List, [], ◌∷◌, Option, Some, None, length, get_or, drop, refl, sym, ap, ◌∙◌, subst, arith, not, length-set, get_or-set_other, get_or-set_same}
+use Rattle.std.specs.Prelude.{if◌then◌else◌, nat_lt, nat_le, ◌==◌, ◌^◌, ◌/◌, ◌&&◌, ◌||◌, All}
 use Rattle.std.proofs.lemmas.Bool.Decides.{nat_tests, Decides-eqb}
 use Rattle.std.proofs.lemmas.Bool.{cases_lt, or_parts}
 use Rattle.std.proofs.lemmas.Nat.{pow_pos}
 use Rattle.std.proofs.Math.Nat.{mod-lt}
+use Rattle.realization.proofs.list_laws_laws.ListLaws.{map_alike}
 use Rattle.hazard_core.specs.xdp_machine.State.{PacketIn}
 use Rattle.hazard_core.specs.cell_core.declared.operator.Operator.{Operator}
 use Rattle.hazard_core.specs.cell_core.declared.operator.Operator.TheVariants.{Found, Answer, Wire, Phi}
 use Rattle.hazard_core.specs.cell_core.Cells.{CellView, cell_at, no_cell, site_in, number, bits_from, bit, on}
 use Rattle.hazard_core.specs.cell_core.Formed.{takes}
 use Rattle.hazard_core.specs.cell_core.Sites.{SiteView, site_at}
-use Rattle.hazard_core.specs.cell_core.Rows.{RowsRise, numbers}
+use Rattle.hazard_core.specs.cell_core.Rows.{RowsRise}
+use Rattle.hazard_core.proofs.cell_core_laws.NumberLaws.{marked_of}
 use Rattle.hazard_core.specs.Tables.{TableState}
 use Rattle.hazard_core.specs.declared.pointer.Pointer.{Pointer}
 use Rattle.hazard_core.specs.declared.pointer.Pointer.TheVariants.{Null}
-use Rattle.hazard_core.specs.Held.{Held, is_null, held_value, pointer_in, with_cell, guard_on}
-use Rattle.hazard_core.specs.Rows.{phi_pointer, cell_number, cell_pointer, with_made, made_from, with_row}
+use Rattle.hazard_core.specs.StageValues.{StageValues, is_null, stage_value, with_cell, guard_on}
+use Rattle.hazard_core.specs.Rows.{cell_number, cell_pointer, with_made, made_from, with_row}
 use Rattle.hazard_core.specs.Marks.{known_off}
 use Rattle.hazard_core.specs.Keeping.{SameCell, AreAlike, LooksBelow, ReadsKeep}
+use Rattle.hazard_core.proofs.HeldLaws.{phi_same, same_trans}
 use Rattle.pipe_core.specs.Machine.{Build, packet_of, marked_at, with_kept_marks, entered}
 use Rattle.pipe_core.specs.Agreement.{ReadsArePlanned, ReadsFit, IsMade, excused_as, off_below, EnteringAgrees}
-use Rattle.pipe_core.proofs.Computing.{map_alike, drop_next}
+use Rattle.pipe_core.proofs.Computing.{drop_next}
 
 -- ---- a cell is made the same from the same inputs
 
-phi_same : (h g : Held) (xs : List ℕ) → All (λ i. SameCell h g i) xs → phi_pointer h xs ≡ phi_pointer g xs
-phi_same h g [] a = refl
-phi_same h g (e ∷ []) a = refl
-phi_same h g (e ∷ x ∷ []) a = (a 1 x (omega arith)).pointer
-phi_same h g (e ∷ x ∷ d ∷ more) a =
-    ap (λ (n : ℕ). if on n then pointer_in h x else phi_pointer h (d ∷ more)) (a 0 e (omega arith)).value
-    ∙ ap (λ (q : Pointer). if on (held_value g e) then q else phi_pointer h (d ∷ more)) (a 1 x (omega arith)).pointer
-    ∙ ap (λ (q : Pointer). if on (held_value g e) then pointer_in g x else q) (phi_same h g (d ∷ more) (λ i y l. a (suc (suc i)) y (omega arith)))
-
-pub record MadeSame (b : Build) (r : ℕ) (t : TableState) (packet : PacketIn) (h g : Held) (c : CellView) (op : Operator) : Type 0 where
+pub record MadeSame (b : Build) (r : ℕ) (t : TableState) (packet : PacketIn) (h g : StageValues) (c : CellView) (op : Operator) : Type 0 where
   pub number : cell_number b.program b.plan.row r t packet h c op ≡ cell_number b.program b.plan.row r t packet g c op
   pub pointer : cell_pointer b.program b.plan.row r t h c op ≡ cell_pointer b.program b.plan.row r t g c op
 
-pub made_same : (keep : ReadsKeep) (b : Build) (r : ℕ) (t : TableState) (packet : PacketIn) (h g : Held) (c : CellView) (op : Operator) → AreAlike b.program b.plan.row r h g →
+pub made_same : (keep : ReadsKeep) (b : Build) (r : ℕ) (t : TableState) (packet : PacketIn) (h g : StageValues) (c : CellView) (op : Operator) → AreAlike b.program b.plan.row r h g →
     All (λ i. SameCell h g i) c.ins → takes op ≤ length c.ins → ((j : ℕ) → site_in op ≡ Some j → LooksBelow b.plan.row r (site_at b.program.sites j)) → MadeSame b r t packet h g c op
 made_same keep b r t packet h g c (Found j) alike ins enough below =
     let k = keep b.program b.plan.row r j t h g alike (below j refl) in
     record { number = ap (λ (q : Pointer). bit (not (is_null q))) k.0; pointer = k.0 }
 made_same keep b r t packet h g c (Answer j) alike ins enough below = record { number = (keep b.program b.plan.row r j t h g alike (below j refl)).1; pointer = refl }
 made_same keep b r t packet h g c Wire alike ins enough below = record {
-  number = ap (λ (xs : List ℕ). number packet Wire xs) (map_alike (held_value h) (held_value g) c.ins (λ i d l. (ins i d l).value));
+  number = ap (λ (xs : List ℕ). number packet Wire xs) (map_alike (stage_value h) (stage_value g) c.ins (λ i d l. (ins i d l).value));
   pointer = (ins 0 0 (omega (arith, enough))).pointer;
 }
 made_same keep b r t packet h g c Phi alike ins enough below = record {
-  number = ap (λ (xs : List ℕ). number packet Phi xs) (map_alike (held_value h) (held_value g) c.ins (λ i d l. (ins i d l).value));
+  number = ap (λ (xs : List ℕ). number packet Phi xs) (map_alike (stage_value h) (stage_value g) c.ins (λ i d l. (ins i d l).value));
   pointer = phi_same h g c.ins ins;
 }
 made_same keep b r t packet h g c op alike ins enough below = record {
-  number = ap (λ (xs : List ℕ). number packet op xs) (map_alike (held_value h) (held_value g) c.ins (λ i d l. (ins i d l).value));
+  number = ap (λ (xs : List ℕ). number packet op xs) (map_alike (stage_value h) (stage_value g) c.ins (λ i d l. (ins i d l).value));
   pointer = refl;
 }
 
 -- a cell that was made stays so where the packet holds the same of it and of its inputs
-stays_made : (keep : ReadsKeep) (b : Build) → ReadsArePlanned b → (t : TableState) (packet : PacketIn) (h g : Held) (c : ℕ) → c < length b.program.cells → AreAlike b.program b.plan.row (b.plan.row c) h g →
+stays_made : (keep : ReadsKeep) (b : Build) → ReadsArePlanned b → (t : TableState) (packet : PacketIn) (h g : StageValues) (c : ℕ) → c < length b.program.cells → AreAlike b.program b.plan.row (b.plan.row c) h g →
     All (λ i. SameCell h g i) (cell_at b.program.cells c).ins → SameCell h g c → IsMade b t packet h c → IsMade b t packet g c
 stays_made keep b plan t packet h g c l alike ins same m =
     let d = cell_at b.program.cells c in
@@ -69,18 +63,15 @@ stays_made keep b plan t packet h g c l alike ins same m =
     }
 
 -- setting another cell
-pub set_same : (h : Held) (k x : ℕ) (p : Pointer) (c : ℕ) → c ≢ k → SameCell h (with_cell h k x p) c
+pub set_same : (h : StageValues) (k x : ℕ) (p : Pointer) (c : ℕ) → c ≢ k → SameCell h (with_cell h k x p) c
 set_same h k x p c other = record { value = sym (get_or-set_other h.values k c x 0 other); pointer = sym (get_or-set_other h.pointers k c p Null other) }
 
-record AllMade (b : Build) (t : TableState) (packet : PacketIn) (r k : ℕ) (h : Held) : Type 0 where
+record AllMade (b : Build) (t : TableState) (packet : PacketIn) (r k : ℕ) (h : StageValues) : Type 0 where
   values : length h.values ≡ length b.program.cells
   pointers : length h.pointers ≡ length b.program.cells
   each : (c : ℕ) → c < length b.program.cells → (b.plan.row c ≡ r) × (c < k) → IsMade b t packet h c
 
-pub same_trans : (h g f : Held) (c : ℕ) → SameCell h g c → SameCell g f c → SameCell h f c
-same_trans h g f c a b = record { value = a.value ∙ b.value; pointer = a.pointer ∙ b.pointer }
-
-made_step : (keep : ReadsKeep) (b : Build) → ReadsArePlanned b → (t : TableState) (packet : PacketIn) (r k x : ℕ) (p : Pointer) (h : Held) → k < length b.program.cells → b.plan.row k ≡ r →
+made_step : (keep : ReadsKeep) (b : Build) → ReadsArePlanned b → (t : TableState) (packet : PacketIn) (r k x : ℕ) (p : Pointer) (h : StageValues) → k < length b.program.cells → b.plan.row k ≡ r →
     x ≡ bits_from (cell_number b.program b.plan.row r t packet h (cell_at b.program.cells k) (cell_at b.program.cells k).op) (cell_at b.program.cells k).from (cell_at b.program.cells k).width →
     p ≡ cell_pointer b.program b.plan.row r t h (cell_at b.program.cells k) (cell_at b.program.cells k).op →
     AllMade b t packet r k h → AllMade b t packet r (suc k) (with_cell h k x p)
@@ -94,7 +85,7 @@ made_step keep b plan t packet r k x p h in_range here is_value is_pointer m = r
   ];
 }
   where
-    g : Held
+    g : StageValues
     g = with_cell h k x p
 
     alike : (c : ℕ) → b.plan.row c ≡ r → AreAlike b.program b.plan.row (b.plan.row c) h g
@@ -114,7 +105,7 @@ made_step keep b plan t packet r k x p h in_range here is_value is_pointer m = r
               ∙ ap (λ r. cell_pointer b.program b.plan.row r t h d d.op) (sym here) ∙ q.pointer;
         })
 
-made_past : (b : Build) (t : TableState) (packet : PacketIn) (r k : ℕ) (h : Held) → (b.plan.row k ≡ r → ⊥) → AllMade b t packet r k h → AllMade b t packet r (suc k) h
+made_past : (b : Build) (t : TableState) (packet : PacketIn) (r k : ℕ) (h : StageValues) → (b.plan.row k ≡ r → ⊥) → AllMade b t packet r k h → AllMade b t packet r (suc k) h
 made_past b t packet r k h apart m = record {
   values = m.values;
   pointers = m.pointers;
@@ -124,7 +115,7 @@ made_past b t packet r k h apart m = record {
   ];
 }
 
-row_made : (keep : ReadsKeep) (b : Build) → ReadsArePlanned b → (t : TableState) (packet : PacketIn) (r k : ℕ) (cs : List CellView) (h : Held) → drop k b.program.cells ≡ cs → k + length cs ≡ length b.program.cells →
+row_made : (keep : ReadsKeep) (b : Build) → ReadsArePlanned b → (t : TableState) (packet : PacketIn) (r k : ℕ) (cs : List CellView) (h : StageValues) → drop k b.program.cells ≡ cs → k + length cs ≡ length b.program.cells →
     AllMade b t packet r k h → AllMade b t packet r (length b.program.cells) (made_from b.program b.plan.row r t packet k cs h)
 row_made keep b plan t packet r k [] h e n m = subst (λ j. AllMade b t packet r j h) (omega (arith, n)) m
 row_made keep b plan t packet r k (c ∷ cs) h e n m =
@@ -145,7 +136,7 @@ row_made keep b plan t packet r k (c ∷ cs) h e n m =
         no_case : false ≡ true → ⊥
         no_case e = cc
 
-pub keeps_other : (b : Build) (r : ℕ) (t : TableState) (packet : PacketIn) (k : ℕ) (cs : List CellView) (h : Held) → k + length cs ≡ length b.program.cells → (c : ℕ) → (b.plan.row c ≢ r) ⊎ (length b.program.cells ≤ c) →
+pub keeps_other : (b : Build) (r : ℕ) (t : TableState) (packet : PacketIn) (k : ℕ) (cs : List CellView) (h : StageValues) → k + length cs ≡ length b.program.cells → (c : ℕ) → (b.plan.row c ≢ r) ⊎ (length b.program.cells ≤ c) →
     SameCell h (made_from b.program b.plan.row r t packet k cs h) c
 keeps_other b r t packet k [] h n c why = record { value = refl; pointer = refl }
 keeps_other b r t packet k (d ∷ cs) h n c why =
@@ -167,13 +158,13 @@ keeps_other b r t packet k (d ∷ cs) h n c why =
 
 -- ---- a packet takes in a row
 
-pub record Rowed (b : Build) (t : TableState) (packet : PacketIn) (r : ℕ) (h g : Held) : Type 0 where
+pub record Rowed (b : Build) (t : TableState) (packet : PacketIn) (r : ℕ) (h g : StageValues) : Type 0 where
   pub values : length g.values ≡ length b.program.cells
   pub pointers : length g.pointers ≡ length b.program.cells
   pub same : (c : ℕ) → (b.plan.row c < r) ⊎ (length b.program.cells ≤ c) → SameCell h g c
   pub made : (c : ℕ) → c < length b.program.cells → b.plan.row c ≡ r → IsMade b t packet g c
 
-pub rowed : (keep : ReadsKeep) (b : Build) → ReadsArePlanned b → (t : TableState) (packet : PacketIn) (r : ℕ) (h : Held) → length h.values ≡ length b.program.cells → length h.pointers ≡ length b.program.cells →
+pub rowed : (keep : ReadsKeep) (b : Build) → ReadsArePlanned b → (t : TableState) (packet : PacketIn) (r : ℕ) (h : StageValues) → length h.values ≡ length b.program.cells → length h.pointers ≡ length b.program.cells →
     Rowed b t packet r h (with_row b.program b.plan.row r t packet h)
 unfolding with_row
 rowed keep b plan t packet r h v q =
@@ -190,7 +181,7 @@ rowed keep b plan t packet r h v q =
     other c (inr past) = inr past
 
 -- what is made in a row fits, and so does what is kept
-row_fits : (b : Build) (t : TableState) (packet : PacketIn) (r : ℕ) (h g : Held) → Rowed b t packet r h g → ReadsFit b r h → ReadsFit b (suc r) g
+row_fits : (b : Build) (t : TableState) (packet : PacketIn) (r : ℕ) (h g : StageValues) → Rowed b t packet r h g → ReadsFit b r h → ReadsFit b (suc r) g
 row_fits b t packet r h g w fits c l low read =
     let d = cell_at b.program.cells c in
     elim (cases_lt (b.plan.row c) r) [
@@ -200,14 +191,6 @@ row_fits b t packet r h g w fits c l low read =
           let n = cell_number b.program b.plan.row (b.plan.row c) t packet g d d.op in
           subst (λ x. x < 2 ^ d.width) (sym m.value) (mod-lt (n / 2 ^ d.from) (pow_pos d.width))
     ]
-
-numbered : (f : ℕ → Bool) (from n j : ℕ) → j < n → get_or (map_list f (numbers from n)) j false ≡ f (from + j)
-numbered f from zero j l = absurd (omega arith)
-numbered f from (suc n) zero l = ap f (omega arith)
-numbered f from (suc n) (suc j) l = numbered f (suc from) n j (omega arith) ∙ ap f (omega arith)
-
-pub marked_of : (f : ℕ → Bool) (n j : ℕ) → j < n → get_or (map_list f (numbers 0 n)) j false ≡ f j
-marked_of f n j l = numbered f 0 n j l ∙ ap f (omega arith)
 
 pub le_lt : (a k : ℕ) → nat_le a k ≡ nat_lt a (suc k)
 le_lt a k = by (nat_le a k) (nat_lt a (suc k)) refl refl
@@ -219,7 +202,7 @@ le_lt a k = by (nat_le a k) (nat_lt a (suc k)) refl refl
     by false true e f = let m : k < a = grind (arith, nat_tests) in let n : a < suc k = grind (arith, nat_tests) in absurd (omega arith)
 
 -- a mark that is not kept was none, or its guard is known as 0
-excused_before : (row : ℕ → ℕ) (k : ℕ) (h g : Held) (s : SiteView) (mark : Bool) → (row s.guard < k → held_value h s.guard ≡ held_value g s.guard) →
+excused_before : (row : ℕ → ℕ) (k : ℕ) (h g : StageValues) (s : SiteView) (mark : Bool) → (row s.guard < k → stage_value h s.guard ≡ stage_value g s.guard) →
     (mark && not (known_off row k g s)) || off_below row (suc k) g s ≡ false → mark || off_below row k h s ≡ false
 excused_before row k h g s mark same e =
     let q = or_parts (mark && not (known_off row k g s)) (off_below row (suc k) g s) e in
@@ -263,7 +246,7 @@ entering keep rise b plan t came k x a =
       ];
     }
   where
-    g : Held
+    g : StageValues
     g = with_row b.program b.plan.row k t (packet_of came) x.held
 
     alike : ((c : ℕ) → (b.plan.row c < k) ⊎ (length b.program.cells ≤ c) → SameCell x.held g c) → (c : ℕ) → b.plan.row c < k → AreAlike b.program b.plan.row (b.plan.row c) x.held g

@@ -7,6 +7,7 @@ use Rattle.std.proofs.lemmas.Bool.{cases_lt, and_parts, lt-ltb}
 use Rattle.std.proofs.lemmas.Bool.Decides.{Decides-eqb}
 use Rattle.std.proofs.lemmas.List.{append-nil, length-set, get_or_past, get_or-set_same, get_or-set_other}
 use Rattle.std.proofs.lemmas.List.Elements.{Contains-append_left, Contains-append_right, Contains-append_cases}
+use Rattle.realization.proofs.list_laws_laws.ListLaws.{all_split}
 use Rattle.realization.specs.beat_core.Ports.{Arrival}
 use Rattle.hazard_core.specs.xdp_maps.State.{MapState, decl_at}
 use Rattle.hazard_core.specs.xdp_maps.Touched.{Resource, Present, Content, Size, writes as resources_written}
@@ -17,25 +18,26 @@ use Rattle.hazard_core.specs.cell_core.Sites.{SiteView, ProgramView, site_at, op
 use Rattle.hazard_core.specs.declared.slot.Slot.{Slot}
 use Rattle.hazard_core.specs.declared.change.Change.{Change}
 use Rattle.hazard_core.specs.Tables.{TableState, table_at, slot_at, no_slot, has_key, maps_of}
-use Rattle.hazard_core.specs.Held.{Held, held_value, guard_on, asked, asked_key, answer_cell, writes_as, writes}
+use Rattle.hazard_core.specs.StageValues.{StageValues, stage_value, guard_on, asked, asked_key, answer_cell, writes_as, writes}
 use Rattle.hazard_core.specs.Keeping.{SameCell}
 use Rattle.hazard_core.specs.Rows.{with_row}
 use Rattle.hazard_core.specs.Commits.{with_slot, written_slot, slot_as, makes_entry, committed, change_by}
 use Rattle.hazard_core.specs.Replay.{Replayed, CommitsInTurn, SeesEarlier}
-use Rattle.pipe_core.specs.Machine.{Packet, State, Build, Turn, Commits, Writes, Moves, no_frame, packet_of, place_at, inside, entered, struck, struck_below, some_send, moved, newcomer, turn_of, worked, work, clock}
+use Rattle.pipe_core.specs.Machine.{Packet, State, Build, Action, Commits, Writes, Moves, no_frame, packet_of, place_at, inside, entered, marked_by, marked_below, some_send, moved, newcomer, action_of, worked, work, clock}
 use Rattle.pipe_core.specs.History.{left_as, next}
-use Rattle.pipe_core.specs.Pipeable.{IsPipeable, IsSuited}
-use Rattle.pipe_core.specs.InTurn.{left_maps, passed_maps, IsSequential}
-use Rattle.pipe_core.specs.Watched.{Watched, held_in, sees, seen_on, seen_after, views_below, views_on, views_after, rest_of, observed}
-use Rattle.pipe_core.specs.Blamed.{left_touched, past_touched, now_touched, so_far, written_by, Wrote, Blamed, Waits, AreBlamedIn, KeepsBlamed, BeginsBlamed}
+use Rattle.pipe_core.specs.Pipeable.{IsPipeable, IsPipelinable}
+use Rattle.pipe_core.specs.SequentialOrder.{left_maps, passed_maps, IsSequential}
+use Rattle.pipe_core.specs.SeenChanges.{SeenChanges, held_in, sees, seen_on, seen_after, views_below, views_on, views_after, rest_of, observed}
+use Rattle.pipe_core.specs.ChangeCauses.{left_touched, past_touched, now_touched, so_far, written_by, Wrote, ChangeCauses, Waits, HaveChangeCausesIn, KeepsChangeCauses, BeginsChangeCauses}
 use Rattle.pipe_core.specs.Meeting.{site_writes, IsWritten, ChangesAreWritten}
-use Rattle.pipe_core.proofs.Order.{last_or, struck_inside, moved_inside, moved_length, beats_keep}
+use Rattle.pipe_core.proofs.Order.{last_or, marked_by_inside, moved_inside, moved_length, beats_keep}
 use Rattle.pipe_core.proofs.Agreeing.{keeps_other}
-use Rattle.pipe_core.proofs.Carrying.{swept_none}
-use Rattle.pipe_core.proofs.Turning.{TurnIs, IsChosen, turn_is, clock_aside}
-use Rattle.pipe_core.proofs.Righting.{unstruck, reads_there, turned, kept_view}
-use Rattle.pipe_core.proofs.Passing.{map_same, front, SameSites, applied_same, entered_sites, exit_maps, passed_moved, drop_moved, drop_struck}
+use Rattle.pipe_core.proofs.Acting.{ActionIs, IsChosen, action_is}
+use Rattle.pipe_core.proofs.Righting.{not_marked_by, reads_there, acted, kept_view}
+use Rattle.pipe_core.proofs.Passing.{map_same, SameSites, applied_same, entered_sites, exit_maps, passed_moved, drop_moved, drop_marked_by}
 use Rattle.pipe_core.proofs.Sequencing.{last_dropped, left_append}
+use Rattle.pipe_core.proofs.FlushLaws.{flushed_none}
+use Rattle.pipe_core.proofs.ClockLaws.{clock_aside}
 
 -- ---- what was touched so far
 
@@ -50,14 +52,14 @@ grows_front [] us vs g i r has = g i r has
 grows_front (x ∷ xs) us vs g zero r has = has
 grows_front (x ∷ xs) us vs g (suc i) r has = grows_front xs us vs g i r has
 
-pub left_length : (p : ProgramView) (maps : MapState) (hs : List Held) → length (left_touched p maps hs) ≡ length hs
+pub left_length : (p : ProgramView) (maps : MapState) (hs : List StageValues) → length (left_touched p maps hs) ≡ length hs
 left_length p maps [] = refl
-left_length p maps (h ∷ hs) = ap suc (left_length p (after (held_value h) maps p.sites) hs)
+left_length p maps (h ∷ hs) = ap suc (left_length p (after (stage_value h) maps p.sites) hs)
 
 pub past_length : (p : ProgramView) (maps : MapState) (xs : List (Option Packet)) → length (past_touched p maps xs) ≡ inside xs
 past_length p maps [] = refl
 past_length p maps (None ∷ xs) = past_length p maps xs
-past_length p maps (Some x ∷ xs) = omega (arith, length-append (past_touched p maps xs) (touched (held_value x.held) (passed_maps p maps xs) p.sites ∷ []), past_length p maps xs)
+past_length p maps (Some x ∷ xs) = omega (arith, length-append (past_touched p maps xs) (touched (stage_value x.held) (passed_maps p maps xs) p.sites ∷ []), past_length p maps xs)
 
 at_front : (xs : List Touched) (t : Touched) (ys : List Touched) (n : ℕ) → length xs ≡ n → get_or (xs ++ (t ∷ ys)) n nothing ≡ t
 at_front [] t ys zero e = refl
@@ -65,9 +67,9 @@ at_front [] t ys (suc n) e = absurd (omega (arith, e))
 at_front (x ∷ xs) t ys zero e = absurd (omega (arith, e))
 at_front (x ∷ xs) t ys (suc n) e = at_front xs t ys n (omega (arith, e))
 
-left_touched_append : (p : ProgramView) (maps : MapState) (hs gs : List Held) → left_touched p maps (hs ++ gs) ≡ left_touched p maps hs ++ left_touched p (left_maps p maps hs) gs
+left_touched_append : (p : ProgramView) (maps : MapState) (hs gs : List StageValues) → left_touched p maps (hs ++ gs) ≡ left_touched p maps hs ++ left_touched p (left_maps p maps hs) gs
 left_touched_append p maps [] gs = refl
-left_touched_append p maps (h ∷ hs) gs = ap (λ ts. touched (held_value h) maps p.sites ∷ ts) (left_touched_append p (after (held_value h) maps p.sites) hs gs)
+left_touched_append p maps (h ∷ hs) gs = ap (λ ts. touched (stage_value h) maps p.sites ∷ ts) (left_touched_append p (after (stage_value h) maps p.sites) hs gs)
 
 -- ---- parts of a packet's operations
 
@@ -109,7 +111,7 @@ pub touched_same : (v w : ℕ → ℕ) (maps : MapState) (ss : List SiteView) �
 touched_same v w maps [] same = refl
 touched_same v w maps (s ∷ ss) same =
     let a = same 0 (omega arith) in
-    let q = front (λ c. v c ≡ w c) s.key s.operands a.1 in
+    let q = all_split (λ c. v c ≡ w c) s.key s.operands a.1 in
     let ops : operation_on v maps s ≡ operation_on w maps s =
     ap (λ (k : List ℕ). operation_with (decl_at maps s.map) s.act k (map_list v s.operands)) (map_same v w s.key q.0) ∙ ap (λ (o : List ℕ). operation_with (decl_at maps s.map) s.act (map_list w s.key) o) (map_same v w s.operands q.1) in
     ap (λ g. both (if on g then touched_by maps (Some (s.map, operation_on v maps s)) else nothing) (touched v (applied v maps s) ss)) a.0
@@ -131,10 +133,10 @@ past_moved b fit t fs maps k (Some x) (y ∷ ys) past =
     let base = exit_maps p maps (last_or y ys) in
     let more = moved b t fs (suc k) y ys in
     let x' = entered b t k c x in
-    ap (λ (m : Touched). out ++ (past_touched p base more ++ (m ∷ []))) (sym (touched_same (held_value x.held) (held_value x'.held) (passed_maps p base more) p.sites (entered_sites b fit t k c x past)))
-    ∙ ap (λ (m : MapState). out ++ (past_touched p base more ++ (touched (held_value x.held) m p.sites ∷ []))) (passed_moved b fit t fs maps (suc k) y ys (omega (arith, past)))
-    ∙ sym (append_assoc out (past_touched p base more) (touched (held_value x.held) (passed_maps p maps (y ∷ ys)) p.sites ∷ []))
-    ∙ ap (λ ts. ts ++ (touched (held_value x.held) (passed_maps p maps (y ∷ ys)) p.sites ∷ [])) (past_moved b fit t fs maps (suc k) y ys (omega (arith, past)))
+    ap (λ (m : Touched). out ++ (past_touched p base more ++ (m ∷ []))) (sym (touched_same (stage_value x.held) (stage_value x'.held) (passed_maps p base more) p.sites (entered_sites b fit t k c x past)))
+    ∙ ap (λ (m : MapState). out ++ (past_touched p base more ++ (touched (stage_value x.held) m p.sites ∷ []))) (passed_moved b fit t fs maps (suc k) y ys (omega (arith, past)))
+    ∙ sym (append_assoc out (past_touched p base more) (touched (stage_value x.held) (passed_maps p maps (y ∷ ys)) p.sites ∷ []))
+    ∙ ap (λ ts. ts ++ (touched (stage_value x.held) (passed_maps p maps (y ∷ ys)) p.sites ∷ [])) (past_moved b fit t fs maps (suc k) y ys (omega (arith, past)))
 
 -- ---- who wrote a resource, shortly before the packet with a number
 
@@ -147,25 +149,25 @@ all_map P Q f (x ∷ xs) h = (f x h.0, all_map P Q f xs h.1)
 
 -- ---- places
 
-struck_at : (to : ℕ) (b : Build) (t : TableState) (e : Change) (k : ℕ) (xs : List (Option Packet)) (n : ℕ) (x' : Packet) → place_at (struck_below to b t e k xs) n ≡ Some x' → (x : Packet) × (place_at xs n ≡ Some x) × (x'.held ≡ x.held)
-unfolding struck
-struck_at to b t e k [] n x' at = cc
-struck_at to b t e k (x ∷ xs) zero x' at = by (nat_lt k to) x at
+marked_by_at : (to : ℕ) (b : Build) (t : TableState) (e : Change) (k : ℕ) (xs : List (Option Packet)) (n : ℕ) (x' : Packet) → place_at (marked_below to b t e k xs) n ≡ Some x' → (x : Packet) × (place_at xs n ≡ Some x) × (x'.held ≡ x.held)
+unfolding marked_by
+marked_by_at to b t e k [] n x' at = cc
+marked_by_at to b t e k (x ∷ xs) zero x' at = by (nat_lt k to) x at
   where
-    by : (c : Bool) (x : Option Packet) → (if c then option_map (struck b t k e) x else x) ≡ Some x' → (y : Packet) × (x ≡ Some y) × (x'.held ≡ y.held)
+    by : (c : Bool) (x : Option Packet) → (if c then option_map (marked_by b t k e) x else x) ≡ Some x' → (y : Packet) × (x ≡ Some y) × (x'.held ≡ y.held)
     by true None at = cc
-    by true (Some y) at = (y, refl, held (struck b t k e y) at refl)
+    by true (Some y) at = (y, refl, held (marked_by b t k e y) at refl)
       where
         held : (z : Packet) → Some z ≡ Some x' → z.held ≡ y.held → x'.held ≡ y.held
         held z at same = let is : x' ≡ z = cc in ap (λ (q : Packet). q.held) is ∙ same
     by false None at = cc
     by false (Some y) at = (y, refl, let is : x' ≡ y = cc in ap (λ (q : Packet). q.held) is)
-struck_at to b t e k (x ∷ xs) (suc n) x' at = struck_at to b t e (suc k) xs n x' at
+marked_by_at to b t e k (x ∷ xs) (suc n) x' at = marked_by_at to b t e (suc k) xs n x' at
 
-struck_drop : (to : ℕ) (b : Build) (t : TableState) (e : Change) (k n : ℕ) (xs : List (Option Packet)) → inside (drop n (struck_below to b t e k xs)) ≡ inside (drop n xs)
-struck_drop to b t e k zero xs = struck_inside to b t e k xs
-struck_drop to b t e k (suc n) [] = refl
-struck_drop to b t e k (suc n) (x ∷ xs) = struck_drop to b t e (suc k) n xs
+marked_by_drop : (to : ℕ) (b : Build) (t : TableState) (e : Change) (k n : ℕ) (xs : List (Option Packet)) → inside (drop n (marked_below to b t e k xs)) ≡ inside (drop n xs)
+marked_by_drop to b t e k zero xs = marked_by_inside to b t e k xs
+marked_by_drop to b t e k (suc n) [] = refl
+marked_by_drop to b t e k (suc n) (x ∷ xs) = marked_by_drop to b t e (suc k) n xs
 
 moved_at : (b : Build) (t : TableState) (fs : List Arrival) (k n : ℕ) (x : Option Packet) (ys : List (Option Packet)) (x' : Packet) → place_at (moved b t fs k x ys) n ≡ Some x' →
     (z : Packet) × (c : Arrival) × (place_at (x ∷ ys) n ≡ Some z) × (x' ≡ entered b t (k + n) c z)
@@ -239,7 +241,7 @@ slot_other t q at m n new why = by (m == q) refl why
     by true e (inr other) = subst (λ k. slot_at (table_at (with_slot t q at new) k) n ≡ slot_at (table_at t k) n) (sym ((Decides-eqb m q).0 e)) (here other)
     by false e why = ap (λ (xs : List Slot). slot_at xs n) (get_or-set_other t.tables q m (slice_set (table_at t q) at new) [] (λ same. no_case (sym e ∙ (Decides-eqb m q).1 same)))
 
-committed_other : (p : ProgramView) (t : TableState) (taken : List ℕ) (h : Held) (j m n : ℕ) → (m ≢ (site_at p.sites j).map) ⊎ (n ≢ written_slot p t taken h j) → slot_at (table_at (committed p t taken h j) m) n ≡ slot_at (table_at t m) n
+committed_other : (p : ProgramView) (t : TableState) (taken : List ℕ) (h : StageValues) (j m n : ℕ) → (m ≢ (site_at p.sites j).map) ⊎ (n ≢ written_slot p t taken h j) → slot_at (table_at (committed p t taken h j) m) n ≡ slot_at (table_at t m) n
 unfolding committed
 committed_other p t taken h j m n why =
     let s = site_at p.sites j in
@@ -248,7 +250,7 @@ committed_other p t taken h j m n why =
 
 -- ---- a commit
 
-module _ (in_turn : CommitsInTurn) (seen : SeesEarlier) (written : ChangesAreWritten) (b : Build) (maps : MapState) (fit : IsSuited maps.decls b) (w : Watched) (h : IsSequential b maps w) (still : rest_of b w.trace.state ≡ w.trace.state.places) (long : length w.trace.state.places ≡ suc b.plan.last) where
+module _ (in_turn : CommitsInTurn) (seen : SeesEarlier) (written : ChangesAreWritten) (b : Build) (maps : MapState) (fit : IsPipelinable maps.decls b) (w : SeenChanges) (h : IsSequential b maps w) (still : rest_of b w.trace.state ≡ w.trace.state.places) (long : length w.trace.state.places ≡ suc b.plan.last) where
   abbrev s : State
   s = w.trace.state
 
@@ -278,7 +280,7 @@ module _ (in_turn : CommitsInTurn) (seen : SeesEarlier) (written : ChangesAreWri
     tables' = committed b.program s.tables s.taken x.held j
 
     abbrev places' : List (Option Packet)
-    places' = struck_below b.plan.commit b s.tables e 0 s.places
+    places' = marked_below b.plan.commit b s.tables e 0 s.places
 
     abbrev views' : ℕ → TableState
     views' = views_below b.plan.commit tables' w.views
@@ -291,38 +293,38 @@ module _ (in_turn : CommitsInTurn) (seen : SeesEarlier) (written : ChangesAreWri
 
     facts : IsWritten (committed b.program s.tables s.taken x.held j) (change_by b.program s.tables s.taken x.held j) (site_writes b.program view x.held j)
     facts =
-        let t = turned in_turn seen b maps.decls fit w h.right j x (subst (λ rest. IsChosen b s rest j x) (sym still) is) in
+        let t = acted in_turn seen b maps.decls fit w h.right j x (subst (λ rest. IsChosen b s rest j x) (sym still) is) in
         let reads = reads_there seen b maps.decls fit w h.right.at.view_decls h.right.agreed x here_at in
         let wrote : writes p view.decls x.held j ≡ true = ap (λ ds. writes p ds x.held j) (h.right.at.view_decls ∙ sym h.right.at.decls_are) ∙ is.writes_there in
         subst (λ (q : Replayed). IsWritten (committed p q.tables q.taken x.held j) (change_by p q.tables q.taken x.held j) (site_writes p view x.held j)) (sym t.midst)
         (written p view t.first x.held h.right.at.view_tables (subst (λ ds. AllFit ds p.sites) (sym h.right.at.view_decls) fit.fits) t.first_long reads j is.in_range wrote)
 
-    guard : on (held_value x.held (site_at b.program.sites j).guard) ≡ true
+    guard : on (stage_value x.held (site_at b.program.sites j).guard) ≡ true
     guard =
         let site = site_at p.sites j in
-        (and_parts (guard_on x.held site) (writes_as site.act _ (held_value x.held (answer_cell p.cells j))) is.writes_there).0
+        (and_parts (guard_on x.held site) (writes_as site.act _ (stage_value x.held (answer_cell p.cells j))) is.writes_there).0
 
     past_same : drop (suc b.plan.commit) places' ≡ drop (suc b.plan.commit) w.trace.state.places
-    past_same = drop_struck b.plan.commit b s.tables e 0 (suc b.plan.commit) s.places (omega arith)
+    past_same = drop_marked_by b.plan.commit b s.tables e 0 (suc b.plan.commit) s.places (omega arith)
 
     now_at : place_at places' b.plan.commit ≡ Some x
-    now_at = unstruck b.plan.commit b s.tables e 0 s.places b.plan.commit (omega arith) ∙ is.here
+    now_at = not_marked_by b.plan.commit b s.tables e 0 s.places b.plan.commit (omega arith) ∙ is.here
 
-    after_is : after_it ≡ gone ++ (past ++ (touched (held_value x.held) (maps_of view) (take (suc j) b.program.sites) ∷ []))
+    after_is : after_it ≡ gone ++ (past ++ (touched (stage_value x.held) (maps_of view) (take (suc j) b.program.sites) ∷ []))
     after_is =
         ap (λ xs. gone ++ (past_touched p base xs ++ now_touched p (maps_of (views' b.plan.commit)) (place_at places' b.plan.commit) (suc j))) past_same
         ∙ ap (λ (v : TableState). gone ++ (past ++ now_touched p (maps_of v) (place_at places' b.plan.commit) (suc j))) (kept_view b.plan.commit tables' w.views)
         ∙ ap (λ (o : Option Packet). gone ++ (past ++ now_touched p (maps_of view) o (suc j))) now_at
 
-    now_is : now ≡ gone ++ (past ++ (touched (held_value x.held) (maps_of view) (take s.done b.program.sites) ∷ []))
+    now_is : now ≡ gone ++ (past ++ (touched (stage_value x.held) (maps_of view) (take s.done b.program.sites) ∷ []))
     now_is = ap (λ (o : Option Packet). gone ++ (past ++ now_touched p (maps_of view) o s.done)) is.here
 
     grows : Grows now after_it
-    grows = subst (λ ts. Grows ts after_it) (sym now_is) (subst (λ ts. Grows (gone ++ (past ++ (touched (held_value x.held) (maps_of view) (take s.done p.sites) ∷ []))) ts) (sym after_is)
+    grows = subst (λ ts. Grows ts after_it) (sym now_is) (subst (λ ts. Grows (gone ++ (past ++ (touched (stage_value x.held) (maps_of view) (take s.done p.sites) ∷ []))) ts) (sym after_is)
         (grows_front gone _ _ (grows_front past _ _ one)))
       where
-        one : Grows (touched (held_value x.held) (maps_of view) (take s.done b.program.sites) ∷ []) (touched (held_value x.held) (maps_of view) (take (suc j) b.program.sites) ∷ [])
-        one zero r has = let l = is.from_on in take_more (held_value x.held) s.done (suc j) (omega (arith, l)) p.sites (maps_of view) r has
+        one : Grows (touched (stage_value x.held) (maps_of view) (take s.done b.program.sites) ∷ []) (touched (stage_value x.held) (maps_of view) (take (suc j) b.program.sites) ∷ [])
+        one zero r has = let l = is.from_on in take_more (stage_value x.held) s.done (suc j) (omega (arith, l)) p.sites (maps_of view) r has
         one (suc i) r has = has
 
     abbrev number : ℕ
@@ -340,10 +342,10 @@ module _ (in_turn : CommitsInTurn) (seen : SeesEarlier) (written : ChangesAreWri
         let most = between s.places (suc k) m in
         let same = ap (λ n. inside (drop n s.places)) sum in
         let size = length-append gone past in
-        let index : get_or after_it number nothing ≡ touched (held_value x.held) (maps_of view) (take (suc j) p.sites) =
-        ap (λ ts. get_or ts number nothing) (after_is ∙ sym (append_assoc gone past (touched (held_value x.held) (maps_of view) (take (suc j) p.sites) ∷ [])))
-        ∙ at_front (gone ++ past) (touched (held_value x.held) (maps_of view) (take (suc j) p.sites)) [] number (omega (arith, size, left_length p maps w.trace.left, past_length p base (drop (suc b.plan.commit) s.places))) in
-        (number, omega (arith, at_commit, least), omega (arith, most, same, c), subst (λ (t : Touched). Contains t.writes r) (sym index) (own_in (held_value x.held) j p.sites (maps_of view) r is.in_range guard has))
+        let index : get_or after_it number nothing ≡ touched (stage_value x.held) (maps_of view) (take (suc j) p.sites) =
+        ap (λ ts. get_or ts number nothing) (after_is ∙ sym (append_assoc gone past (touched (stage_value x.held) (maps_of view) (take (suc j) p.sites) ∷ [])))
+        ∙ at_front (gone ++ past) (touched (stage_value x.held) (maps_of view) (take (suc j) p.sites)) [] number (omega (arith, size, left_length p maps w.trace.left, past_length p base (drop (suc b.plan.commit) s.places))) in
+        (number, omega (arith, at_commit, least), omega (arith, most, same, c), subst (λ (t : Touched). Contains t.writes r) (sym index) (own_in (stage_value x.held) j p.sites (maps_of view) r is.in_range guard has))
 
     -- slots that the commit does not write stay
     slot_or : (k : ℕ) → k < b.plan.commit → (m n : ℕ) (key : List ℕ) → has_key key (slot_at (table_at tables' m) n) ≡ true → (has_key key (slot_at (table_at s.tables m) n) ≡ true) ⊎ Wrote b after_it (length w.trace.left + inside (drop (suc k) w.trace.state.places)) (Content m key)
@@ -368,15 +370,15 @@ module _ (in_turn : CommitsInTurn) (seen : SeesEarlier) (written : ChangesAreWri
         by false f d g = inl (stays (inl (λ same. no_case (sym f ∙ (Decides-eqb m (site_at b.program.sites j).map).1 same))))
 
     -- packets that have seen changes see one more
-    committed_blamed : AreBlamedIn b maps w.trace.left w.views s.places s.done s.tables w.seen → AreBlamedIn b maps w.trace.left views' places' (suc j) tables' (sees b s.places b.plan.commit e w.seen)
-    committed_blamed old k x' at (inr late) = absurd (omega (arith, late.1))
-    committed_blamed old k x' at (inl below) =
-        let q = struck_at b.plan.commit b s.tables e 0 s.places k x' at in
+    committed_change_causes : HaveChangeCausesIn b maps w.trace.left w.views s.places s.done s.tables w.seen → HaveChangeCausesIn b maps w.trace.left views' places' (suc j) tables' (sees b s.places b.plan.commit e w.seen)
+    committed_change_causes old k x' at (inr late) = absurd (omega (arith, late.1))
+    committed_change_causes old k x' at (inl below) =
+        let q = marked_by_at b.plan.commit b s.tables e 0 s.places k x' at in
         let y : Packet = q.0 in
         let num : ℕ = length w.trace.left + inside (drop (suc k) s.places) in
-        let same_num : inside (drop (suc k) places') ≡ inside (drop (suc k) s.places) = struck_drop b.plan.commit b s.tables e 0 (suc k) s.places in
-        let kept : AllByRecursion (Blamed b after_it tables' num k x') (w.seen k) =
-        all_map (Blamed b now s.tables num k y) (Blamed b after_it tables' num k x')
+        let same_num : inside (drop (suc k) places') ≡ inside (drop (suc k) s.places) = marked_by_drop b.plan.commit b s.tables e 0 (suc k) s.places in
+        let kept : AllByRecursion (ChangeCauses b after_it tables' num k x') (w.seen k) =
+        all_map (ChangeCauses b now s.tables num k y) (ChangeCauses b after_it tables' num k x')
         (λ se z. record {
           low = z.low;
           same = λ c why. subst (λ g. SameCell se.held g c) (sym q.2) (z.same c why);
@@ -388,15 +390,15 @@ module _ (in_turn : CommitsInTurn) (seen : SeesEarlier) (written : ChangesAreWri
           ];
         }) (w.seen k) (old k y q.1 (inl below)) in
         let held : held_in b.program (place_at s.places k) ≡ x'.held = ap (held_in b.program) q.1 ∙ sym q.2 in
-        let new : Blamed b after_it tables' num k x' (record { place = k; held = held_in b.program (place_at s.places k); change = e }) = record {
+        let new : ChangeCauses b after_it tables' num k x' (record { place = k; held = held_in b.program (place_at s.places k); change = e }) = record {
           low = omega arith;
           same = λ c why. subst (λ g. SameCell g x'.held c) (sym held) (record { value = refl; pointer = refl });
           content = own_wrote k below (Content e.map e.key) facts.content;
           present = λ f. let g = facts.present f in (own_wrote k below (Present e.map e.key) g.0, own_wrote k below (Size e.map) g.1);
           slot = λ key has. subst (λ (z : List ℕ). Wrote b after_it num (Content e.map z)) (sym (facts.slot key has)) (own_wrote k below (Content e.map e.key) facts.content);
         } in
-        subst (λ n. AllByRecursion (Blamed b after_it tables' (length w.trace.left + n) k x') (sees b s.places b.plan.commit e w.seen k)) (sym same_num)
-        (subst (λ (c : Bool). AllByRecursion (Blamed b after_it tables' num k x') (if c then (record { place = k; held = held_in b.program (place_at s.places k); change = e }) ∷ w.seen k else w.seen k)) (sym (lt-ltb k b.plan.commit below)) (new, kept))
+        subst (λ n. AllByRecursion (ChangeCauses b after_it tables' (length w.trace.left + n) k x') (sees b s.places b.plan.commit e w.seen k)) (sym same_num)
+        (subst (λ (c : Bool). AllByRecursion (ChangeCauses b after_it tables' num k x') (if c then (record { place = k; held = held_in b.program (place_at s.places k); change = e }) ∷ w.seen k else w.seen k)) (sym (lt-ltb k b.plan.commit below)) (new, kept))
 
   -- ---- all move on
 
@@ -407,7 +409,7 @@ module _ (in_turn : CommitsInTurn) (seen : SeesEarlier) (written : ChangesAreWri
     abbrev moved_places : List (Option Packet)
     moved_places = moved b s.tables s.frames 0 new s.places
 
-    abbrev out : List Held
+    abbrev out : List StageValues
     out = left_as Moves (place_at s.places b.plan.last)
 
     abbrev at_commit : Option Packet
@@ -428,7 +430,7 @@ module _ (in_turn : CommitsInTurn) (seen : SeesEarlier) (written : ChangesAreWri
     -- what the one touched that passes
     abbrev passing : Option Packet → List Touched
     passing None = []
-    passing (Some x) = touched (held_value x.held) (passed_maps b.program base older) b.program.sites ∷ []
+    passing (Some x) = touched (stage_value x.held) (passed_maps b.program base older) b.program.sites ∷ []
 
     past_is : past_touched b.program base (at_commit ∷ older) ≡ past ++ passing at_commit
     past_is = by at_commit
@@ -470,12 +472,12 @@ module _ (in_turn : CommitsInTurn) (seen : SeesEarlier) (written : ChangesAreWri
         by None rest zero r has = absurd (none_there r has)
         by None rest (suc i) r has = absurd (none_there r has)
         by (Some x) rest zero r has =
-            subst (λ m. Contains (touched (held_value x.held) m p.sites).writes r) h.now (take_whole (held_value x.held) s.done p.sites (maps_of view) r has)
+            subst (λ m. Contains (touched (stage_value x.held) m p.sites).writes r) h.now (take_whole (stage_value x.held) s.done p.sites (maps_of view) r has)
         by (Some x) rest (suc i) r has = absurd (none_there r has)
 
-    moved_blamed : AreBlamedIn b maps w.trace.left w.views s.places s.done s.tables w.seen → AreBlamedIn b maps (w.trace.left ++ out) moved_views moved_places 0 s.tables (seen_on w.seen)
-    moved_blamed old zero x' at waits = tt
-    moved_blamed old (suc k) x' at waits =
+    moved_change_causes : HaveChangeCausesIn b maps w.trace.left w.views s.places s.done s.tables w.seen → HaveChangeCausesIn b maps (w.trace.left ++ out) moved_views moved_places 0 s.tables (seen_on w.seen)
+    moved_change_causes old zero x' at waits = tt
+    moved_change_causes old (suc k) x' at waits =
         let q = moved_at b s.tables s.frames 0 (suc k) new s.places x' at in
         let y : Packet = q.0 in
         let below : k < b.plan.commit = early waits in
@@ -488,8 +490,8 @@ module _ (in_turn : CommitsInTurn) (seen : SeesEarlier) (written : ChangesAreWri
         let last : bit (is_some (last_or (place_at s.places (suc k)) (drop (suc (suc k)) s.places))) ≡ length out =
         ap (λ (o : Option Packet). bit (is_some o)) (sym (last_dropped s.places (suc k) b.plan.last inside_all (sym long))) ∙ sym (left_count (place_at s.places b.plan.last)) in
         let same_num : length (w.trace.left ++ out) + inside (drop (suc (suc k)) moved_places) ≡ num = omega (arith, length-append w.trace.left out, many, go, fronted, last) in
-        subst (λ n. AllByRecursion (Blamed b then_touched s.tables n (suc k) x') (w.seen k)) (sym same_num)
-        (all_map (Blamed b now s.tables num k y) (Blamed b then_touched s.tables num (suc k) x')
+        subst (λ n. AllByRecursion (ChangeCauses b then_touched s.tables n (suc k) x') (w.seen k)) (sym same_num)
+        (all_map (ChangeCauses b now s.tables num k y) (ChangeCauses b then_touched s.tables num (suc k) x')
         (λ se z. record {
           low = let l = z.low in omega (arith, l);
           same = λ c why. trans (z.same c why) (subst (λ (g : Packet). SameCell y.held g.held c) (sym q.3) (entered_other b s.tables y q.1 k c (let l = z.low in apart c why l)));
@@ -506,7 +508,7 @@ module _ (in_turn : CommitsInTurn) (seen : SeesEarlier) (written : ChangesAreWri
         left_count None = refl
         left_count (Some x) = refl
 
-        trans : {f g i : Held} {c : ℕ} → SameCell f g c → SameCell g i c → SameCell f i c
+        trans : {f g i : StageValues} {c : ℕ} → SameCell f g c → SameCell g i c → SameCell f i c
         trans l m = record { value = l.value ∙ m.value; pointer = l.pointer ∙ m.pointer }
 
         apart : (c : ℕ) {at : ℕ} → (b.plan.row c ≤ at) ⊎ (length b.program.cells ≤ c) → at ≤ k → (b.plan.row c ≢ 0 + suc k) ⊎ (length b.program.cells ≤ c)
@@ -515,34 +517,34 @@ module _ (in_turn : CommitsInTurn) (seen : SeesEarlier) (written : ChangesAreWri
 
   -- ---- a clock in which nothing is sent back
 
-  for_turn : (back : Bool) (u : Turn) → TurnIs b s s.places u → AreBlamedIn b maps w.trace.left w.views s.places s.done s.tables w.seen →
-      (let v = worked b s back s.places u in AreBlamedIn b maps (w.trace.left ++ left_as u (place_at s.places b.plan.last)) (views_after b s u w.views) v.places v.done v.tables (seen_after b s s.places u w.seen))
-  for_turn back (Commits j x) is old = subst (λ l. AreBlamedIn b maps l (views_below b.plan.commit (committed b.program s.tables s.taken x.held j) w.views) (struck_below b.plan.commit b s.tables (change_by b.program s.tables s.taken x.held j) 0 s.places) (suc j) (committed b.program s.tables s.taken x.held j) (sees b s.places b.plan.commit (change_by b.program s.tables s.taken x.held j) w.seen))
-      (sym (ap (λ l. w.trace.left ++ l) (none_out (place_at s.places b.plan.last)) ∙ append-nil w.trace.left)) (committed_blamed j x is old)
+  for_action : (back : Bool) (u : Action) → ActionIs b s s.places u → HaveChangeCausesIn b maps w.trace.left w.views s.places s.done s.tables w.seen →
+      (let v = worked b s back s.places u in HaveChangeCausesIn b maps (w.trace.left ++ left_as u (place_at s.places b.plan.last)) (views_after b s u w.views) v.places v.done v.tables (seen_after b s s.places u w.seen))
+  for_action back (Commits j x) is old = subst (λ l. HaveChangeCausesIn b maps l (views_below b.plan.commit (committed b.program s.tables s.taken x.held j) w.views) (marked_below b.plan.commit b s.tables (change_by b.program s.tables s.taken x.held j) 0 s.places) (suc j) (committed b.program s.tables s.taken x.held j) (sees b s.places b.plan.commit (change_by b.program s.tables s.taken x.held j) w.seen))
+      (sym (ap (λ l. w.trace.left ++ l) (none_out (place_at s.places b.plan.last)) ∙ append-nil w.trace.left)) (committed_change_causes j x is old)
     where
       none_out : (o : Option Packet) → left_as (Commits j x) o ≡ []
       none_out None = refl
       none_out (Some y) = refl
-  for_turn back (Writes a n) is old = absurd is
-  for_turn back Moves is old = moved_blamed back old
+  for_action back (Writes a n) is old = absurd is
+  for_action back Moves is old = moved_change_causes back old
 
-pub keeps_blamed : CommitsInTurn → SeesEarlier → ChangesAreWritten → KeepsBlamed
+pub keeps_change_causes : CommitsInTurn → SeesEarlier → ChangesAreWritten → KeepsChangeCauses
 unfolding observed next work
-keeps_blamed in_turn seen written b maps fit i silent w o h unsent old =
+keeps_change_causes in_turn seen written b maps fit i silent w o h unsent old =
     let s = w.trace.state in
-    let still : rest_of b s ≡ s.places = swept_none b 0 s.places unsent in
+    let still : rest_of b s ≡ s.places = flushed_none b 0 s.places unsent in
     let c = clock_aside b i s in
     let places : (clock b i s).places ≡ (work b i s).places = (beats_keep b i w.trace o).places in
     let back = some_send b 0 s.places in
-    let turned_on = subst (λ rest. (let u = turn_of b i s rest in let v = worked b s back rest u in AreBlamedIn b maps (w.trace.left ++ left_as u (place_at rest b.plan.last)) (views_after b s u w.views) v.places v.done v.tables (seen_after b s rest u w.seen))) (sym still)
-    (for_turn in_turn seen written b maps fit w h still o.places back (turn_of b i s s.places) (turn_is b i silent s s.places) old) in
+    let acted_on = subst (λ rest. (let u = action_of b i s rest in let v = worked b s back rest u in HaveChangeCausesIn b maps (w.trace.left ++ left_as u (place_at rest b.plan.last)) (views_after b s u w.views) v.places v.done v.tables (seen_after b s rest u w.seen))) (sym still)
+    (for_action in_turn seen written b maps fit w h still o.places back (action_of b i s s.places) (action_is b i silent s s.places) old) in
     let after = observed b i w in
-    subst (λ xs. AreBlamedIn b maps after.trace.left after.views xs (clock b i s).done (clock b i s).tables after.seen) (sym places)
-    (subst (λ d. AreBlamedIn b maps after.trace.left after.views (work b i s).places d (clock b i s).tables after.seen) (sym c.done)
-    (subst (λ (t : TableState). AreBlamedIn b maps after.trace.left after.views (work b i s).places (work b i s).done t after.seen) (sym c.tables) turned_on))
+    subst (λ xs. HaveChangeCausesIn b maps after.trace.left after.views xs (clock b i s).done (clock b i s).tables after.seen) (sym places)
+    (subst (λ d. HaveChangeCausesIn b maps after.trace.left after.views (work b i s).places d (clock b i s).tables after.seen) (sym c.done)
+    (subst (λ (t : TableState). HaveChangeCausesIn b maps after.trace.left after.views (work b i s).places (work b i s).done t after.seen) (sym c.tables) acted_on))
 
-pub begins_blamed : BeginsBlamed
-begins_blamed b maps k x at waits = absurd (nobody (suc b.plan.last) k x at)
+pub begins_change_causes : BeginsChangeCauses
+begins_change_causes b maps k x at waits = absurd (nobody (suc b.plan.last) k x at)
   where
     nobody : (n k : ℕ) (x : Packet) → place_at (replicate n None) k ≡ Some x → ⊥
     nobody zero k x e = cc

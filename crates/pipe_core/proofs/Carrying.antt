@@ -7,60 +7,52 @@ use Rattle.std.proofs.lemmas.Grind.{common_steps}
 use Rattle.hazard_core.specs.xdp_maps.State.{MapState}
 use Rattle.hazard_core.specs.cell_core.Cells.{bit}
 use Rattle.hazard_core.specs.cell_core.Rows.{RowsRise}
-use Rattle.hazard_core.specs.Held.{Held}
+use Rattle.hazard_core.specs.StageValues.{StageValues}
 use Rattle.hazard_core.specs.Tables.{TableState}
 use Rattle.hazard_core.specs.declared.change.Change.{Change}
 use Rattle.hazard_core.specs.Commits.{change_by, host_change}
 use Rattle.realization.specs.beat_core.Ports.{Arrival}
-use Rattle.pipe_core.specs.Machine.{Packet, State, Input, Build, Turn, Commits, Writes, Moves, no_frame, packet_of, place_at, inside, sends, swept, some_send, entered, struck, struck_below, enters, moved, newcomer, injected, worked, work, turn_of, gathered, scattered, beat_over, taken_beat, clock}
+use Rattle.pipe_core.specs.Machine.{Packet, State, Input, Build, Action, Commits, Writes, Moves, no_frame, packet_of, place_at, inside, sends, flushed, some_send, entered, marked_by, marked_below, enters, moved, newcomer, injected, worked, work, action_of, gathered, scattered, beat_over, taken_beat, clock}
 use Rattle.pipe_core.specs.History.{Trace, came_in, left_as, left_in, next, run, begin, IsInOrder}
 use Rattle.pipe_core.specs.Computed.{Computes, PlacesCompute, LeftCompute, IsComputed, IsPlanned, KeepsComputed, IsAlwaysComputed}
-use Rattle.pipe_core.proofs.Order.{last_or, moved_inside, place_last, some_last, swept_length, swept_inside, struck_inside, work_keeps, beats_keep, keeps_order, begins}
+use Rattle.pipe_core.proofs.Order.{last_or, moved_inside, place_last, some_last, marked_by_inside, work_keeps, beats_keep, keeps_order, begins}
 use Rattle.pipe_core.proofs.Computing.{takes_row, nothing_computes}
+use Rattle.pipe_core.proofs.FlushLaws.{flushed_inside, flushed_length, flushed_none}
 
 -- ---- sending back
 
-pub swept_none : (b : Build) (k : ℕ) (xs : List (Option Packet)) → some_send b k xs ≡ false → swept b k xs ≡ xs
-swept_none b k [] e = refl
-swept_none b k (x ∷ xs) e = by (sends b k x) (some_send b (suc k) xs) refl e (swept_none b (suc k) xs)
+pub flushed_computes : (b : Build) (fs : List Arrival) (k : ℕ) (xs : List (Option Packet)) → PlacesCompute b fs k xs → PlacesCompute b fs k (flushed b k xs)
+flushed_computes b fs k [] h = tt
+flushed_computes b fs k (None ∷ xs) h = by (some_send b k (None ∷ xs)) (flushed_computes b fs (suc k) xs h)
   where
-    by : (c d : Bool) → some_send b (suc k) xs ≡ d → c || d ≡ false → (some_send b (suc k) xs ≡ false → swept b (suc k) xs ≡ xs) → (if c || d then None else x) ∷ swept b (suc k) xs ≡ x ∷ xs
-    by true d p e more = cc
-    by false true p e more = cc
-    by false false p e more = ap (λ l. x ∷ l) (more p)
-
-pub swept_computes : (b : Build) (fs : List Arrival) (k : ℕ) (xs : List (Option Packet)) → PlacesCompute b fs k xs → PlacesCompute b fs k (swept b k xs)
-swept_computes b fs k [] h = tt
-swept_computes b fs k (None ∷ xs) h = by (some_send b k (None ∷ xs)) (swept_computes b fs (suc k) xs h)
-  where
-    by : (c : Bool) → PlacesCompute b fs (suc k) (swept b (suc k) xs) → PlacesCompute b fs k ((if c then None else None) ∷ swept b (suc k) xs)
+    by : (c : Bool) → PlacesCompute b fs (suc k) (flushed b (suc k) xs) → PlacesCompute b fs k ((if c then None else None) ∷ flushed b (suc k) xs)
     by true more = more
     by false more = more
-swept_computes b fs k (Some x ∷ xs) h = by (sends b k (Some x)) (some_send b (suc k) xs) refl (swept_computes b fs (suc k) xs h.1)
+flushed_computes b fs k (Some x ∷ xs) h = by (sends b k (Some x)) (some_send b (suc k) xs) refl (flushed_computes b fs (suc k) xs h.1)
   where
-    by : (c d : Bool) → some_send b (suc k) xs ≡ d → PlacesCompute b fs (suc k) (swept b (suc k) xs) → PlacesCompute b fs k ((if c || d then None else Some x) ∷ swept b (suc k) xs)
+    by : (c d : Bool) → some_send b (suc k) xs ≡ d → PlacesCompute b fs (suc k) (flushed b (suc k) xs) → PlacesCompute b fs k ((if c || d then None else Some x) ∷ flushed b (suc k) xs)
     by true d p more = more
     by false true p more = more
-    by false false p more = subst (λ l. PlacesCompute b fs k (Some x ∷ l)) (sym (swept_none b (suc k) xs p)) h
+    by false false p more = subst (λ l. PlacesCompute b fs k (Some x ∷ l)) (sym (flushed_none b (suc k) xs p)) h
 
 -- ---- marks
 
-struck_computes_one : (b : Build) (t : TableState) (k : ℕ) (e : Change) (c : Arrival) (r : ℕ) (x : Packet) → Computes b (packet_of c) r x.held → Computes b (packet_of c) r (struck b t k e x).held
-unfolding struck
-struck_computes_one b t k e c r x h = h
+marked_by_computes_one : (b : Build) (t : TableState) (k : ℕ) (e : Change) (c : Arrival) (r : ℕ) (x : Packet) → Computes b (packet_of c) r x.held → Computes b (packet_of c) r (marked_by b t k e x).held
+unfolding marked_by
+marked_by_computes_one b t k e c r x h = h
 
-pub struck_computes : (to : ℕ) (b : Build) (t : TableState) (e : Change) (fs : List Arrival) (k : ℕ) (xs : List (Option Packet)) → PlacesCompute b fs k xs → PlacesCompute b fs k (struck_below to b t e k xs)
-struck_computes to b t e fs k [] h = tt
-struck_computes to b t e fs k (None ∷ xs) h = by (nat_lt k to) (struck_computes to b t e fs (suc k) xs h)
+pub marked_by_computes : (to : ℕ) (b : Build) (t : TableState) (e : Change) (fs : List Arrival) (k : ℕ) (xs : List (Option Packet)) → PlacesCompute b fs k xs → PlacesCompute b fs k (marked_below to b t e k xs)
+marked_by_computes to b t e fs k [] h = tt
+marked_by_computes to b t e fs k (None ∷ xs) h = by (nat_lt k to) (marked_by_computes to b t e fs (suc k) xs h)
   where
-    by : (c : Bool) → PlacesCompute b fs (suc k) (struck_below to b t e (suc k) xs) → PlacesCompute b fs k ((if c then option_map (struck b t k e) None else None) ∷ struck_below to b t e (suc k) xs)
+    by : (c : Bool) → PlacesCompute b fs (suc k) (marked_below to b t e (suc k) xs) → PlacesCompute b fs k ((if c then option_map (marked_by b t k e) None else None) ∷ marked_below to b t e (suc k) xs)
     by true more = more
     by false more = more
-struck_computes to b t e fs k (Some x ∷ xs) h = by (nat_lt k to) (subst (λ n. Computes b (packet_of (get_or fs n no_frame)) (suc k) x.held) (sym (struck_inside to b t e (suc k) xs)) h.0) (struck_computes to b t e fs (suc k) xs h.1)
+marked_by_computes to b t e fs k (Some x ∷ xs) h = by (nat_lt k to) (subst (λ n. Computes b (packet_of (get_or fs n no_frame)) (suc k) x.held) (sym (marked_by_inside to b t e (suc k) xs)) h.0) (marked_by_computes to b t e fs (suc k) xs h.1)
   where
-    by : (c : Bool) → Computes b (packet_of (get_or fs (inside (struck_below to b t e (suc k) xs)) no_frame)) (suc k) x.held → PlacesCompute b fs (suc k) (struck_below to b t e (suc k) xs) →
-        PlacesCompute b fs k ((if c then option_map (struck b t k e) (Some x) else Some x) ∷ struck_below to b t e (suc k) xs)
-    by true own more = (struck_computes_one b t k e (get_or fs (inside (struck_below to b t e (suc k) xs)) no_frame) (suc k) x own, more)
+    by : (c : Bool) → Computes b (packet_of (get_or fs (inside (marked_below to b t e (suc k) xs)) no_frame)) (suc k) x.held → PlacesCompute b fs (suc k) (marked_below to b t e (suc k) xs) →
+        PlacesCompute b fs k ((if c then option_map (marked_by b t k e) (Some x) else Some x) ∷ marked_below to b t e (suc k) xs)
+    by true own more = (marked_by_computes_one b t k e (get_or fs (inside (marked_below to b t e (suc k) xs)) no_frame) (suc k) x own, more)
     by false own more = (own, more)
 
 -- ---- moving on
@@ -74,7 +66,7 @@ entered_computes : (b : Build) → RowsRise → IsPlanned b → (t : TableState)
 unfolding entered
 entered_computes b rise plan t k c x h = takes_row b rise plan (packet_of c) k t x.held h
 
--- the frames behind those of the packets that leave
+-- the frames after those of the packets that leave
 pub behind : (out : ℕ) (fs : List Arrival) (n m : ℕ) → n + out ≡ m → get_or (drop out fs) n no_frame ≡ get_or fs m no_frame
 behind out fs n m e = get_or-drop out fs n no_frame ∙ ap (λ j. get_or fs j no_frame) (omega (arith, e))
 
@@ -124,11 +116,11 @@ newcomer_ready b back fs rest c = by (not back && nat_lt (inside rest) (length f
 
 -- ---- the work of a clock
 
-pub record Carries (b : Build) (s w : State) (gone : List Held) : Type 0 where
+pub record Carries (b : Build) (s w : State) (gone : List StageValues) : Type 0 where
   pub places : PlacesCompute b w.frames 0 w.places
   pub left : LeftCompute b gone s.frames
 
-left_one : (b : Build) (fs : List Arrival) (h : Held) → 1 ≤ length fs → Computes b (packet_of (get_or fs 0 no_frame)) (suc b.plan.last) h → LeftCompute b (h ∷ []) fs
+left_one : (b : Build) (fs : List Arrival) (h : StageValues) → 1 ≤ length fs → Computes b (packet_of (get_or fs 0 no_frame)) (suc b.plan.last) h → LeftCompute b (h ∷ []) fs
 left_one b [] h l k = absurd (omega arith)
 left_one b (f ∷ fs) h l k = (k, tt)
 
@@ -153,31 +145,31 @@ moves_carry b rise plan s back (x ∷ xs) h l k = record {
         let m : bit (is_some (last_or x xs)) ≡ 1 = sym (ap (λ z. bit (is_some z)) e) in
         left_one b s.frames y.held (omega (arith, some_last x xs, l, m)) (last_computes b s.frames 0 b.plan.last x xs y (sym e) k (omega (arith, h)))
 
-turned_carries : (b : Build) → RowsRise → IsPlanned b → (s : State) (back : Bool) (rest : List (Option Packet)) (u : Turn) → length rest ≡ suc b.plan.last → inside rest ≤ length s.frames → PlacesCompute b s.frames 0 rest →
+acted_carries : (b : Build) → RowsRise → IsPlanned b → (s : State) (back : Bool) (rest : List (Option Packet)) (u : Action) → length rest ≡ suc b.plan.last → inside rest ≤ length s.frames → PlacesCompute b s.frames 0 rest →
     Carries b s (worked b s back rest u) (left_as u (place_at rest b.plan.last))
-turned_carries b rise plan s back rest (Commits j x) h l k = record {
-  places = struck_computes b.plan.commit b s.tables (change_by b.program s.tables s.taken x.held j) s.frames 0 rest k;
+acted_carries b rise plan s back rest (Commits j x) h l k = record {
+  places = marked_by_computes b.plan.commit b s.tables (change_by b.program s.tables s.taken x.held j) s.frames 0 rest k;
   left = nothing (place_at rest b.plan.last);
 }
   where
     nothing : (y : Option Packet) → LeftCompute b (left_as (Commits j x) y) s.frames
     nothing None = tt
     nothing (Some y) = tt
-turned_carries b rise plan s back rest (Writes a n) h l k = record {
-  places = struck_computes (suc b.plan.commit) b s.tables (host_change s.tables a) s.frames 0 rest k;
+acted_carries b rise plan s back rest (Writes a n) h l k = record {
+  places = marked_by_computes (suc b.plan.commit) b s.tables (host_change s.tables a) s.frames 0 rest k;
   left = nothing (place_at rest b.plan.last);
 }
   where
     nothing : (y : Option Packet) → LeftCompute b (left_as (Writes a n) y) s.frames
     nothing None = tt
     nothing (Some y) = tt
-turned_carries b rise plan s back rest Moves h l k = moves_carry b rise plan s back rest h l k
+acted_carries b rise plan s back rest Moves h l k = moves_carry b rise plan s back rest h l k
 
 pub work_carries : (b : Build) → RowsRise → IsPlanned b → (i : Input) (s : State) → length s.places ≡ suc b.plan.last → inside s.places ≤ length s.frames → PlacesCompute b s.frames 0 s.places → Carries b s (work b i s) (left_in b i s)
 unfolding work
 work_carries b rise plan i s h l k =
-    let rest = swept b 0 s.places in
-    turned_carries b rise plan s (some_send b 0 s.places) rest (turn_of b i s rest) (swept_length b 0 s.places ∙ h) (omega (arith, swept_inside b 0 s.places, l)) (swept_computes b s.frames 0 s.places k)
+    let rest = flushed b 0 s.places in
+    acted_carries b rise plan s (some_send b 0 s.places) rest (action_of b i s rest) (flushed_length b 0 s.places ∙ h) (omega (arith, flushed_inside b 0 s.places, l)) (flushed_computes b s.frames 0 s.places k)
 
 -- ---- frames that come
 
@@ -190,12 +182,12 @@ places_more b fs more k (None ∷ xs) l h = places_more b fs more (suc k) xs l h
 places_more b fs more k (Some x ∷ xs) l h =
     (subst (λ c. Computes b (packet_of c) (suc k) x.held) (sym (get_or_front fs more (inside xs) no_frame (omega arith))) h.0, places_more b fs more (suc k) xs (omega arith) h.1)
 
-pub left_more : (b : Build) (hs : List Held) (cs ds : List Arrival) → LeftCompute b hs cs → LeftCompute b hs (cs ++ ds)
+pub left_more : (b : Build) (hs : List StageValues) (cs ds : List Arrival) → LeftCompute b hs cs → LeftCompute b hs (cs ++ ds)
 left_more b [] cs ds h = tt
 left_more b (x ∷ hs) [] ds h = absurd h
 left_more b (x ∷ hs) (c ∷ cs) ds h = (h.0, left_more b hs cs ds h.1)
 
-pub left_append : (b : Build) (hs gs : List Held) (cs : List Arrival) → LeftCompute b hs cs → LeftCompute b gs (drop (length hs) cs) → LeftCompute b (hs ++ gs) cs
+pub left_append : (b : Build) (hs gs : List StageValues) (cs : List Arrival) → LeftCompute b hs cs → LeftCompute b gs (drop (length hs) cs) → LeftCompute b (hs ++ gs) cs
 left_append b [] gs cs h k = k
 left_append b (x ∷ hs) gs [] h k = absurd h
 left_append b (x ∷ hs) gs (c ∷ cs) h k = (h.0, left_append b hs gs cs h.1 k)

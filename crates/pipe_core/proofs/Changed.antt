@@ -15,6 +15,7 @@ use Rattle.hazard_core.specs.xdp_maps.State.{MapState, decl_at, contents_at}
 use Rattle.hazard_core.specs.xdp_maps.Calls.{lookup_of, number_of, update_error, update_error_as}
 use Rattle.hazard_core.specs.xdp_maps.Operations.{Operation, key_in}
 use Rattle.hazard_core.specs.xdp_maps.Touched.{Resource, Present, Content, Size, where_done, update_writes, writes as resources_written}
+use Rattle.hazard_core.proofs.xdp_maps_laws.ResourceLaws.{first, second, third}
 use Rattle.hazard_core.specs.cell_core.declared.site.Act.{Act}
 use Rattle.hazard_core.specs.cell_core.declared.site.Act.TheVariants as act
 use Rattle.hazard_core.specs.cell_core.Acts.{reads, asks, says_done}
@@ -26,19 +27,16 @@ use Rattle.hazard_core.specs.declared.pointer.Pointer.{Pointer}
 use Rattle.hazard_core.specs.declared.pointer.Pointer.TheVariants.{Null, InSlot, Pending}
 use Rattle.hazard_core.specs.Tables.{TableState, decl_of, table_at, slot_at, no_slot, has_key, slot_of, maps_of}
 use Rattle.hazard_core.specs.Tabled.{AreTables}
-use Rattle.hazard_core.specs.Held.{is_null, same_pointer, Held, held_value, pointer_in, guard_on, asked, asked_key, found_cell, answer_cell, is_update, is_delete, writes_as, writes, update_pointer, slot_pointer, written_as, written_pointer}
+use Rattle.hazard_core.specs.StageValues.{is_null, same_pointer, StageValues, stage_value, pointer_in, guard_on, asked, asked_key, found_cell, answer_cell, is_update, is_delete, writes_as, writes, update_pointer, slot_pointer, written_as, written_pointer}
 use Rattle.hazard_core.specs.Overlay.{found_pointer}
 use Rattle.hazard_core.specs.Commits.{makes_entry, changed_key, written_slot, slot_as, committed, change_by}
 use Rattle.hazard_core.specs.Replay.{Replayed, replayed, earlier, HoldsReads, IsInTurn, ReadsInTurn, CommitsInTurn}
 use Rattle.pipe_core.specs.Meeting.{site_writes, IsWritten, ChangesAreWritten}
 use Rattle.pipe_core.proofs.Resources.{update_none, delete_there}
-use Rattle.pipe_core.proofs.Meeting.{Sourced, sourced_below, slot_has, first, second, absent, decl_is}
+use Rattle.pipe_core.proofs.Meeting.{Sourced, sourced_below, slot_has, absent, decl_is}
 
 no_case : false ≡ true → ⊥
 no_case e = cc
-
-third : (r s t : Resource) → Contains (r ∷ s ∷ t ∷ []) t
-third r s t = (2, omega arith, refl)
 
 content_written : (q : ℕ) (key : List ℕ) (b : Bool) → Contains (update_writes q key b) (Content q key)
 content_written q key true = first (Content q key) []
@@ -63,7 +61,7 @@ small_flags d c key flags e = by d.kind e
     by Hash f = at_most (known (nat_lt 2 flags) EINVAL _ f)
     by Array f = at_most (known (nat_lt 2 flags) EINVAL _ f)
 
-module _ (in_turn : CommitsInTurn) (right : ReadsInTurn) (p : ProgramView) (t : TableState) (taken : List ℕ) (h : Held) (tables : AreTables t) (fit : AllFit t.decls p.sites) (long : length taken ≡ length p.sites) (reads_hold : HoldsReads p t h)
+module _ (in_turn : CommitsInTurn) (right : ReadsInTurn) (p : ProgramView) (t : TableState) (taken : List ℕ) (h : StageValues) (tables : AreTables t) (fit : AllFit t.decls p.sites) (long : length taken ≡ length p.sites) (reads_hold : HoldsReads p t h)
     (j : ℕ) (l : j < length p.sites) (wrote : writes p t.decls h j ≡ true) where
   abbrev s : SiteView
   s = site_at p.sites j
@@ -77,20 +75,20 @@ module _ (in_turn : CommitsInTurn) (right : ReadsInTurn) (p : ProgramView) (t : 
   abbrev r : Replayed
   r = replayed p h (record { tables = t; taken = taken }) j
 
-  turn : IsInTurn p t taken h j
-  turn = in_turn p t taken h tables fit long reads_hold j (omega (arith, l))
+  action : IsInTurn p t taken h j
+  action = in_turn p t taken h tables fit long reads_hold j (omega (arith, l))
 
   abbrev n : ℕ
   n = written_slot p r.tables r.taken h j
 
   abbrev maps : MapState
-  maps = after (held_value h) (maps_of t) (take j p.sites)
+  maps = after (stage_value h) (maps_of t) (take j p.sites)
 
   abbrev words : List ℕ
-  words = map_list (held_value h) (site_at p.sites j).key
+  words = map_list (stage_value h) (site_at p.sites j).key
 
   abbrev xs : List ℕ
-  xs = map_list (held_value h) (site_at p.sites j).operands
+  xs = map_list (stage_value h) (site_at p.sites j).operands
 
   abbrev key : List ℕ
   key = bytes_of (decl_of t.decls (site_at p.sites j).map).key words
@@ -101,14 +99,14 @@ module _ (in_turn : CommitsInTurn) (right : ReadsInTurn) (p : ProgramView) (t : 
   slot_is : slot_at (table_at (committed p r.tables r.taken h j) q) n ≡ new
   unfolding committed
   slot_is =
-      let c = turn.right l wrote in
+      let c = action.right l wrote in
       ap (λ (ss : List Slot). slot_at ss n) (get_or-set_same r.tables.tables q (slice_set (table_at r.tables q) n new) [] c.map) ∙ get_or-set_same (table_at r.tables q) n new no_slot c.slot
 
   guard : guard_on h (site_at p.sites j) ≡ true
-  guard = (and_parts (guard_on h s) (writes_as s.act d.kind (held_value h (answer_cell p.cells j))) wrote).0
+  guard = (and_parts (guard_on h s) (writes_as s.act d.kind (stage_value h (answer_cell p.cells j))) wrote).0
 
-  as_wrote : writes_as (site_at p.sites j).act (decl_of t.decls (site_at p.sites j).map).kind (held_value h (answer_cell p.cells j)) ≡ true
-  as_wrote = (and_parts (guard_on h s) (writes_as s.act d.kind (held_value h (answer_cell p.cells j))) wrote).1
+  as_wrote : writes_as (site_at p.sites j).act (decl_of t.decls (site_at p.sites j).map).kind (stage_value h (answer_cell p.cells j)) ≡ true
+  as_wrote = (and_parts (guard_on h s) (writes_as s.act d.kind (stage_value h (answer_cell p.cells j))) wrote).1
 
   own_key : asked_key t.decls h (site_at p.sites j) ≡ key
   own_key = by s.act
@@ -122,12 +120,12 @@ module _ (in_turn : CommitsInTurn) (right : ReadsInTurn) (p : ProgramView) (t : 
       by (act.Atomic at a) = refl
 
   asked_own : asked_key r.tables.decls h (site_at p.sites j) ≡ key
-  asked_own = ap (λ ds. asked_key ds h s) turn.decls ∙ own_key
+  asked_own = ap (λ ds. asked_key ds h s) action.decls ∙ own_key
 
   -- but for a delete the new slot has the key
   landed : is_delete (site_at p.sites j).act ≡ false → (new.used ≡ true) × (new.key ≡ key)
   landed stays =
-      let has = slot_has (table_at (committed p r.tables r.taken h j) q) (asked_key t.decls h s) n (turn.lands l wrote stays) in
+      let has = slot_has (table_at (committed p r.tables r.taken h j) q) (asked_key t.decls h s) n (action.lands l wrote stays) in
       let here = subst (λ (x : Slot). has_key (asked_key t.decls h s) x ≡ true) slot_is has in
       let parts = and_parts new.used (bytes_eq new.key (asked_key t.decls h s)) here in
       (parts.0, (bytes_eq-Decides new.key (asked_key t.decls h s)).0 parts.1 ∙ own_key)
@@ -194,7 +192,7 @@ module _ (in_turn : CommitsInTurn) (right : ReadsInTurn) (p : ProgramView) (t : 
   abbrev written_by : Act → List Resource
   written_by a = resources_written maps q (operation_with (decl_at maps q) a words xs)
 
-  decl_here : decl_at (after (held_value h) (maps_of t) (take j p.sites)) (site_at p.sites j).map ≡ decl_of t.decls (site_at p.sites j).map
+  decl_here : decl_at (after (stage_value h) (maps_of t) (take j p.sites)) (site_at p.sites j).map ≡ decl_of t.decls (site_at p.sites j).map
   decl_here = decl_is right p t h tables fit reads_hold j l guard e
 
   abbrev here_key : List ℕ
@@ -203,7 +201,7 @@ module _ (in_turn : CommitsInTurn) (right : ReadsInTurn) (p : ProgramView) (t : 
   key_here : here_key ≡ key
   key_here = ap (λ (x : MapDecl). bytes_of x.key words) decl_here
 
-  answered : says_done s.act d.kind ≡ true → reads s.act ≡ true → (held_value h (answer_cell p.cells j) == 0) ≡ true → (a : Act) → s.act ≡ a → (answer_as a (decl_at maps q) (contents_at maps q) (operation_with (decl_at maps q) a words xs) == 0) ≡ true
+  answered : says_done s.act d.kind ≡ true → reads s.act ≡ true → (stage_value h (answer_cell p.cells j) == 0) ≡ true → (a : Act) → s.act ≡ a → (answer_as a (decl_at maps q) (contents_at maps q) (operation_with (decl_at maps q) a words xs) == 0) ≡ true
   answered says is_read zeroed a is =
       let done = reads_hold.done j l guard says in
       let r_answer = (right p t h tables fit reads_hold j l guard).answer is_read in
@@ -213,7 +211,7 @@ module _ (in_turn : CommitsInTurn) (right : ReadsInTurn) (p : ProgramView) (t : 
   makes_absent : s.act ≡ act.Update → nat_le (slice_index xs 0) 2 ≡ true → makes_entry p r.tables h j ≡ true → is_some (lookup_of (contents_at maps q) here_key) ≡ false
   makes_absent is small makes =
       let same : same_pointer (written_pointer p r.tables h j) (Pending j) ≡ true = (and_parts (is_update s.act) (same_pointer (written_pointer p r.tables h j) (Pending j)) makes).1 in
-      by d.kind refl (ap (λ (u : Pointer). same_pointer u (Pending j)) (sym (ap (λ (a : Act). written_as a (decl_of r.tables.decls q).kind p r.tables h j) is ∙ ap (λ ds. written_as act.Update (decl_of ds q).kind p r.tables h j) turn.decls)) ∙ same)
+      by d.kind refl (ap (λ (u : Pointer). same_pointer u (Pending j)) (sym (ap (λ (a : Act). written_as a (decl_of r.tables.decls q).kind p r.tables h j) is ∙ ap (λ ds. written_as act.Update (decl_of ds q).kind p r.tables h j) action.decls)) ∙ same)
     where
       tabled : (u : Pointer) → ((i : ℕ) → u ≡ Pending i → ⊥) → same_pointer u (Pending j) ≡ false
       tabled Null none = refl
@@ -250,7 +248,7 @@ module _ (in_turn : CommitsInTurn) (right : ReadsInTurn) (p : ProgramView) (t : 
     content : Contains ws (Content q here_key)
     present : presence ≡ true → Contains ws (Present q here_key) × Contains ws (Size q)
 
-  wrote_as : (a : Act) → s.act ≡ a → (k : MapKind) → d.kind ≡ k → writes_as a k (held_value h (answer_cell p.cells j)) ≡ true → Wrote (written_by a) (is_delete a || makes_entry p r.tables h j)
+  wrote_as : (a : Act) → s.act ≡ a → (k : MapKind) → d.kind ≡ k → writes_as a k (stage_value h (answer_cell p.cells j)) ≡ true → Wrote (written_by a) (is_delete a || makes_entry p r.tables h j)
   wrote_as act.Update is k kind w =
       let flags = slice_index xs 0 in
       let D = decl_at maps q in

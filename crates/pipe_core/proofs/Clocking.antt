@@ -10,16 +10,18 @@ use Rattle.hazard_core.specs.cell_core.Cells.{bit}
 use Rattle.hazard_core.specs.cell_core.Formed.{AllFit}
 use Rattle.hazard_core.specs.cell_core.Sites.{ProgramView, site_at, with_bytes}
 use Rattle.hazard_core.specs.xdp_maps.declared.decl.MapDecl.{MapDecl}
-use Rattle.hazard_core.specs.Held.{Held, held_value, is_update}
+use Rattle.hazard_core.specs.StageValues.{StageValues, stage_value, is_update}
 use Rattle.hazard_core.specs.Tables.{TableState}
 use Rattle.hazard_core.specs.declared.access.Access.{Access}
 use Rattle.hazard_core.specs.Commits.{committed, taken_after, change_by, host_written, host_change, written_slot}
-use Rattle.pipe_core.specs.Machine.{Packet, State, Input, Build, Turn, Commits, Writes, Moves, place_at, inside, swept, some_send, enters, moved, newcomer, answers_by, answer_of, no_frame, chosen, commits_as, commits_or_moves, turn_as, worked, work, turn_of, came_with, gathered, is_ready, beat_at, beat_over, taken_beat, scattered, clock}
-use Rattle.pipe_core.specs.Queued.{Queued, came_bytes, left_word, left_frames, answered_as}
+use Rattle.pipe_core.specs.Machine.{Packet, State, Input, Build, Action, Commits, Writes, Moves, place_at, inside, flushed, some_send, enters, moved, newcomer, answers_by, answer_of, no_frame, chosen, commits_as, commits_or_moves, action_as, worked, work, action_of, came_with, gathered, is_ready, beat_at, beat_over, taken_beat, scattered, clock}
+use Rattle.pipe_core.specs.FrameQueue.{FrameQueue, came_bytes, left_word, left_frames, answered_as}
 use Rattle.pipe_core.specs.StateView.{state_of}
-use Rattle.pipe_core.specs.Piped.{IsSteady, has_room}
+use Rattle.pipe_core.specs.PipeView.{IsSteady, has_room}
 use Rattle.pipe_core.specs.declared.arrived.TheConstants.{FRAME_ROOM}
-use Rattle.pipe_core.proofs.Order.{swept_length, swept_inside, struck_length, struck_inside, last_or, place_last, some_last, append_none, moves}
+use Rattle.pipe_core.proofs.Order.{marked_by_length, marked_by_inside, last_or, place_last, some_last, append_none, moves}
+use Rattle.pipe_core.proofs.FlushLaws.{flushed_inside, flushed_length}
+use Rattle.pipe_core.proofs.ClockLaws.{worked_part}
 
 -- ---- the packets move on
 
@@ -40,7 +42,7 @@ moved_first b t f g fs k x y (z ∷ zs) h =
     ∙ ap (λ (l : List (Option Packet)). enters b t k (get_or (g ∷ fs) (inside (y ∷ z ∷ zs)) no_frame) x ∷ l) (moved_first b t f g fs (suc k) y z zs h)
 
 -- the oldest frame becomes the answer, the packets move, and the answer goes over
-pub advanced : (b : Build) (t : TableState) (q : Queued) (places : List (Option Packet)) (done : ℕ) (taken : List ℕ) (passed : ℕ) (back : Bool)
+pub advanced : (b : Build) (t : TableState) (q : FrameQueue) (places : List (Option Packet)) (done : ℕ) (taken : List ℕ) (passed : ℕ) (back : Bool)
     → length places ≡ suc b.plan.last → inside places ≤ length q.frames
     → (let x = place_at places b.plan.last in let fs = left_frames b.program x q.frames in
     state_of t (answered_as (option_map (left_word b.program) x) (record q { frames = fs })) (moved b t fs 0 (newcomer b back fs places) places) 0 taken
@@ -70,7 +72,7 @@ advanced b t q (p ∷ ps) done taken passed back long l = by (place_at (p ∷ ps
     by (Some x) e [] is = absurd (omega (arith, ap length is, l, some_last p ps, ap (λ z. bit (is_some z)) e))
     by (Some x) e (f ∷ fs) is =
         ap (λ l. state_of t (record q { answers = q.answers ++ answer_of b.program x.held f ∷ []; frames = fs }) l 0 taken ((passed + bit (is_some (place_at (p ∷ ps) b.plan.commit))) % 2 ^ 32))
-        (moved_first b t (record f { frame = with_bytes (held_value x.held) f.frame b.program.frame }) f fs 0 (newcomer b back (f ∷ fs) (p ∷ ps)) p ps (sym (ap (λ z. bit (is_some z)) e)))
+        (moved_first b t (record f { frame = with_bytes (stage_value x.held) f.frame b.program.frame }) f fs 0 (newcomer b back (f ∷ fs) (p ∷ ps)) p ps (sym (ap (λ z. bit (is_some z)) e)))
 
 -- ---- what a clock does
 
@@ -82,26 +84,26 @@ pub moves_at : (b : Build) (s : State) (p : Option Packet) → option_and_then (
 moves_at b s None e = refl
 moves_at b s (Some x) e = ap (commits_as x) e
 
--- once the places are swept
-pub turn_swept : (b : Build) (s : State) (rest : List (Option Packet)) (w : Option (Access × ℕ)) → turn_as b (record s { places = rest }) rest w ≡ turn_as b s rest w
-turn_swept b s rest (Some w) = refl
-turn_swept b s rest None = by (place_at rest b.plan.commit)
+-- once the places are flushed
+pub action_flushed : (b : Build) (s : State) (rest : List (Option Packet)) (w : Option (Access × ℕ)) → action_as b (record s { places = rest }) rest w ≡ action_as b s rest w
+action_flushed b s rest (Some w) = refl
+action_flushed b s rest None = by (place_at rest b.plan.commit)
   where
     by : (x : Option Packet) → commits_or_moves b (record s { places = rest }) x ≡ commits_or_moves b s x
     by None = refl
     by (Some x) = refl
 
-pub worked_swept : (b : Build) (s : State) (back : Bool) (rest : List (Option Packet)) (u : Turn) → worked b (record s { places = rest }) back rest u ≡ worked b s back rest u
-worked_swept b s back rest (Commits j x) = refl
-worked_swept b s back rest (Writes a n) = refl
-worked_swept b s back rest Moves = refl
+pub worked_flushed : (b : Build) (s : State) (back : Bool) (rest : List (Option Packet)) (u : Action) → worked b (record s { places = rest }) back rest u ≡ worked b s back rest u
+worked_flushed b s back rest (Commits j x) = refl
+worked_flushed b s back rest (Writes a n) = refl
+worked_flushed b s back rest Moves = refl
 
 -- ---- the pipe stays steady
 
-pub swept_steady : (b : Build) (s : State) (n : ℕ) → IsSteady b s n → IsSteady b (record s { places = swept b 0 s.places }) n
-swept_steady b s n h = record { fits = h.fits; places = swept_length b 0 s.places ∙ h.places; packets = omega (arith, swept_inside b 0 s.places, h.packets); taken = h.taken; slots = h.slots }
+pub flushed_steady : (b : Build) (s : State) (n : ℕ) → IsSteady b s n → IsSteady b (record s { places = flushed b 0 s.places }) n
+flushed_steady b s n h = record { fits = h.fits; places = flushed_length b 0 s.places ∙ h.places; packets = omega (arith, flushed_inside b 0 s.places, h.packets); taken = h.taken; slots = h.slots }
 
-pub committed_decls : (p : ProgramView) (t : TableState) (taken : List ℕ) (h : Held) (j : ℕ) → (committed p t taken h j).decls ≡ t.decls
+pub committed_decls : (p : ProgramView) (t : TableState) (taken : List ℕ) (h : StageValues) (j : ℕ) → (committed p t taken h j).decls ≡ t.decls
 unfolding committed
 committed_decls p t taken h j = refl
 
@@ -109,7 +111,7 @@ pub written_decls : (t : TableState) (a : Access) (n : ℕ) → (host_written t 
 unfolding host_written
 written_decls t a n = refl
 
-pub taken_length : (p : ProgramView) (t : TableState) (taken : List ℕ) (h : Held) (j : ℕ) → length (taken_after p t taken h j) ≡ length taken
+pub taken_length : (p : ProgramView) (t : TableState) (taken : List ℕ) (h : StageValues) (j : ℕ) → length (taken_after p t taken h j) ≡ length taken
 taken_length p t taken h j = by (is_update (site_at p.sites j).act)
   where
     by : (c : Bool) → length (if c then slice_set taken j (written_slot p t taken h j) else taken) ≡ length taken
@@ -122,8 +124,8 @@ fits_as b old new same fits = subst (λ d. AllFit d b.program.sites) (sym same) 
 pub committed_steady : (b : Build) (s : State) (n : ℕ) (back : Bool) (j : ℕ) (x : Packet) → IsSteady b s n → IsSteady b (worked b s back s.places (Commits j x)) n
 committed_steady b s n back j x h = record {
   fits = fits_as b s.tables.decls _ (committed_decls b.program s.tables s.taken x.held j) h.fits;
-  places = struck_length b.plan.commit b s.tables (change_by b.program s.tables s.taken x.held j) 0 s.places ∙ h.places;
-  packets = omega (arith, struck_inside b.plan.commit b s.tables (change_by b.program s.tables s.taken x.held j) 0 s.places, h.packets);
+  places = marked_by_length b.plan.commit b s.tables (change_by b.program s.tables s.taken x.held j) 0 s.places ∙ h.places;
+  packets = omega (arith, marked_by_inside b.plan.commit b s.tables (change_by b.program s.tables s.taken x.held j) 0 s.places, h.packets);
   taken = taken_length b.program s.tables s.taken x.held j ∙ h.taken;
   slots = h.slots;
 }
@@ -131,8 +133,8 @@ committed_steady b s n back j x h = record {
 pub written_steady : (b : Build) (s : State) (n : ℕ) (back : Bool) (a : Access) (m : ℕ) → IsSteady b s n → IsSteady b (worked b s back s.places (Writes a m)) n
 written_steady b s n back a m h = record {
   fits = fits_as b s.tables.decls _ (written_decls s.tables a m) h.fits;
-  places = struck_length (suc b.plan.commit) b s.tables (host_change s.tables a) 0 s.places ∙ h.places;
-  packets = omega (arith, struck_inside (suc b.plan.commit) b s.tables (host_change s.tables a) 0 s.places, h.packets);
+  places = marked_by_length (suc b.plan.commit) b s.tables (host_change s.tables a) 0 s.places ∙ h.places;
+  packets = omega (arith, marked_by_inside (suc b.plan.commit) b s.tables (host_change s.tables a) 0 s.places, h.packets);
   taken = h.taken;
   slots = h.slots;
 }
@@ -158,32 +160,27 @@ scattered_steady b s n (Some x) h = by x.last
 
 -- ---- what the work of a clock leaves for the beats
 
-pub worked_part : (b : Build) (s : State) (back : Bool) (rest : List (Option Packet)) (u : Turn) → (worked b s back rest u).part ≡ s.part
-worked_part b s back rest (Commits j x) = refl
-worked_part b s back rest (Writes a n) = refl
-worked_part b s back rest Moves = refl
-
 pub work_part : (b : Build) (i : Input) (s : State) → (work b i s).part ≡ s.part
 unfolding work
-work_part b i s = worked_part b s (some_send b 0 s.places) (swept b 0 s.places) (turn_of b i s (swept b 0 s.places))
+work_part b i s = worked_part b s (some_send b 0 s.places) (flushed b 0 s.places) (action_of b i s (flushed b 0 s.places))
 
-worked_pos : (b : Build) (s : State) (back : Bool) (rest : List (Option Packet)) (u : Turn) → (worked b s back rest u).pos ≡ s.pos
+worked_pos : (b : Build) (s : State) (back : Bool) (rest : List (Option Packet)) (u : Action) → (worked b s back rest u).pos ≡ s.pos
 worked_pos b s back rest (Commits j x) = refl
 worked_pos b s back rest (Writes a n) = refl
 worked_pos b s back rest Moves = refl
 
 pub work_pos : (b : Build) (i : Input) (s : State) → (work b i s).pos ≡ s.pos
 unfolding work
-work_pos b i s = worked_pos b s (some_send b 0 s.places) (swept b 0 s.places) (turn_of b i s (swept b 0 s.places))
+work_pos b i s = worked_pos b s (some_send b 0 s.places) (flushed b 0 s.places) (action_of b i s (flushed b 0 s.places))
 
-worked_answers : (b : Build) (s : State) (back : Bool) (rest : List (Option Packet)) (u : Turn) → length s.answers ≤ length (worked b s back rest u).answers
+worked_answers : (b : Build) (s : State) (back : Bool) (rest : List (Option Packet)) (u : Action) → length s.answers ≤ length (worked b s back rest u).answers
 worked_answers b s back rest (Commits j x) = omega arith
 worked_answers b s back rest (Writes a n) = omega arith
 worked_answers b s back rest Moves = omega (arith, length-append s.answers (answers_by b.program s.frames (place_at rest b.plan.last)))
 
 work_answers : (b : Build) (i : Input) (s : State) → length s.answers ≤ length (work b i s).answers
 unfolding work
-work_answers b i s = worked_answers b s (some_send b 0 s.places) (swept b 0 s.places) (turn_of b i s (swept b 0 s.places))
+work_answers b i s = worked_answers b s (some_send b 0 s.places) (flushed b 0 s.places) (action_of b i s (flushed b 0 s.places))
 
 gathered_answers : (s : State) (i : Input) (e : Option Beat) → (gathered s i e).answers ≡ s.answers
 gathered_answers s i None = refl
@@ -218,7 +215,7 @@ some_inside (None ∷ xs) zero x e = absurd cc
 some_inside (None ∷ xs) (suc k) x e = some_inside xs k x e
 some_inside (Some y ∷ xs) k x e = omega arith
 
-worked_ready : (b : Build) (s : State) (back : Bool) (rest : List (Option Packet)) (u : Turn) → inside rest ≤ length s.frames → is_ready b (worked b s back rest u) ≡ is_ready b s
+worked_ready : (b : Build) (s : State) (back : Bool) (rest : List (Option Packet)) (u : Action) → inside rest ≤ length s.frames → is_ready b (worked b s back rest u) ≡ is_ready b s
 worked_ready b s back rest (Commits j x) h = refl
 worked_ready b s back rest (Writes a n) h = refl
 worked_ready b s back rest Moves h = by (place_at rest b.plan.last) refl
@@ -236,7 +233,7 @@ worked_ready b s back rest Moves h = by (place_at rest b.plan.last) refl
 -- as many frames and answers are inside
 pub work_ready : (b : Build) (i : Input) (s : State) → inside s.places ≤ length s.frames → is_ready b (work b i s) ≡ is_ready b s
 unfolding work
-work_ready b i s h = let rest = swept b 0 s.places in worked_ready b s (some_send b 0 s.places) rest (turn_of b i s rest) (omega (arith, swept_inside b 0 s.places, h))
+work_ready b i s h = let rest = flushed b 0 s.places in worked_ready b s (some_send b 0 s.places) rest (action_of b i s rest) (omega (arith, flushed_inside b 0 s.places, h))
 
 -- ---- the whole clock
 

@@ -1,6 +1,6 @@
 -- How many operations are committed in a full drive: those that the runs of its frames write.
 use Rattle.std.proofs.Common.{◌≡◌, ℕ, zero, suc, ◌+◌, ◌<◌, ◌≤◌, ◌⊎◌, inl, inr, true, List, [], ◌∷◌, ◌++◌, Option, Some, None, length, get_or, drop, refl, sym, ap, ◌∙◌, subst, arith, length-append, length-drop}
-use Rattle.std.specs.Prelude.{◌&&◌, replicate}
+use Rattle.std.specs.Prelude.{◌&&◌}
 use Rattle.std.specs.List.{flat_map}
 use Rattle.std.proofs.lemmas.Bool.{cases_lt}
 use Rattle.std.proofs.lemmas.List.Sums.{passes_at_first}
@@ -14,31 +14,34 @@ use Rattle.hazard_core.specs.cell_core.Sites.{site_at}
 use Rattle.hazard_core.specs.Tables.{TableState, decl_of}
 use Rattle.hazard_core.specs.Tabled.{LoadsTables}
 use Rattle.hazard_core.specs.Standing.{TablesStand}
-use Rattle.hazard_core.specs.Held.{Held, held_value, guard_on, is_answer_of, answer_cell, writes_as, writes}
+use Rattle.hazard_core.specs.StageValues.{StageValues, stage_value, guard_on, is_answer_of, answer_cell, writes_as, writes}
 use Rattle.hazard_core.specs.Rows.{with_row}
 use Rattle.hazard_core.specs.Commits.{change_by}
-use Rattle.pipe_core.specs.Machine.{Packet, State, Input, Build, Turn, Commits, Writes, Moves, no_frame, place_at, inside, some_send, struck_below, moved, newcomer, entered, packet_of, worked, work, is_ready, clock}
+use Rattle.hazard_core.proofs.HeldLaws.{answer_is}
+use Rattle.pipe_core.specs.Machine.{Packet, State, Input, Build, Action, Commits, Writes, Moves, no_frame, place_at, inside, some_send, marked_below, moved, newcomer, entered, packet_of, worked, work, is_ready, clock}
 use Rattle.pipe_core.specs.History.{left_as, left_in, next}
 use Rattle.pipe_core.specs.Computed.{IsAlwaysComputed}
 use Rattle.pipe_core.specs.Drive.{Driven, driving, drive_clock, Beside, drive, drive_start, EndsInTime}
 use Rattle.pipe_core.specs.Forward.{commit_count, commits_in, EndsForward}
-use Rattle.pipe_core.specs.Pipeable.{IsSuited}
+use Rattle.pipe_core.specs.Pipeable.{IsPipelinable}
 use Rattle.pipe_core.specs.Right.{IsAlwaysRight}
-use Rattle.pipe_core.specs.InTurn.{IsSequential, KeepsSequential, left_maps}
-use Rattle.pipe_core.specs.Watched.{Watched, rest_of, turn_in, observed, watch_start}
+use Rattle.pipe_core.specs.SequentialOrder.{IsSequential, KeepsSequential, left_maps}
+use Rattle.pipe_core.specs.SeenChanges.{SeenChanges, rest_of, action_in, observed, watch_start}
 use Rattle.pipe_core.specs.Apart.{AllRun, CommitsAreWrites, EndsUnsent}
-use Rattle.pipe_core.proofs.Order.{last_or, swept_length, beats_keep, answers_length}
+use Rattle.pipe_core.proofs.Order.{last_or, beats_keep}
 use Rattle.pipe_core.proofs.Agreeing.{keeps_other}
-use Rattle.pipe_core.proofs.Striking.{answer_is}
-use Rattle.pipe_core.proofs.Turning.{TurnIs, turn_is, clock_aside}
-use Rattle.pipe_core.proofs.Righting.{stayed, unstruck, keeps_place}
-use Rattle.pipe_core.proofs.Passing.{drop_moved, drop_struck, drop_swept}
+use Rattle.pipe_core.proofs.Acting.{ActionIs, action_is}
+use Rattle.pipe_core.proofs.Righting.{not_marked_by, keeps_place}
+use Rattle.pipe_core.proofs.Passing.{drop_moved, drop_marked_by, drop_flushed}
 use Rattle.pipe_core.proofs.Sequencing.{last_dropped}
 use Rattle.pipe_core.proofs.Overlapping.{begins_sequential}
 use Rattle.pipe_core.proofs.Draining.{Driving, begins_driving}
 use Rattle.pipe_core.proofs.Offering.{Offered, offered_on}
 use Rattle.pipe_core.proofs.Timing.{ahead_is, left_after}
 use Rattle.pipe_core.proofs.Tallying.{made, made_more, made_one, left_made, left_append, Runs, all_run}
+use Rattle.pipe_core.proofs.FlushLaws.{flushed_at, flushed_length}
+use Rattle.pipe_core.proofs.HistoryLaws.{answers_length}
+use Rattle.pipe_core.proofs.ClockLaws.{clock_aside}
 
 -- ---- what packets in places have committed
 
@@ -56,7 +59,7 @@ begun_made b decls (Some x) done = made b.program decls x.held done
 whole_made : Build → List MapDecl → Option Packet → ℕ
 whole_made b decls o = begun_made b decls o (length b.program.sites)
 
-tally : Build → List MapDecl → List Held → List (Option Packet) → ℕ → ℕ
+tally : Build → List MapDecl → List StageValues → List (Option Packet) → ℕ → ℕ
 tally b decls left places done = left_made b.program decls left + passed_made b decls (drop (suc b.plan.commit) places) + begun_made b decls (place_at places b.plan.commit) done
 
 none_begun : (b : Build) (decls : List MapDecl) (o : Option Packet) → begun_made b decls o 0 ≡ 0
@@ -70,8 +73,8 @@ gone_made b decls None = refl
 gone_made b decls (Some x) = omega arith
 
 -- a packet that enters a place past the commit place writes the same
-module _ (b : Build) (decls : List MapDecl) (fit : IsSuited decls b) (t : TableState) (k : ℕ) (c : Arrival) (x : Packet) (past : b.plan.commit < k) where
-  entered_value : (i : ℕ) → (b.plan.row i ≤ b.plan.commit) ⊎ (length b.program.cells ≤ i) → held_value (entered b t k c x).held i ≡ held_value x.held i
+module _ (b : Build) (decls : List MapDecl) (fit : IsPipelinable decls b) (t : TableState) (k : ℕ) (c : Arrival) (x : Packet) (past : b.plan.commit < k) where
+  entered_value : (i : ℕ) → (b.plan.row i ≤ b.plan.commit) ⊎ (length b.program.cells ≤ i) → stage_value (entered b t k c x).held i ≡ stage_value x.held i
   unfolding entered with_row
   entered_value i why = sym (keeps_other b k t (packet_of c) 0 b.program.cells x.held (omega arith) i (elim why [
     | inl low ↦ inl (λ e. omega (arith, e, low, past))
@@ -88,13 +91,13 @@ module _ (b : Build) (decls : List MapDecl) (fit : IsSuited decls b) (t : TableS
         | inl inside ↦ inl (fit.rows.read_rows a j inside (ap site_in (answer_is j (cell_at b.program.cells a).op (passes_at_first (λ d. is_answer_of j d.op) b.program.cells no_cell inside))))
         | inr over ↦ inr over
       ]) in
-      ap (λ g. on g && writes_as s.act kind (held_value (entered b t k c x).held a)) guard ∙ ap (λ n. guard_on x.held s && writes_as s.act kind n) answer
+      ap (λ g. on g && writes_as s.act kind (stage_value (entered b t k c x).held a)) guard ∙ ap (λ n. guard_on x.held s && writes_as s.act kind n) answer
 
   entered_made : (d : ℕ) → d ≤ length b.program.sites → made b.program decls (entered b t k c x).held d ≡ made b.program decls x.held d
   entered_made zero l = refl
   entered_made (suc d) l = let e : bit (writes b.program decls (entered b t k c x).held d) ≡ bit (writes b.program decls x.held d) = ap bit (entered_writes d (omega (arith, l))) in omega (arith, e, entered_made d (omega (arith, l)))
 
-passed_moved : (b : Build) (decls : List MapDecl) → IsSuited decls b → (t : TableState) (fs : List Arrival) (k : ℕ) (x : Option Packet) (ys : List (Option Packet)) → b.plan.commit < k →
+passed_moved : (b : Build) (decls : List MapDecl) → IsPipelinable decls b → (t : TableState) (fs : List Arrival) (k : ℕ) (x : Option Packet) (ys : List (Option Packet)) → b.plan.commit < k →
     passed_made b decls (moved b t fs k x ys) + whole_made b decls (last_or x ys) ≡ whole_made b decls x + passed_made b decls ys
 unfolding passed_made whole_made begun_made
 passed_moved b decls fit t fs k None [] past = refl
@@ -106,9 +109,9 @@ passed_moved b decls fit t fs k (Some x) (None ∷ ys) past =
 passed_moved b decls fit t fs k (Some x) (Some y ∷ ys) past =
     omega (arith, passed_moved b decls fit t fs (suc k) (Some y) ys (omega (arith, past)), entered_made b decls fit t k (get_or fs (inside (Some y ∷ ys)) no_frame) x past (length b.program.sites) (omega arith))
 
--- ---- a turn
+-- ---- an action
 
-module _ (b : Build) (maps : MapState) (fit : IsSuited maps.decls b) (w : Watched) (h : IsSequential b maps w) (long : length w.trace.state.places ≡ suc b.plan.last) where
+module _ (b : Build) (maps : MapState) (fit : IsPipelinable maps.decls b) (w : SeenChanges) (h : IsSequential b maps w) (long : length w.trace.state.places ≡ suc b.plan.last) where
   abbrev s : State
   s = w.trace.state
 
@@ -116,16 +119,16 @@ module _ (b : Build) (maps : MapState) (fit : IsSuited maps.decls b) (w : Watche
   rest = rest_of b w.trace.state
 
   rest_long : length (rest_of b w.trace.state) ≡ suc b.plan.last
-  rest_long = swept_length b 0 s.places ∙ long
+  rest_long = flushed_length b 0 s.places ∙ long
 
   past_rest : drop (suc b.plan.commit) (rest_of b w.trace.state) ≡ drop (suc b.plan.commit) w.trace.state.places
-  past_rest = drop_swept b 0 (suc b.plan.commit) s.places (omega arith)
+  past_rest = drop_flushed b 0 (suc b.plan.commit) s.places (omega arith)
 
   -- what the packet at the commit place has committed is at most what it writes
   begun_whole : (o : Option Packet) → place_at (rest_of b w.trace.state) b.plan.commit ≡ o → begun_made b maps.decls (place_at w.trace.state.places b.plan.commit) w.trace.state.done ≤ whole_made b maps.decls o
   unfolding begun_made whole_made
   begun_whole (Some x) e =
-      let there = stayed b 0 s.places b.plan.commit x e in
+      let there = flushed_at b 0 s.places b.plan.commit x e in
       let l = (h.right.at.replays x there).through in
       subst (λ o. begun_made b maps.decls o s.done ≤ whole_made b maps.decls (Some x)) (sym there) (made_more b.program maps.decls x.held s.done (length b.program.sites) l)
   begun_whole None e = elim (cases_lt 0 s.done) [
@@ -141,25 +144,25 @@ module _ (b : Build) (maps : MapState) (fit : IsSuited maps.decls b) (w : Watche
       no : {x : Packet} → None ≡ Some x → ⊥
       no e = cc
 
-  turned : (u : Turn) → TurnIs b w.trace.state (rest_of b w.trace.state) u →
+  acted : (u : Action) → ActionIs b w.trace.state (rest_of b w.trace.state) u →
       (let v = worked b w.trace.state (some_send b 0 w.trace.state.places) (rest_of b w.trace.state) u in
       passed_made b maps.decls (drop (suc b.plan.commit) w.trace.state.places) + begun_made b maps.decls (place_at w.trace.state.places b.plan.commit) w.trace.state.done + commit_count u
       ≤ left_made b.program maps.decls (left_as u (place_at (rest_of b w.trace.state) b.plan.last)) + passed_made b maps.decls (drop (suc b.plan.commit) v.places) + begun_made b maps.decls (place_at v.places b.plan.commit) v.done)
   unfolding begun_made
-  turned (Commits j x) is =
+  acted (Commits j x) is =
       let e = change_by b.program s.tables s.taken x.held j in
-      let after = struck_below b.plan.commit b s.tables e 0 rest in
-      let past : drop (suc b.plan.commit) after ≡ drop (suc b.plan.commit) s.places = drop_struck b.plan.commit b s.tables e 0 (suc b.plan.commit) rest (omega arith) ∙ past_rest in
-      let there : place_at s.places b.plan.commit ≡ Some x = stayed b 0 s.places b.plan.commit x is.here in
-      let now : place_at after b.plan.commit ≡ Some x = unstruck b.plan.commit b s.tables e 0 rest b.plan.commit (omega arith) ∙ is.here in
+      let after = marked_below b.plan.commit b s.tables e 0 rest in
+      let past : drop (suc b.plan.commit) after ≡ drop (suc b.plan.commit) s.places = drop_marked_by b.plan.commit b s.tables e 0 (suc b.plan.commit) rest (omega arith) ∙ past_rest in
+      let there : place_at s.places b.plan.commit ≡ Some x = flushed_at b 0 s.places b.plan.commit x is.here in
+      let now : place_at after b.plan.commit ≡ Some x = not_marked_by b.plan.commit b s.tables e 0 rest b.plan.commit (omega arith) ∙ is.here in
       let wrote : writes b.program maps.decls x.held j ≡ true = ap (λ ds. writes b.program ds x.held j) (sym h.right.at.decls_are) ∙ is.writes_there in
       let one = made_one b.program maps.decls x.held s.done j is.from_on wrote in
       let a : passed_made b maps.decls (drop (suc b.plan.commit) after) ≡ passed_made b maps.decls (drop (suc b.plan.commit) s.places) = ap (passed_made b maps.decls) past in
       let c : begun_made b maps.decls (place_at s.places b.plan.commit) s.done ≡ made b.program maps.decls x.held s.done = ap (λ o. begun_made b maps.decls o s.done) there in
       let d : begun_made b maps.decls (place_at after b.plan.commit) (suc j) ≡ made b.program maps.decls x.held (suc j) = ap (λ o. begun_made b maps.decls o (suc j)) now in
       omega (arith, one, a, c, d)
-  turned (Writes a n) is = absurd is
-  turned Moves is =
+  acted (Writes a n) is = absurd is
+  acted Moves is =
       let c = fit.rows.commit in
       let new = newcomer b (some_send b 0 s.places) s.frames rest in
       let after = moved b s.tables s.frames 0 new rest in
@@ -175,20 +178,20 @@ module _ (b : Build) (maps : MapState) (fit : IsSuited maps.decls b) (w : Watche
 
 -- ---- a clock of the drive
 
-record Tallied (b : Build) (maps : MapState) (n commits : ℕ) (left : List Beat) (w : Watched) : Type 0 where
+record Tallied (b : Build) (maps : MapState) (n commits : ℕ) (left : List Beat) (w : SeenChanges) : Type 0 where
   driving : Driving n b (record { left = left; trace = w.trace })
   sequential : IsSequential b maps w
   enough : commits ≤ tally b maps.decls w.trace.left w.trace.state.places w.trace.state.done
 
-module _ (keeps : KeepsSequential) (b : Build) (maps : MapState) (fit : IsSuited maps.decls b) (n : ℕ) where
-  tallied_on : (commits ifindex time : ℕ) (left : List Beat) (w : Watched) → Tallied b maps n commits left w →
-      Tallied b maps n (commits + commit_count (turn_in b (driving ifindex time left) w.trace.state)) (left_after b w.trace.state left) (observed b (driving ifindex time left) w)
+module _ (keeps : KeepsSequential) (b : Build) (maps : MapState) (fit : IsPipelinable maps.decls b) (n : ℕ) where
+  tallied_on : (commits ifindex time : ℕ) (left : List Beat) (w : SeenChanges) → Tallied b maps n commits left w →
+      Tallied b maps n (commits + commit_count (action_in b (driving ifindex time left) w.trace.state)) (left_after b w.trace.state left) (observed b (driving ifindex time left) w)
   unfolding observed next work tally
   tallied_on commits ifindex time left w v = record {
     driving = o.driving;
     sequential = keeps b maps fit i refl w v.driving.order v.sequential;
     enough =
-        let t = turned b maps fit w v.sequential v.driving.order.places (turn_in b i s) (turn_is b i refl s (rest_of b s)) in
+        let t = acted b maps fit w v.sequential v.driving.order.places (action_in b i s) (action_is b i refl s (rest_of b s)) in
         let done : (clock b i s).done ≡ (work b i s).done = (clock_aside b i s).done in
         let places : (clock b i s).places ≡ (work b i s).places = (beats_keep b i w.trace v.driving.order).places in
         let p : passed_made b maps.decls (drop (suc b.plan.commit) (clock b i s).places) ≡ passed_made b maps.decls (drop (suc b.plan.commit) (work b i s).places) = ap (λ xs. passed_made b maps.decls (drop (suc b.plan.commit) xs)) places in
@@ -206,24 +209,24 @@ module _ (keeps : KeepsSequential) (b : Build) (maps : MapState) (fit : IsSuited
       o : Offered n b i w.trace (left_after b s left)
       o = offered_on n b i w.trace (left_after b s left) (subst (λ l. Driving n b (record { left = l; trace = w.trace })) (ahead_is (is_ready b s) left) v.driving)
 
-  record Reached (commits : ℕ) (clocks : List Beside) (left : List Beat) (w : Watched) : Type 0 where
+  record Reached (commits : ℕ) (clocks : List Beside) (left : List Beat) (w : SeenChanges) : Type 0 where
     left_over : List Beat
-    watched : Watched
-    is : drive b clocks (record { left = left; trace = w.trace }) ≡ record { left = left_over; trace = watched.trace }
-    tallied : Tallied b maps n (commits + commits_in b clocks (record { left = left; trace = w.trace })) left_over watched
+    seen_changes : SeenChanges
+    is : drive b clocks (record { left = left; trace = w.trace }) ≡ record { left = left_over; trace = seen_changes.trace }
+    tallied : Tallied b maps n (commits + commits_in b clocks (record { left = left; trace = w.trace })) left_over seen_changes
 
-  reach : (clocks : List Beside) (commits : ℕ) (left : List Beat) (w : Watched) → Tallied b maps n commits left w → Reached commits clocks left w
+  reach : (clocks : List Beside) (commits : ℕ) (left : List Beat) (w : SeenChanges) → Tallied b maps n commits left w → Reached commits clocks left w
   unfolding drive_clock observed
-  reach [] commits left w v = record { left_over = left; watched = w; is = refl; tallied = subst (λ c. Tallied b maps n c left w) (omega arith) v }
+  reach [] commits left w v = record { left_over = left; seen_changes = w; is = refl; tallied = subst (λ c. Tallied b maps n c left w) (omega arith) v }
   reach (x ∷ xs) commits left w v =
       let i = driving x.ifindex x.time left in
-      let c = commit_count (turn_in b i w.trace.state) in
+      let c = commit_count (action_in b i w.trace.state) in
       let r = reach xs (commits + c) (left_after b w.trace.state left) (observed b i w) (tallied_on commits x.ifindex x.time left w v) in
       record {
         left_over = r.left_over;
-        watched = r.watched;
+        seen_changes = r.seen_changes;
         is = r.is;
-        tallied = subst (λ m. Tallied b maps n m r.left_over r.watched) (omega arith) r.tallied;
+        tallied = subst (λ m. Tallied b maps n m r.left_over r.seen_changes) (omega arith) r.tallied;
       }
 
 -- ---- the whole drive
@@ -246,10 +249,6 @@ nobody_begun b decls n done [] e = refl
 nobody_begun b decls n done (Some x ∷ xs) e = absurd (omega (arith, e))
 nobody_begun b decls zero done (None ∷ xs) e = refl
 nobody_begun b decls (suc n) done (None ∷ xs) e = nobody_begun b decls n done xs e
-
-nobody_starts : (n : ℕ) → inside (replicate n None) ≡ 0
-nobody_starts zero = refl
-nobody_starts (suc n) = nobody_starts n
 
 module _ (keeps : KeepsSequential) (right : IsAlwaysRight) (computed : IsAlwaysComputed) (loads : LoadsTables) (stand : TablesStand) (in_time : EndsInTime) where
   pub commits_are_writes : CommitsAreWrites
@@ -275,8 +274,8 @@ module _ (keeps : KeepsSequential) (right : IsAlwaysRight) (computed : IsAlwaysC
       r : Reached keeps b maps fit n 0 (clocks ++ more) (flat_map beats_of frames) (watch_start b maps)
       r = reach keeps b maps fit n (clocks ++ more) 0 (flat_map beats_of frames) (watch_start b maps) starts
 
-      w : Watched
-      w = r.watched
+      w : SeenChanges
+      w = r.seen_changes
 
       gave : length w.trace.gave ≡ n
       gave = sym (ap (λ (e : Driven). length e.trace.gave) r.is) ∙ in_time b maps fit sound slots frames whole (clocks ++ more) long

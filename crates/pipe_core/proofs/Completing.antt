@@ -6,26 +6,11 @@ use Rattle.std.proofs.lemmas.Nat.{mod_below, pow_pos}
 use Rattle.hazard_core.specs.xdp_maps.declared.decl.MapDecl.{MapDecl}
 use Rattle.hazard_core.specs.xdp_maps.State.{MapState}
 use Rattle.hazard_core.specs.xdp_machine.State.{PacketIn}
-use Rattle.hazard_core.specs.cell_core.declared.operator.Operator.{Operator}
-use Rattle.hazard_core.specs.cell_core.declared.operator.Operator.TheVariants.{Found, Answer}
 use Rattle.hazard_core.specs.cell_core.Cells.{CellView, cell_at, is_read, site_in, value, bits_from, Solves_as, on}
 use Rattle.hazard_core.specs.cell_core.Sites.{ProgramView, site_at, after, read_on, IsValue, IsCellRun}
 use Rattle.hazard_core.specs.cell_core.Formed.{AreFormed, IsBelow, AreSited}
 use Rattle.hazard_core.specs.cell_core.SiteLaws.{AreSame, ValuesKeep}
-
-is_none : (op : Operator) → site_in op ≡ None → is_read op ≡ false
-is_none (Found j) e = cc
-is_none (Answer j) e = cc
-is_none op e = refl
-
-is_some : (op : Operator) (j : ℕ) → site_in op ≡ Some j → is_read op ≡ true
-is_some (Found i) j e = refl
-is_some (Answer i) j e = refl
-is_some op j e = cc
-
-solves_plain : (b : Bool) (packet : PacketIn) (v : ℕ → ℕ) (c : CellView) (x : ℕ) → b ≡ false → Solves_as b packet v c x → x ≡ value packet v c
-solves_plain true packet v c x e h = cc
-solves_plain false packet v c x e h = h
+use Rattle.hazard_core.proofs.cell_core_laws.OperatorLaws.{value_of_plain, read_of_site, plain_when}
 
 plain_solves : (b : Bool) (packet : PacketIn) (v : ℕ → ℕ) (c : CellView) (x : ℕ) → b ≡ false → x ≡ value packet v c → Solves_as b packet v c x
 plain_solves true packet v c x e h = cc
@@ -59,7 +44,7 @@ module _ (keep : ValuesKeep) (decls : List MapDecl) (p : ProgramView) (formed : 
       q = kept v w k (v k) l same h
 
       by : (o : Option ℕ) → site_in (cell_at p.cells k).op ≡ o → v k ≡ w k
-      by None e = solves_plain (is_read c.op) packet w c (v k) (is_none c.op e) q.solves ∙ sym (solves_plain (is_read c.op) packet w c (w k) (is_none c.op e) g.solves)
+      by None e = value_of_plain (is_read c.op) packet w c (v k) (plain_when c.op e) q.solves ∙ sym (value_of_plain (is_read c.op) packet w c (w k) (plain_when c.op e) g.solves)
       by (Some j) e = guarded (on (w (site_at p.sites j).guard)) refl
         where
           guarded : (b : Bool) → on (w (site_at p.sites j).guard) ≡ b → v k ≡ w k
@@ -113,7 +98,7 @@ module _ (keep : ValuesKeep) (decls : List MapDecl) (p : ProgramView) (formed : 
 
     settles : (k : ℕ) → k < length p.cells → (o : Option ℕ) → site_in (cell_at p.cells k).op ≡ o → IsValue packet maps p.sites (built k) (cell_at p.cells k) (settled (built k) k (given k) o)
     unfolding settled
-    settles k l None e = record { solves = plain_solves (is_read c.op) packet (built k) c (value packet (built k) c) (is_none c.op e) refl; answers = λ j f is. absurd (no j (sym e ∙ f)) }
+    settles k l None e = record { solves = plain_solves (is_read c.op) packet (built k) c (value packet (built k) c) (plain_when c.op e) refl; answers = λ j f is. absurd (no j (sym e ∙ f)) }
       where
         c : CellView
         c = cell_at p.cells k
@@ -121,7 +106,7 @@ module _ (keep : ValuesKeep) (decls : List MapDecl) (p : ProgramView) (formed : 
         no : (j : ℕ) → None ≡ Some j → ⊥
         no j e = cc
     settles k l (Some i) e = record {
-      solves = read_solves (is_read c.op) packet (built k) c (settled (built k) k (given k) (Some i)) (is_some c.op i e) (by (on (built k (site_at p.sites i).guard)));
+      solves = read_solves (is_read c.op) packet (built k) c (settled (built k) k (given k) (Some i)) (read_of_site c.op i e) (by (on (built k (site_at p.sites i).guard)));
       answers = λ j f is. at j (some_same i j (sym e ∙ f)) is;
     }
       where
@@ -133,7 +118,7 @@ module _ (keep : ValuesKeep) (decls : List MapDecl) (p : ProgramView) (formed : 
 
         by : (b : Bool) → (if b then bits_from (read_on (built k) (after (built k) maps (take i p.sites)) (site_at p.sites i) c.op) c.from c.width else given k) < 2 ^ c.width
         by true = mod_below _ (2 ^ c.width) (pow_pos c.width)
-        by false = fits k l (is_some c.op i e)
+        by false = fits k l (read_of_site c.op i e)
 
         at : (j : ℕ) → i ≡ j → on (built k (site_at p.sites j).guard) ≡ true → settled (built k) k (given k) (Some i) ≡ bits_from (read_on (built k) (after (built k) maps (take j p.sites)) (site_at p.sites j) c.op) c.from c.width
         at j s = subst (λ (n : ℕ). on (built k (site_at p.sites n).guard) ≡ true → settled (built k) k (given k) (Some i) ≡ bits_from (read_on (built k) (after (built k) maps (take n p.sites)) (site_at p.sites n) c.op) c.from c.width) s

@@ -1,33 +1,20 @@
 -- Cells that are no reads.
 use Rattle.std.proofs.Common.{◌≡◌, ◌≢◌, ℕ, zero, suc, ◌+◌, ◌<◌, ◌⊎◌, inl, inr, Bool, true, false, List, [], ◌∷◌, length, get_or, drop, refl, sym, ap, ◌∙◌, subst, arith, length-set, get_or-set_other, get_or-set_same}
-use Rattle.std.specs.Prelude.{if◌then◌else◌, ◌==◌, map as map_list, All}
+use Rattle.std.specs.Prelude.{if◌then◌else◌, ◌==◌, All}
 use Rattle.std.proofs.lemmas.Bool.Decides.{Decides-eqb}
 use Rattle.std.proofs.lemmas.Bool.{cases_lt}
 use Rattle.std.proofs.lemmas.List.{length-replicate}
+use Rattle.realization.proofs.list_laws_laws.ListLaws.{map_alike}
 use Rattle.hazard_core.specs.xdp_machine.State.{PacketIn}
-use Rattle.hazard_core.specs.cell_core.declared.operator.Operator.{Operator}
-use Rattle.hazard_core.specs.cell_core.declared.operator.Operator.TheVariants.{Found, Answer}
 use Rattle.hazard_core.specs.cell_core.Cells.{CellView, cell_at, no_cell, is_read, number, bits_from, value}
-use Rattle.hazard_core.specs.cell_core.Sites.{ProgramView}
 use Rattle.hazard_core.specs.cell_core.Rows.{RowsRise}
 use Rattle.hazard_core.specs.Tables.{TableState}
 use Rattle.hazard_core.specs.declared.pointer.Pointer.{Pointer}
-use Rattle.hazard_core.specs.Held.{Held, held_value, with_cell}
+use Rattle.hazard_core.specs.StageValues.{StageValues, stage_value, with_cell}
 use Rattle.hazard_core.specs.Rows.{cell_number, cell_pointer, with_made, made_from, with_row, nothing_held}
+use Rattle.hazard_core.proofs.HeldLaws.{plain_number}
 use Rattle.pipe_core.specs.Machine.{Build}
 use Rattle.pipe_core.specs.Computed.{Computes, IsPlanned}
-
-pub map_alike : (v w : ℕ → ℕ) (xs : List ℕ) → All (λ i. v i ≡ w i) xs → map_list v xs ≡ map_list w xs
-map_alike v w [] h = refl
-map_alike v w (x ∷ xs) h =
-    ap (λ y. y ∷ map_list v xs) (h 0 x (omega arith)) ∙ ap (λ ys. w x ∷ ys) (map_alike v w xs (λ k d l. h (suc k) d (omega arith)))
-
--- what is no read takes its inputs alone
-pub plain : (p : ProgramView) (row : ℕ → ℕ) (r : ℕ) (t : TableState) (packet : PacketIn) (h : Held) (c : CellView) (op : Operator) → is_read op ≡ false →
-    cell_number p row r t packet h c op ≡ number packet op (map_list (held_value h) c.ins)
-plain p row r t packet h c (Found j) e = cc
-plain p row r t packet h c (Answer j) e = cc
-plain p row r t packet h c op e = refl
 
 pub drop_next : {X : Type 0} (k : ℕ) (xs : List X) (c : X) (cs : List X) (d : X) → drop k xs ≡ c ∷ cs → (get_or xs k d ≡ c) × (k < length xs) × (drop (suc k) xs ≡ cs)
 drop_next zero [] c cs d e = cc
@@ -39,16 +26,16 @@ drop_next (suc k) (x ∷ xs) c cs d e = let h = drop_next k xs c cs d e in (h.0,
 abbrev pub There : (ℕ → ℕ) → ℕ → ℕ → ℕ → Type 0
 There row r k c = (row c < r) ⊎ ((row c ≡ r) × (c < k))
 
-record Made (b : Build) (packet : PacketIn) (r k : ℕ) (h : Held) : Type 0 where
+record Made (b : Build) (packet : PacketIn) (r k : ℕ) (h : StageValues) : Type 0 where
   count : length h.values ≡ length b.program.cells
   each : (c : ℕ) → c < length b.program.cells → There b.plan.row r k c → is_read (cell_at b.program.cells c).op ≡ false
-      → held_value h c ≡ value packet (held_value h) (cell_at b.program.cells c)
+      → stage_value h c ≡ value packet (stage_value h) (cell_at b.program.cells c)
 
 -- a cell that does not take cell k has the same value when that is set
-unmoved : (packet : PacketIn) (h : Held) (k x : ℕ) (p : Pointer) (c : CellView) → All (λ i. i ≢ k) c.ins → value packet (held_value h) c ≡ value packet (held_value (with_cell h k x p)) c
+unmoved : (packet : PacketIn) (h : StageValues) (k x : ℕ) (p : Pointer) (c : CellView) → All (λ i. i ≢ k) c.ins → value packet (stage_value h) c ≡ value packet (stage_value (with_cell h k x p)) c
 unmoved packet h k x p c other =
     ap (λ (xs : List ℕ). bits_from (number packet c.op xs) c.from c.width)
-    (map_alike (held_value h) (held_value (with_cell h k x p)) c.ins (λ i d l. sym (get_or-set_other h.values k (get_or c.ins i d) x 0 (other i d l))))
+    (map_alike (stage_value h) (stage_value (with_cell h k x p)) c.ins (λ i d l. sym (get_or-set_other h.values k (get_or c.ins i d) x 0 (other i d l))))
 
 -- the inputs of a cell that is there
 pub others : (b : Build) → RowsRise → IsPlanned b → (r k c : ℕ) → b.plan.row k ≡ r → c < length b.program.cells → There b.plan.row r k c → All (λ i. i ≢ k) (cell_at b.program.cells c).ins
@@ -69,8 +56,8 @@ next_there row r k c (inr now) = elim (cases_lt c k) [
   | inr l ↦ inr (omega (arith, now.1, l))
 ]
 
-made_one : (b : Build) → RowsRise → IsPlanned b → (packet : PacketIn) (r k x : ℕ) (p : Pointer) (h : Held) → k < length b.program.cells → b.plan.row k ≡ r →
-    (is_read (cell_at b.program.cells k).op ≡ false → x ≡ value packet (held_value h) (cell_at b.program.cells k)) → Made b packet r k h → Made b packet r (suc k) (with_cell h k x p)
+made_one : (b : Build) → RowsRise → IsPlanned b → (packet : PacketIn) (r k x : ℕ) (p : Pointer) (h : StageValues) → k < length b.program.cells → b.plan.row k ≡ r →
+    (is_read (cell_at b.program.cells k).op ≡ false → x ≡ value packet (stage_value h) (cell_at b.program.cells k)) → Made b packet r k h → Made b packet r (suc k) (with_cell h k x p)
 made_one b rise plan packet r k x p h in_range here is m = record {
   count = length-set h.values k x ∙ m.count;
   each = λ c l there read. elim (next_there b.plan.row r k c there) [
@@ -81,12 +68,12 @@ made_one b rise plan packet r k x p h in_range here is m = record {
   ];
 }
   where
-    own : (c : ℕ) → c ≡ k → is_read (cell_at b.program.cells c).op ≡ false → held_value (with_cell h k x p) c ≡ value packet (held_value (with_cell h k x p)) (cell_at b.program.cells c)
-    own c e read = subst (λ c. is_read (cell_at b.program.cells c).op ≡ false → held_value (with_cell h k x p) c ≡ value packet (held_value (with_cell h k x p)) (cell_at b.program.cells c)) (sym e) (λ read.
+    own : (c : ℕ) → c ≡ k → is_read (cell_at b.program.cells c).op ≡ false → stage_value (with_cell h k x p) c ≡ value packet (stage_value (with_cell h k x p)) (cell_at b.program.cells c)
+    own c e read = subst (λ c. is_read (cell_at b.program.cells c).op ≡ false → stage_value (with_cell h k x p) c ≡ value packet (stage_value (with_cell h k x p)) (cell_at b.program.cells c)) (sym e) (λ read.
         get_or-set_same h.values k x 0 (omega (arith, in_range, m.count)) ∙ is read
         ∙ unmoved packet h k x p (cell_at b.program.cells k) (λ i d l e. let up = (plan.formed.each k in_range).earlier i d l in omega (arith, up, e))) read
 
-later : (b : Build) (packet : PacketIn) (r k : ℕ) (h : Held) → (b.plan.row k ≡ r → ⊥) → Made b packet r k h → Made b packet r (suc k) h
+later : (b : Build) (packet : PacketIn) (r k : ℕ) (h : StageValues) → (b.plan.row k ≡ r → ⊥) → Made b packet r k h → Made b packet r (suc k) h
 later b packet r k h apart m = record {
   count = m.count;
   each = λ c l there read. elim (next_there b.plan.row r k c there) [
@@ -99,7 +86,7 @@ later b packet r k h apart m = record {
     lower c (inl l) e = inl l
     lower c (inr now) e = absurd (apart (sym (ap b.plan.row e) ∙ now.0))
 
-made_all : (b : Build) → RowsRise → IsPlanned b → (packet : PacketIn) (r : ℕ) (t : TableState) (k : ℕ) (cs : List CellView) (h : Held) → drop k b.program.cells ≡ cs → k + length cs ≡ length b.program.cells →
+made_all : (b : Build) → RowsRise → IsPlanned b → (packet : PacketIn) (r : ℕ) (t : TableState) (k : ℕ) (cs : List CellView) (h : StageValues) → drop k b.program.cells ≡ cs → k + length cs ≡ length b.program.cells →
     Made b packet r k h → Made b packet r (length b.program.cells) (made_from b.program b.plan.row r t packet k cs h)
 made_all b rise plan packet r t k [] h e n m = subst (λ j. Made b packet r j h) (omega (arith, n)) m
 made_all b rise plan packet r t k (c ∷ cs) h e n m =
@@ -114,14 +101,14 @@ made_all b rise plan packet r t k (c ∷ cs) h e n m =
 
     one : (here : Bool) → (b.plan.row k == r) ≡ here → cell_at b.program.cells k ≡ c → k < length b.program.cells → Made b packet r (suc k) (if here then with_cell h k x p else h)
     one true here same l = made_one b rise plan packet r k x p h l ((Decides-eqb (b.plan.row k) r).0 here) (λ read.
-        subst (λ d. is_read d.op ≡ false → x ≡ value packet (held_value h) d) (sym same) (λ read. ap (λ n. bits_from n c.from c.width) (plain b.program b.plan.row r t packet h c c.op read)) read) m
+        subst (λ d. is_read d.op ≡ false → x ≡ value packet (stage_value h) d) (sym same) (λ read. ap (λ n. bits_from n c.from c.width) (plain_number b.program b.plan.row r t packet h c c.op read)) read) m
     one false here same l = later b packet r k h (λ e. no (sym here ∙ (Decides-eqb (b.plan.row k) r).1 e)) m
       where
         no : false ≡ true → ⊥
         no e = cc
 
 -- a packet that holds the rows below r takes in row r
-pub takes_row : (b : Build) → RowsRise → IsPlanned b → (packet : PacketIn) (r : ℕ) (t : TableState) (h : Held) → Computes b packet r h → Computes b packet (suc r) (with_row b.program b.plan.row r t packet h)
+pub takes_row : (b : Build) → RowsRise → IsPlanned b → (packet : PacketIn) (r : ℕ) (t : TableState) (h : StageValues) → Computes b packet r h → Computes b packet (suc r) (with_row b.program b.plan.row r t packet h)
 unfolding with_row
 takes_row b rise plan packet r t h k =
     let m = made_all b rise plan packet r t 0 b.program.cells h refl (omega arith) (record { count = k.count; each = λ c l there read. k.each c l (below c there) read }) in

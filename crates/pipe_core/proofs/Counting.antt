@@ -5,22 +5,22 @@ use Rattle.std.specs.Option.{option_map}
 use Rattle.std.proofs.lemmas.Bool.{and_parts, cases_lt}
 use Rattle.std.proofs.lemmas.Bool.Decides.{nat_tests}
 use Rattle.std.proofs.Math.Nat.{mul-le-mul_left}
+use Rattle.realization.proofs.list_laws_laws.PlaceLaws.{no_mark}
 use Rattle.hazard_core.specs.cell_core.Cells.{bit}
 use Rattle.hazard_core.specs.cell_core.Sites.{site_at}
 use Rattle.hazard_core.specs.Tables.{TableState}
-use Rattle.hazard_core.specs.Held.{Held}
+use Rattle.hazard_core.specs.StageValues.{StageValues}
 use Rattle.hazard_core.specs.declared.change.Change.{Change}
 use Rattle.hazard_core.specs.Marks.{known_off}
 use Rattle.hazard_core.specs.Rows.{with_row}
 use Rattle.realization.specs.beat_core.Ports.{Arrival}
-use Rattle.pipe_core.specs.Machine.{Packet, Build, packet_of, no_frame, place_at, inside, marked_at, entered, struck, struck_below, is_due, sends, some_send, swept, enters, moved, injected, newcomer}
-use Rattle.pipe_core.proofs.Order.{last_or, moved_inside, place_last, swept_length, struck_inside}
-use Rattle.pipe_core.proofs.Carrying.{swept_none}
-use Rattle.pipe_core.proofs.Agreeing.{marked_of}
-use Rattle.pipe_core.proofs.Marking.{no_mark}
-use Rattle.pipe_core.proofs.Passing.{drop_moved, drop_struck, drop_swept}
+use Rattle.hazard_core.proofs.cell_core_laws.NumberLaws.{marked_of}
+use Rattle.pipe_core.specs.Machine.{Packet, Build, packet_of, no_frame, place_at, inside, marked_at, entered, marked_by, marked_below, must_reload, sends, some_send, flushed, enters, moved, injected, newcomer}
+use Rattle.pipe_core.proofs.Order.{last_or, moved_inside, place_last, marked_by_inside}
+use Rattle.pipe_core.proofs.Passing.{drop_moved, drop_marked_by, drop_flushed}
 use Rattle.pipe_core.proofs.Sequencing.{last_dropped}
-use Rattle.pipe_core.proofs.Righting.{unmarked_not_due}
+use Rattle.pipe_core.proofs.Righting.{unmarked_must_not_reload}
+use Rattle.pipe_core.proofs.FlushLaws.{flushed_length, flushed_none}
 
 -- whether a packet has committed, as a number
 abbrev pub begun : ℕ → ℕ
@@ -58,10 +58,10 @@ cons_inside (Some x) xs = omega arith
 no : false ≡ true → ⊥
 no e = cc
 
-due_later : (b : Build) (z m c ca number k : ℕ) (x : Packet) → (a : Age b z m c ca number k x) → is_due b k x ≡ true → a.since + 1 ≤ ca
-due_later b z m c ca number k x a due = elim (cases_lt a.since ca) [
+reload_later : (b : Build) (z m c ca number k : ℕ) (x : Packet) → (a : Age b z m c ca number k x) → must_reload b k x ≡ true → a.since + 1 ≤ ca
+reload_later b z m c ca number k x a reload = elim (cases_lt a.since ca) [
   | inl l ↦ omega (arith, l)
-  | inr l ↦ absurd (no (sym (unmarked_not_due b k x (λ j in_range. off j in_range l (marked_at x j) refl)) ∙ due))
+  | inr l ↦ absurd (no (sym (unmarked_must_not_reload b k x (λ j in_range. off j in_range l (marked_at x j) refl)) ∙ reload))
 ]
   where
     off : (j : ℕ) → j < length b.program.sites → ca ≤ a.since → (mark : Bool) → marked_at x j ≡ mark → mark ≡ false
@@ -72,8 +72,8 @@ due_later b z m c ca number k x a due = elim (cases_lt a.since ca) [
 pays_one : (b : Build) → b.plan.commit ≤ b.plan.last → (z m c ca number k : ℕ) (x : Option Packet) → AgeOf b z m c ca number k x → sends b k x ≡ true → m + 1 ≤ ca * (b.plan.last + 2) + number
 pays_one b far z m c ca number k None a e = cc
 pays_one b far z m c ca number k (Some x) a e =
-    let q = and_parts (nat_le k b.plan.commit) (is_due b k x) e in
-    let l : (b.plan.last + 2) * (a.since + 1) ≤ (b.plan.last + 2) * ca = mul-le-mul_left (b.plan.last + 2) (due_later b z m c ca number k x a q.1) in
+    let q = and_parts (nat_le k b.plan.commit) (must_reload b k x) e in
+    let l : (b.plan.last + 2) * (a.since + 1) ≤ (b.plan.last + 2) * ca = mul-le-mul_left (b.plan.last + 2) (reload_later b z m c ca number k x a q.1) in
     omega (arith, l, a.count, at_most (nat_le k b.plan.commit) refl q.0, far)
   where
     at_most : (c : Bool) → nat_le k b.plan.commit ≡ c → c ≡ true → k ≤ b.plan.commit
@@ -81,38 +81,38 @@ pays_one b far z m c ca number k (Some x) a e =
     at_most false e f = cc
 
 module _ (b : Build) (z m c ca e : ℕ) where
-  aged_swept : (k : ℕ) (xs : List (Option Packet)) → Aged b z m c ca e k xs → Aged b z m c ca e k (swept b k xs)
-  aged_swept k [] h = tt
-  aged_swept k (x ∷ xs) h = by (sends b k x) (some_send b (suc k) xs) refl (aged_swept (suc k) xs h.1)
+  aged_flushed : (k : ℕ) (xs : List (Option Packet)) → Aged b z m c ca e k xs → Aged b z m c ca e k (flushed b k xs)
+  aged_flushed k [] h = tt
+  aged_flushed k (x ∷ xs) h = by (sends b k x) (some_send b (suc k) xs) refl (aged_flushed (suc k) xs h.1)
     where
-      by : (s d : Bool) → some_send b (suc k) xs ≡ d → Aged b z m c ca e (suc k) (swept b (suc k) xs) → Aged b z m c ca e k ((if s || d then None else x) ∷ swept b (suc k) xs)
+      by : (s d : Bool) → some_send b (suc k) xs ≡ d → Aged b z m c ca e (suc k) (flushed b (suc k) xs) → Aged b z m c ca e k ((if s || d then None else x) ∷ flushed b (suc k) xs)
       by true d p more = (tt, more)
       by false true p more = (tt, more)
-      by false false p more = (subst (λ l. AgeOf b z m c ca (e + inside l) k x) (sym (swept_none b (suc k) xs p)) h.0, more)
+      by false false p more = (subst (λ l. AgeOf b z m c ca (e + inside l) k x) (sym (flushed_none b (suc k) xs p)) h.0, more)
 
-  pays : b.plan.commit ≤ b.plan.last → (k : ℕ) (xs : List (Option Packet)) → Aged b z m c ca e k xs → some_send b k xs ≡ true → m + 1 ≤ ca * (b.plan.last + 2) + (e + inside (swept b k xs))
+  pays : b.plan.commit ≤ b.plan.last → (k : ℕ) (xs : List (Option Packet)) → Aged b z m c ca e k xs → some_send b k xs ≡ true → m + 1 ≤ ca * (b.plan.last + 2) + (e + inside (flushed b k xs))
   pays far k [] h s = cc
   pays far k (x ∷ xs) h s = by (sends b k x) (some_send b (suc k) xs) refl refl s (pays far (suc k) xs h.1)
     where
-      by : (s d : Bool) → sends b k x ≡ s → some_send b (suc k) xs ≡ d → s || d ≡ true → (some_send b (suc k) xs ≡ true → m + 1 ≤ ca * (b.plan.last + 2) + (e + inside (swept b (suc k) xs))) → m + 1 ≤ ca * (b.plan.last + 2) + (e + inside ((if s || d then None else x) ∷ swept b (suc k) xs))
+      by : (s d : Bool) → sends b k x ≡ s → some_send b (suc k) xs ≡ d → s || d ≡ true → (some_send b (suc k) xs ≡ true → m + 1 ≤ ca * (b.plan.last + 2) + (e + inside (flushed b (suc k) xs))) → m + 1 ≤ ca * (b.plan.last + 2) + (e + inside ((if s || d then None else x) ∷ flushed b (suc k) xs))
       by true true p q t more = more q
       by false true p q t more = more q
-      by true false p q t more = subst (λ l. m + 1 ≤ ca * (b.plan.last + 2) + (e + inside l)) (sym (swept_none b (suc k) xs q)) (pays_one b far z m c ca (e + inside xs) k x h.0 p)
+      by true false p q t more = subst (λ l. m + 1 ≤ ca * (b.plan.last + 2) + (e + inside l)) (sym (flushed_none b (suc k) xs q)) (pays_one b far z m c ca (e + inside xs) k x h.0 p)
       by false false p q t more = cc
 
 -- ---- a commit: whatever it marks was injected before
 
-aged_struck : (b : Build) (z m c ca ca' e to : ℕ) (t : TableState) (change : Change) (k : ℕ) (xs : List (Option Packet)) → c + 1 ≤ ca' → Aged b z m c ca e k xs → Aged b z m c ca' e k (struck_below to b t change k xs)
-aged_struck b z m c ca ca' e to t change k [] more h = tt
-aged_struck b z m c ca ca' e to t change k (x ∷ xs) more h =
-    (subst (λ n. AgeOf b z m c ca' (e + n) k (if nat_lt k to then option_map (struck b t k change) x else x)) (sym (struck_inside to b t change (suc k) xs)) (by (nat_lt k to) x h.0), aged_struck b z m c ca ca' e to t change (suc k) xs more h.1)
+aged_marked_by : (b : Build) (z m c ca ca' e to : ℕ) (t : TableState) (change : Change) (k : ℕ) (xs : List (Option Packet)) → c + 1 ≤ ca' → Aged b z m c ca e k xs → Aged b z m c ca' e k (marked_below to b t change k xs)
+aged_marked_by b z m c ca ca' e to t change k [] more h = tt
+aged_marked_by b z m c ca ca' e to t change k (x ∷ xs) more h =
+    (subst (λ n. AgeOf b z m c ca' (e + n) k (if nat_lt k to then option_map (marked_by b t k change) x else x)) (sym (marked_by_inside to b t change (suc k) xs)) (by (nat_lt k to) x h.0), aged_marked_by b z m c ca ca' e to t change (suc k) xs more h.1)
   where
     one : (x y : Packet) → Age b z m c ca (e + inside xs) k x → Age b z m c ca' (e + inside xs) k y
     one x y a = record { since = a.since; count = a.count; gone = a.gone; older = a.older; later = λ j l marked. omega (arith, a.gone, more) }
 
-    by : (below : Bool) (x : Option Packet) → AgeOf b z m c ca (e + inside xs) k x → AgeOf b z m c ca' (e + inside xs) k (if below then option_map (struck b t k change) x else x)
+    by : (below : Bool) (x : Option Packet) → AgeOf b z m c ca (e + inside xs) k x → AgeOf b z m c ca' (e + inside xs) k (if below then option_map (marked_by b t k change) x else x)
     by true None a = tt
-    by true (Some x) a = one x (struck b t k change x) a
+    by true (Some x) a = one x (marked_by b t k change x) a
     by false None a = tt
     by false (Some x) a = one x x a
 
@@ -134,7 +134,7 @@ entering b z m c ca number t k came (Some x) a = record {
       (sym (marked_of (λ j. marked_at x j && not (known_off b.plan.row k h (site_at b.program.sites j))) (length b.program.sites) j l) ∙ marked));
 }
   where
-    h : Held
+    h : StageValues
     h = with_row b.program b.plan.row k t (packet_of came) x.held
 
 module _ (b : Build) (z m m' c c' ca ca' e : ℕ) (t : TableState) (fs : List Arrival) (one : m' ≤ m + 1) (up : c ≤ c') (up' : ca ≤ ca') where
@@ -154,31 +154,31 @@ module _ (b : Build) (z m m' c c' ca ca' e : ℕ) (t : TableState) (fs : List Ar
       came : List (Option Packet) → Arrival
       came ys = get_or fs (inside (y ∷ ys)) no_frame
 
--- ---- the places after a turn
+-- ---- the places after an action
 
 -- what is counted of places, before the clock
 pub record Bounds (b : Build) (z n m e done : ℕ) (places : List (Option Packet)) : Type 0 where
   pub aged : Aged b z m (z + e + past b places) (z + e + past b places + begun done) e 0 places
   pub inject : e + inside places < n → m ≤ (z + e + past b places + begun done) * (b.plan.last + 2) + (e + inside places)
 
-pub past_swept : (b : Build) (places : List (Option Packet)) → past b (swept b 0 places) ≡ past b places
-past_swept b places = ap inside (drop_swept b 0 (suc b.plan.commit) places (omega arith))
+pub past_flushed : (b : Build) (places : List (Option Packet)) → past b (flushed b 0 places) ≡ past b places
+past_flushed b places = ap inside (drop_flushed b 0 (suc b.plan.commit) places (omega arith))
 
-pub past_struck : (b : Build) (t : TableState) (change : Change) (places : List (Option Packet)) → past b (struck_below b.plan.commit b t change 0 (swept b 0 places)) ≡ past b places
-past_struck b t change places = ap inside (drop_struck b.plan.commit b t change 0 (suc b.plan.commit) (swept b 0 places) (omega arith)) ∙ past_swept b places
+pub past_marked_by : (b : Build) (t : TableState) (change : Change) (places : List (Option Packet)) → past b (marked_below b.plan.commit b t change 0 (flushed b 0 places)) ≡ past b places
+past_marked_by b t change places = ap inside (drop_marked_by b.plan.commit b t change 0 (suc b.plan.commit) (flushed b 0 places) (omega arith)) ∙ past_flushed b places
 
 pub commits_bounds : (b : Build) → b.plan.commit ≤ b.plan.last → (z n m e done : ℕ) (t : TableState) (change : Change) (j : ℕ) (places : List (Option Packet)) → Bounds b z n m e done places →
-    Bounds b z n m e (suc j) (struck_below b.plan.commit b t change 0 (swept b 0 places))
+    Bounds b z n m e (suc j) (marked_below b.plan.commit b t change 0 (flushed b 0 places))
 commits_bounds b far z n m e done t change j places h = record {
-  aged = subst (λ p. Aged b z m (z + e + p) (z + e + p + 1) e 0 after) (sym same) (aged_struck b z m c ca (c + 1) e b.plan.commit t change 0 rest (omega arith) (aged_swept b z m c ca e 0 places h.aged));
+  aged = subst (λ p. Aged b z m (z + e + p) (z + e + p + 1) e 0 after) (sym same) (aged_marked_by b z m c ca (c + 1) e b.plan.commit t change 0 rest (omega arith) (aged_flushed b z m c ca e 0 places h.aged));
   inject = λ l. by (some_send b 0 places) refl l;
 }
   where
     rest : List (Option Packet)
-    rest = swept b 0 places
+    rest = flushed b 0 places
 
     after : List (Option Packet)
-    after = struck_below b.plan.commit b t change 0 rest
+    after = marked_below b.plan.commit b t change 0 rest
 
     c : ℕ
     c = z + e + past b places
@@ -191,17 +191,17 @@ commits_bounds b far z n m e done t change j places h = record {
     at_most (suc d) = omega arith
 
     same : past b after ≡ past b places
-    same = past_struck b t change places
+    same = past_marked_by b t change places
 
     weight : (b.plan.last + 2) * ca ≤ (b.plan.last + 2) * (z + e + past b after + 1)
     weight = mul-le-mul_left (b.plan.last + 2) (omega (arith, same, at_most done))
 
     count : inside after ≡ inside rest
-    count = struck_inside b.plan.commit b t change 0 rest
+    count = marked_by_inside b.plan.commit b t change 0 rest
 
     by : (back : Bool) → some_send b 0 places ≡ back → e + inside after < n → m ≤ (z + e + past b after + 1) * (b.plan.last + 2) + (e + inside after)
     by true q l = omega (arith, pays b z m c ca e far 0 places h.aged q, weight, count)
-    by false q l = let i : inside rest ≡ inside places = ap inside (swept_none b 0 places q) in omega (arith, h.inject (omega (arith, l, count, i)), weight, count, i)
+    by false q l = let i : inside rest ≡ inside places = ap inside (flushed_none b 0 places q) in omega (arith, h.inject (omega (arith, l, count, i)), weight, count, i)
 
 pub past_moved : (b : Build) → b.plan.commit ≤ b.plan.last → (t : TableState) (fs : List Arrival) (new : Option Packet) (rest : List (Option Packet)) → length rest ≡ suc b.plan.last →
     past b (moved b t fs 0 new rest) + bit (is_some (place_at rest b.plan.last)) ≡ bit (is_some (place_at rest b.plan.commit)) + past b rest
@@ -229,13 +229,13 @@ nothing_later b z m c ca number count older = record {
 
 -- All move on: a clock is counted only where something is sent back, or a frame waits, or none is left.
 pub moves_bounds : (b : Build) → b.plan.commit ≤ b.plan.last → (z n m m' e done : ℕ) (t : TableState) (fs : List Arrival) (places : List (Option Packet)) → length places ≡ suc b.plan.last →
-    e + length fs ≤ n → (0 < done → bit (is_some (place_at (swept b 0 places) b.plan.commit)) ≡ 1) →
+    e + length fs ≤ n → (0 < done → bit (is_some (place_at (flushed b 0 places) b.plan.commit)) ≡ 1) →
     m' ≤ m + 1 → (some_send b 0 places ≡ false → length fs ≤ inside places → e + inside places < n → m' ≤ m) → Bounds b z n m e done places →
-    Bounds b z n m' (e + bit (is_some (place_at (swept b 0 places) b.plan.last))) 0 (moved b t fs 0 (newcomer b (some_send b 0 places) fs (swept b 0 places)) (swept b 0 places))
+    Bounds b z n m' (e + bit (is_some (place_at (flushed b 0 places) b.plan.last))) 0 (moved b t fs 0 (newcomer b (some_send b 0 places) fs (flushed b 0 places)) (flushed b 0 places))
 moves_bounds b far z n m m' e done t fs places long all amid one quiet h = by (some_send b 0 places) refl (nat_lt (inside rest) (length fs)) refl
   where
     rest : List (Option Packet)
-    rest = swept b 0 places
+    rest = flushed b 0 places
 
     c : ℕ
     c = z + e + past b places
@@ -250,7 +250,7 @@ moves_bounds b far z n m m' e done t fs places long all amid one quiet h = by (s
     at = bit (is_some (place_at rest b.plan.commit))
 
     rest_long : length rest ≡ suc b.plan.last
-    rest_long = swept_length b 0 places ∙ long
+    rest_long = flushed_length b 0 places ∙ long
 
     c' : ℕ
     c' = c + at
@@ -266,7 +266,7 @@ moves_bounds b far z n m m' e done t fs places long all amid one quiet h = by (s
     weight = mul-le-mul_left (b.plan.last + 2) up
 
     in_rest : c' ≤ z + (e + inside rest)
-    in_rest = omega (arith, among rest b.plan.commit, past_swept b places)
+    in_rest = omega (arith, among rest b.plan.commit, past_flushed b places)
 
     last_is : (xs : List (Option Packet)) → length xs ≡ suc b.plan.last → (new : Option Packet) → last_or new xs ≡ place_at xs b.plan.last
     last_is [] l new = absurd (omega (arith, l))
@@ -276,13 +276,13 @@ moves_bounds b far z n m m' e done t fs places long all amid one quiet h = by (s
         Bounds b z n m' (e + out) 0 (moved b t fs 0 new rest)
     with_new new a i =
         let after = moved b t fs 0 new rest in
-        let p : z + (e + out) + past b after ≡ c' = omega (arith, past_moved b far t fs new rest rest_long, past_swept b places) in
+        let p : z + (e + out) + past b after ≡ c' = omega (arith, past_moved b far t fs new rest rest_long, past_flushed b places) in
         let last : bit (is_some (last_or new rest)) ≡ out = ap (λ o. bit (is_some o)) (last_is rest rest_long new) in
         let count : e + out + inside after ≡ e + (bit (is_some new) + inside rest) = omega (arith, moved_inside b t fs 0 new rest, last, cons_inside new rest) in
         let p0 : z + (e + out) + past b after + 0 ≡ c' = omega (arith, p) in
         record {
           aged = subst (λ q. Aged b z m' q (z + (e + out) + past b after + 0) (e + out) 0 after) (sym p) (subst (λ q. Aged b z m' c' q (e + out) 0 after) (sym p0) (subst (λ o. Aged b z m' c' c' (e + o) 0 after) last
-              (aged_moved b z m m' c c' ca c' e t fs one (omega arith) up 0 new rest a (aged_swept b z m c ca e 0 places h.aged))));
+              (aged_moved b z m m' c c' ca c' e t fs one (omega arith) up 0 new rest a (aged_flushed b z m c ca e 0 places h.aged))));
           inject = λ l. subst (λ q. m' ≤ q * (b.plan.last + 2) + (e + out + inside after)) (sym p0) (subst (λ q. m' ≤ c' * (b.plan.last + 2) + q) (sym count) (i (omega (arith, l, count))));
         }
 
@@ -290,12 +290,12 @@ moves_bounds b far z n m m' e done t fs places long all amid one quiet h = by (s
         Bounds b z n m' (e + out) 0 (moved b t fs 0 (if not back && waits then Some (injected b.program) else None) rest)
     by true q waits w = with_new None tt (λ l. omega (arith, pays b z m c ca e far 0 places h.aged q, weight, one))
     by false q true w =
-        let same : inside rest ≡ inside places = ap inside (swept_none b 0 places q) in
+        let same : inside rest ≡ inside places = ap inside (flushed_none b 0 places q) in
         let l : inside rest < length fs = grind (arith, nat_tests) in
         let before = h.inject (omega (arith, same, l, all)) in
         with_new (Some (injected b.program)) (nothing_later b z m' c' c' (e + inside rest) (omega (arith, before, weight, one, same)) in_rest) (λ u. omega (arith, before, weight, one, same))
     by false q false w =
-        let same : inside rest ≡ inside places = ap inside (swept_none b 0 places q) in
+        let same : inside rest ≡ inside places = ap inside (flushed_none b 0 places q) in
         let l : length fs ≤ inside rest = grind (arith, nat_tests) in
         with_new None tt (λ u. let v : e + inside places < n = omega (arith, u, same) in omega (arith, h.inject v, weight, same, quiet q (omega (arith, l, same)) v))
 

@@ -1,8 +1,7 @@
 -- Where nothing is sent back, each clock of the full drive that commits no operation brings the end nearer.
 use Rattle.std.proofs.Common.{◌≡◌, ℕ, zero, suc, ◌+◌, ◌-◌, ◌*◌, ◌/◌, ◌<◌, ◌≤◌, ◌⊎◌, inl, inr, Bool, true, false, List, [], ◌∷◌, ◌++◌, Option, Some, None, length, get_or, drop, refl, sym, ap, ◌∙◌, subst, arith, not, length-append, length-drop}
-use Rattle.std.specs.Prelude.{if◌then◌else◌, nat_lt, nat_le, ◌&&◌, ◌||◌, is_some, min, slice_set}
+use Rattle.std.specs.Prelude.{if◌then◌else◌, nat_lt, nat_le, ◌||◌, is_some, min}
 use Rattle.std.proofs.lemmas.Bool.Decides.{nat_tests}
-use Rattle.std.proofs.lemmas.List.{length-set}
 use Rattle.realization.specs.beat_core.declared.beat.Beat.{Beat}
 use Rattle.realization.specs.beat_core.declared.answer.Answer.{Answer}
 use Rattle.realization.specs.beat_core.Beats.{bytes_of_beat, IsOffer, IsWhole, beats_of}
@@ -13,23 +12,24 @@ use Rattle.realization.proofs.beat_core_laws.BeatLaws.{IsOffer-count, IsOffer-ei
 use Rattle.realization.proofs.beat_core_laws.OrderLaws.{offers-frames}
 use Rattle.std.specs.List.{flat_map, AllByRecursion}
 use Rattle.hazard_core.specs.xdp_maps.State.{MapState}
-use Rattle.hazard_core.specs.cell_core.declared.program.FrameByte.{FrameByte}
 use Rattle.hazard_core.specs.cell_core.Cells.{bit}
-use Rattle.hazard_core.specs.cell_core.Sites.{ProgramView, with_bytes}
+use Rattle.hazard_core.specs.cell_core.Sites.{ProgramView}
 use Rattle.hazard_core.specs.Tables.{TableState}
 use Rattle.realization.specs.beat_core.Ports.{Arrival}
 use Rattle.hazard_core.specs.declared.change.Change.{Change}
 use Rattle.hazard_core.specs.Commits.{change_by}
 use Rattle.std.specs.Option.{option_map}
-use Rattle.pipe_core.specs.Machine.{Packet, State, Input, Build, Turn, Commits, Writes, Moves, inside, some_send, swept, is_due, struck, struck_below, moved, injected, place_at, answers_by, commits_or_moves, turn_of, worked, work, came_with, gathered, is_ready, beat_over, beat_at, taken_beat, scattered, clock}
+use Rattle.pipe_core.specs.Machine.{Packet, State, Input, Build, Action, Commits, Writes, Moves, inside, some_send, marked_by, marked_below, moved, injected, place_at, answers_by, action_of, worked, work, came_with, gathered, is_ready, beat_over, beat_at, taken_beat, scattered, clock}
 use Rattle.pipe_core.specs.History.{came_in, next, IsInOrder}
-use Rattle.pipe_core.specs.Drive.{Driven, first_of, driving, drive_clock, Beside, drive, drive_start, EndsWithoutMaps}
+use Rattle.pipe_core.specs.Drive.{Driven, first_of, driving, drive_clock, Beside, drive, drive_start}
 use Rattle.pipe_core.specs.Forward.{GoesForward, commit_count, commits_in, EndsForward}
-use Rattle.pipe_core.specs.Watched.{turn_in}
-use Rattle.pipe_core.proofs.Carrying.{swept_none}
-use Rattle.pipe_core.proofs.Turning.{TurnIs, turn_is}
+use Rattle.pipe_core.specs.SeenChanges.{action_in}
+use Rattle.pipe_core.proofs.Acting.{ActionIs, action_is}
 use Rattle.std.proofs.lemmas.Bool.{cases_lt}
-use Rattle.pipe_core.proofs.Order.{struck_inside, struck_length, last_or, moved_inside, moved_length, place_last, some_last, keeps_order, beats_keep, answers_length, begins}
+use Rattle.hazard_core.proofs.cell_core_laws.FrameLaws.{with_bytes_length}
+use Rattle.pipe_core.proofs.Order.{marked_by_inside, marked_by_length, last_or, moved_inside, moved_length, place_last, some_last, keeps_order, beats_keep, begins}
+use Rattle.pipe_core.proofs.FlushLaws.{flushed_none}
+use Rattle.pipe_core.proofs.HistoryLaws.{answers_length}
 
 -- ---- what is still to be done
 
@@ -85,56 +85,28 @@ inside_way [] = omega arith
 inside_way (None ∷ xs) = inside_way xs
 inside_way (Some x ∷ xs) = omega (arith, inside_way xs, way_at_most xs)
 
-way_struck : (to : ℕ) (b : Build) (t : TableState) (e : Change) (k : ℕ) (xs : List (Option Packet)) → way (struck_below to b t e k xs) ≡ way xs
-way_struck to b t e k [] = refl
-way_struck to b t e k (x ∷ xs) = by (nat_lt k to) x (way_struck to b t e (suc k) xs)
+way_marked_by : (to : ℕ) (b : Build) (t : TableState) (e : Change) (k : ℕ) (xs : List (Option Packet)) → way (marked_below to b t e k xs) ≡ way xs
+way_marked_by to b t e k [] = refl
+way_marked_by to b t e k (x ∷ xs) = by (nat_lt k to) x (way_marked_by to b t e (suc k) xs)
   where
-    by : (c : Bool) (x : Option Packet) → way (struck_below to b t e (suc k) xs) ≡ way xs → way ((if c then option_map (struck b t k e) x else x) ∷ struck_below to b t e (suc k) xs) ≡ way (x ∷ xs)
+    by : (c : Bool) (x : Option Packet) → way (marked_below to b t e (suc k) xs) ≡ way xs → way ((if c then option_map (marked_by b t k e) x else x) ∷ marked_below to b t e (suc k) xs) ≡ way (x ∷ xs)
     by true None more = more
-    by true (Some x) more = ap suc (struck_length to b t e (suc k) xs)
+    by true (Some x) more = ap suc (marked_by_length to b t e (suc k) xs)
     by false None more = more
-    by false (Some x) more = ap suc (struck_length to b t e (suc k) xs)
-
-pub bytes_length : (v : ℕ → ℕ) (frame : List ℕ) (bs : List FrameByte) → length (with_bytes v frame bs) ≡ length frame
-bytes_length v frame [] = refl
-bytes_length v frame (x ∷ bs) = bytes_length v (slice_set frame x.at (v x.cell)) bs ∙ length-set frame x.at (v x.cell)
+    by false (Some x) more = ap suc (marked_by_length to b t e (suc k) xs)
 
 -- an answer has the beats of its frame
 answered_beats : (p : ProgramView) (fs : List Arrival) (x : Option Packet) → bit (is_some x) ≤ length fs → answer_beats (answers_by p fs x) + frame_beats (drop (bit (is_some x)) fs) ≡ frame_beats fs
 answered_beats p fs None h = omega arith
 answered_beats p [] (Some x) h = absurd (omega arith)
 answered_beats p (c ∷ cs) (Some x) h =
-    let e = ap beats (bytes_length (λ k. get_or x.held.values k 0) c.frame p.frame) in omega (arith, e)
+    let e = ap beats (with_bytes_length (λ k. get_or x.held.values k 0) c.frame p.frame) in omega (arith, e)
 
 -- ---- nothing is sent back, and no operation stalls
 
-not_due : (b : Build) → b.program.sites ≡ [] → (k : ℕ) (x : Packet) → is_due b k x ≡ false
-unfolding is_due
-not_due b none k x = rw none refl
-
-no_sends : (b : Build) → b.program.sites ≡ [] → (k : ℕ) (xs : List (Option Packet)) → some_send b k xs ≡ false
-no_sends b none k [] = refl
-no_sends b none k (None ∷ xs) = no_sends b none (suc k) xs
-no_sends b none k (Some x ∷ xs) = by (nat_le k b.plan.commit) (is_due b k x) (not_due b none k x) (no_sends b none (suc k) xs)
-  where
-    by : (c d : Bool) → d ≡ false → some_send b (suc k) xs ≡ false → (c && d) || some_send b (suc k) xs ≡ false
-    by true true e h = cc
-    by true false e h = h
-    by false d e h = h
-
-no_choice : (b : Build) → b.program.sites ≡ [] → (s : State) (x : Option Packet) → commits_or_moves b s x ≡ Moves
-no_choice b none s None = refl
-no_choice b none s (Some x) = rw none refl
-
-work_ahead : (b : Build) (i : Input) (s : State) → some_send b 0 s.places ≡ false → work b i s ≡ worked b s false s.places (turn_of b i s s.places)
+work_ahead : (b : Build) (i : Input) (s : State) → some_send b 0 s.places ≡ false → work b i s ≡ worked b s false s.places (action_of b i s s.places)
 unfolding work
-work_ahead b i s ahead = rw (ahead, swept_none b 0 s.places ahead) refl
-
-pub work_is : (b : Build) → b.program.sites ≡ [] → (i : Input) → i.host ≡ None → (s : State) → work b i s ≡ worked b s false s.places Moves
-work_is b none i silent s = work_ahead b i s (no_sends b none 0 s.places) ∙ rw (silent, no_choice b none s (place_at s.places b.plan.commit)) refl
-
-no_commits : (b : Build) → b.program.sites ≡ [] → (i : Input) → i.host ≡ None → (s : State) → commit_count (turn_in b i s) ≡ 0
-no_commits b none i silent s = rw (silent, no_choice b none s (place_at (swept b 0 s.places) b.plan.commit)) refl
+work_ahead b i s ahead = rw (ahead, flushed_none b 0 s.places ahead) refl
 
 -- ---- the work of a clock
 
@@ -204,7 +176,7 @@ advances_moving b s h l = by (nat_lt (inside s.places) (length s.frames)) refl
         idle true e l = let m : inside s.places < length s.frames = grind (arith, nat_tests) in absurd (omega arith)
         idle false e l = (refl, way_moved b s.tables s.frames 0 None s.places)
 
-advances : (b : Build) (s : State) → length s.places ≡ suc b.plan.last → inside s.places ≤ length s.frames → (u : Turn) → TurnIs b s s.places u → Advances b (commit_count u) s (worked b s false s.places u)
+advances : (b : Build) (s : State) → length s.places ≡ suc b.plan.last → inside s.places ≤ length s.frames → (u : Action) → ActionIs b s s.places u → Advances b (commit_count u) s (worked b s false s.places u)
 advances b s h l (Commits j x) is =
     let e : Change = change_by b.program s.tables s.taken x.held j in
     record {
@@ -212,11 +184,11 @@ advances b s h l (Commits j x) is =
       new = 0;
       more = [];
       frames = omega arith;
-      places = omega (arith, struck_inside b.plan.commit b s.tables e 0 s.places);
+      places = omega (arith, marked_by_inside b.plan.commit b s.tables e 0 s.places);
       beats_stay = refl;
       waits = λ moves l. absurd (omega arith);
       none_waits = λ moves l. absurd (omega arith);
-      stalled = λ l. (refl, way_struck b.plan.commit b s.tables e 0 s.places);
+      stalled = λ l. (refl, way_marked_by b.plan.commit b s.tables e 0 s.places);
       answers = none_more s.answers;
       part = refl;
       pos_stays = refl;
@@ -499,7 +471,7 @@ no_lasts [] h = refl
 no_lasts (x ∷ left) h = absurd (omega arith)
 
 steps : (n : ℕ) (b : Build) → b.slots ≡ b.plan.last + 4 → (ifindex time : ℕ) (d : Driven) → some_send b 0 d.trace.state.places ≡ false → Driving n b d →
-    Stepped n b (commit_count (turn_in b (driving ifindex time d.left) d.trace.state)) d (drive_clock b ifindex time d)
+    Stepped n b (commit_count (action_in b (driving ifindex time d.left) d.trace.state)) d (drive_clock b ifindex time d)
 unfolding drive_clock next clock
 steps n b slots ifindex time d ahead v = record {
   driving = record {
@@ -530,11 +502,11 @@ steps n b slots ifindex time d ahead v = record {
     w = work b i s
 
     stalls : ℕ
-    stalls = commit_count (turn_in b i s)
+    stalls = commit_count (action_in b i s)
 
     ad : Advances b stalls s w
-    ad = subst (λ rest. Advances b (commit_count (turn_of b i s rest)) s w) (sym (swept_none b 0 s.places ahead))
-        (subst (Advances b (commit_count (turn_of b i s s.places)) s) (sym (work_ahead b i s ahead)) (advances b s v.order.places v.order.packets (turn_of b i s s.places) (turn_is b i refl s s.places)))
+    ad = subst (λ rest. Advances b (commit_count (action_of b i s rest)) s w) (sym (flushed_none b 0 s.places ahead))
+        (subst (Advances b (commit_count (action_of b i s s.places)) s) (sym (work_ahead b i s ahead)) (advances b s v.order.places v.order.packets (action_of b i s s.places) (action_is b i refl s s.places)))
 
     left : List Beat
     left = if is_ready b s then drop 1 d.left else d.left
@@ -660,7 +632,7 @@ record Drove (n : ℕ) (b : Build) (commits clocks : ℕ) (d e : Driven) : Type 
   no_farther : far b e ≤ far b d
   nearer : (far b e ≡ 0) ⊎ (far b e + clocks ≤ far b d + commits)
 
-one_more : (n : ℕ) (b : Build) (x : Beside) (xs : List Beside) (d : Driven) → Stepped n b (commit_count (turn_in b (driving x.ifindex x.time d.left) d.trace.state)) d (drive_clock b x.ifindex x.time d) →
+one_more : (n : ℕ) (b : Build) (x : Beside) (xs : List Beside) (d : Driven) → Stepped n b (commit_count (action_in b (driving x.ifindex x.time d.left) d.trace.state)) d (drive_clock b x.ifindex x.time d) →
     (let e = drive_clock b x.ifindex x.time d in Drove n b (commits_in b xs e) (length xs) e (drive b xs e)) → Drove n b (commits_in b (x ∷ xs) d) (length (x ∷ xs)) d (drive b (x ∷ xs) d)
 one_more n b x xs d s r = record {
   driving = r.driving;
@@ -668,7 +640,7 @@ one_more n b x xs d s r = record {
   nearer = elim (cases_lt 0 (far b d)) [
     | inl some ↦ elim r.nearer [
       | inl ended ↦ inl ended
-      | inr more ↦ inr (elim (cases_lt 0 (commit_count (turn_in b (driving x.ifindex x.time d.left) d.trace.state))) [
+      | inr more ↦ inr (elim (cases_lt 0 (commit_count (action_in b (driving x.ifindex x.time d.left) d.trace.state))) [
         | inl stalling ↦ omega (arith, more, stalling, s.no_farther)
         | inr moving ↦ omega (arith, more, some, s.nearer (omega (arith, moving)))
       ])
@@ -681,25 +653,6 @@ forward : (n : ℕ) (b : Build) → b.slots ≡ b.plan.last + 4 → (clocks : Li
 forward n b slots [] d ahead v = record { driving = v; no_farther = omega arith; nearer = inr (omega arith) }
 forward n b slots (x ∷ xs) d ahead v =
     one_more n b x xs d (steps n b slots x.ifindex x.time d ahead.0 v) (forward n b slots xs (drive_clock b x.ifindex x.time d) ahead.1 (steps n b slots x.ifindex x.time d ahead.0 v).driving)
-
--- without operations on maps nothing is sent back or committed
-without_maps : (b : Build) → b.program.sites ≡ [] → (clocks : List Beside) (d : Driven) → GoesForward b clocks d × (commits_in b clocks d ≡ 0)
-without_maps b none [] d = (tt, refl)
-without_maps b none (x ∷ xs) d =
-    let r = without_maps b none xs (drive_clock b x.ifindex x.time d) in
-    ((no_sends b none 0 d.trace.state.places, r.0), omega (arith, r.1, no_commits b none (driving x.ifindex x.time d.left) refl d.trace.state))
-
-pub drives : (n : ℕ) (b : Build) → b.program.sites ≡ [] → b.slots ≡ b.plan.last + 4 → (clocks : List Beside) (d : Driven) → Driving n b d →
-    Driving n b (drive b clocks d) × (far b (drive b clocks d) ≤ far b d - length clocks)
-drives n b none slots clocks d v =
-    let q = without_maps b none clocks d in
-    let r = forward n b slots clocks d q.0 v in (
-      r.driving,
-      elim r.nearer [
-        | inl ended ↦ omega (arith, ended)
-        | inr near ↦ omega (arith, near, q.1)
-      ],
-    )
 
 pub at_end : (pos : ℕ) (xs : List Answer) → IsAt pos xs → answer_beats xs ≤ pos → length xs ≡ 0
 at_end pos [] h l = refl
@@ -754,13 +707,6 @@ begins_driving b maps frames whole = record {
   ends = ends_frames frames whole;
   at = refl;
 }
-
-pub ends_without_maps : EndsWithoutMaps
-ends_without_maps b none slots maps frames whole clocks long =
-    let d = drive_start b maps frames in
-    let v = begins_driving b maps frames whole in
-    let r = drives (length frames) b none slots clocks d v in
-    all_given (length frames) b (drive b clocks d) r.0 (omega (arith, r.1, long, way_short b d v.order.places, lasts_frames frames whole))
 
 pub ends_forward : EndsForward
 ends_forward b slots maps frames whole clocks ahead long =

@@ -1,10 +1,10 @@
 -- A cell run on maps is one on other maps that show the same of what its operations read, and touches the same there.
 use Rattle.std.proofs.Common.{◌≡◌, ℕ, zero, suc, ◌+◌, ◌*◌, ◌<◌, ◌≤◌, Bool, true, false, List, [], ◌∷◌, length, Some, get_or, take, drop, refl, sym, ap, subst, ◌∙◌, arith, All, map as map_list, length-drop}
 use Rattle.std.specs.Prelude.{if◌then◌else◌, nat_lt, nat_le, ◌&&◌, not, is_some, slice_index, Contains}
-use Rattle.std.specs.Int.{w64, cast_unsigned, bytes_low_first}
-use Rattle.std.proofs.lemmas.List.{length-take-le, length-map}
+use Rattle.std.specs.Int.{w64, cast_unsigned}
+use Rattle.std.proofs.lemmas.List.{length-map}
 use Rattle.std.proofs.lemmas.Bool.Decides.{nat_tests}
-use Rattle.std.proofs.lemmas.List.Elements.{All-nil, All-cons, All-head, All-append, All-take, All-weaker, All-contains_itself, Contains-append_left, Contains-append_right}
+use Rattle.std.proofs.lemmas.List.Elements.{All-nil, All-cons, All-head, All-weaker, All-contains_itself, Contains-append_left, Contains-append_right}
 use Rattle.hazard_core.specs.xdp_maps.declared.decl.MapDecl.{MapDecl}
 use Rattle.hazard_core.specs.xdp_maps.declared.decl.MapKind.{MapKind}
 use Rattle.hazard_core.specs.xdp_maps.declared.decl.MapKind.TheVariants.{Hash, Array}
@@ -28,27 +28,12 @@ use Rattle.hazard_core.specs.cell_core.declared.site.Act.{Act}
 use Rattle.hazard_core.specs.cell_core.declared.site.Act.TheVariants as act
 use Rattle.hazard_core.specs.cell_core.Acts.{finds_key, reads}
 use Rattle.hazard_core.specs.cell_core.Cells.{cell_at, site_in, bits_from, bit, on}
-use Rattle.hazard_core.specs.cell_core.Sites.{SiteView, ProgramView, site_at, records, spelled, bytes_of, change_of, operation_with, operation_on, applied, after, found_in, loaded, number_or, answer_as, answer, read_on, touched, IsCellRun}
+use Rattle.hazard_core.specs.cell_core.Sites.{SiteView, ProgramView, site_at, records, bytes_of, change_of, operation_with, operation_on, applied, after, found_in, loaded, number_or, answer_as, answer, read_on, touched, IsCellRun}
 use Rattle.hazard_core.specs.cell_core.Formed.{IsInside, HasWords, FitsMap, AllFit}
-use Rattle.hazard_core.proofs.cell_core_laws.SpelledLaws.{spelled_length}
+use Rattle.hazard_core.proofs.cell_core_laws.SpelledLaws.{bytes_are}
 use Rattle.pipe_core.proofs.Resources.{operated_same}
 
 -- ---- operations of sites fit their maps
-
-spelled_bytes : (words : List ℕ) → All (λ b. b < 256) (spelled words)
-spelled_bytes [] = All-nil (λ b. b < 256)
-spelled_bytes (x ∷ words) = All-append (λ b. b < 256) (bytes_low_first 0 8 x) (spelled words) (IsBytes-little_bytes 8 x).bytes_fit (spelled_bytes words)
-
-bytes_are : (n : ℕ) (words : List ℕ) → n ≤ 8 * length words → IsBytes n (bytes_of n words)
-bytes_are n words l = record { len = length-take-le n (spelled words) (omega (arith, l, spelled_length words)); bytes_fit = All-take (λ b. b < 256) n (spelled words) (spelled_bytes words) }
-
-pub key_is : (d : MapDecl) (a : Act) (words xs : List ℕ) → key_in (operation_with d a words xs) ≡ bytes_of d.key words
-key_is d act.Lookup words xs = refl
-key_is d act.Update words xs = refl
-key_is d act.Delete words xs = refl
-key_is d (act.Load at size) words xs = refl
-key_is d (act.Store at size) words xs = refl
-key_is d (act.Atomic at a) words xs = refl
 
 fits : (d : MapDecl) (a : Act) (words xs : List ℕ) → d.key ≤ 8 * length words → HasWords d.value a (length xs) → IsInside d.value a → Fits d (operation_with d a words xs)
 fits d act.Lookup words xs k w i = (bytes_are d.key words k, tt)
@@ -92,9 +77,6 @@ module _ (v : ℕ → ℕ) where
 -- ---- one site
 
 module _ (maps other : MapState) (same : other.decls ≡ maps.decls) (sound : IsSound maps) (sound' : IsSound other) (q : ℕ) (inside : q < length maps.decls) where
-  decls_same : decl_at other q ≡ decl_at maps q
-  decls_same = ap (λ ds. get_or ds q no_decl) same
-
   -- whether a key is there
   looked : (key : List ℕ) → IsBytes (decl_at maps q).key key → All (SameOf maps other) (resources_read maps q (map.Lookup key)) → is_some (lookup_of (contents_at other q) key) ≡ is_some (lookup_of (contents_at maps q) key)
   looked key bytes all = sym (reads_decide maps other q (map.Lookup key) same sound sound' inside bytes all).answer

@@ -1,6 +1,6 @@
 -- What updates found stays right.
 use Rattle.std.proofs.Common.{◌≡◌, ◌≢◌, ℕ, zero, suc, ◌<◌, ◌≤◌, ◌⊎◌, inl, inr, Bool, true, false, List, [], ◌∷◌, Option, length, get_or, refl, sym, ap, ◌∙◌, subst, arith, map as map_list}
-use Rattle.std.specs.Prelude.{if◌then◌else◌, nat_lt, ◌==◌, ◌&&◌, ◌||◌, fold}
+use Rattle.std.specs.Prelude.{if◌then◌else◌, nat_lt, ◌==◌, ◌&&◌, ◌||◌}
 use Rattle.std.specs.List.{list_any}
 use Rattle.std.specs.Str.{bytes_eq}
 use Rattle.std.proofs.lemmas.Bool.{cases_lt, or_right, false≢true}
@@ -8,6 +8,7 @@ use Rattle.std.proofs.lemmas.Bool.Decides.{nat_tests, Decides-eqb}
 use Rattle.std.proofs.lemmas.List.{length-replicate}
 use Rattle.std.proofs.lemmas.List.Sums.{passes_at_first}
 use Rattle.std.proofs.lemmas.Slice.Eq.{bytes_eq-Decides}
+use Rattle.realization.proofs.list_laws_laws.ListLaws.{fold_alike}
 use Rattle.hazard_core.specs.xdp_maps.declared.decl.MapDecl.{MapDecl}
 use Rattle.hazard_core.specs.xdp_maps.declared.decl.MapKind.{MapKind}
 use Rattle.hazard_core.specs.xdp_maps.declared.decl.MapKind.TheVariants.{Hash, Array}
@@ -21,7 +22,7 @@ use Rattle.hazard_core.specs.declared.slot.Slot.{Slot}
 use Rattle.hazard_core.specs.Tables.{TableState, decl_of, table_at, tables_of}
 use Rattle.hazard_core.specs.declared.pointer.Pointer.{Pointer}
 use Rattle.hazard_core.specs.declared.pointer.Pointer.TheVariants.{Null}
-use Rattle.hazard_core.specs.Held.{Held, held_value, pointer_in, is_found_of, found_cell, asked, asked_key, writes, slot_pointer, written_as, pending}
+use Rattle.hazard_core.specs.StageValues.{StageValues, stage_value, pointer_in, is_found_of, found_cell, asked, asked_key, writes, slot_pointer, written_as, pending}
 use Rattle.hazard_core.specs.Overlay.{found_as, found_over, key_pointer_as, looks, found_pointer}
 use Rattle.hazard_core.specs.Rows.{cell_pointer, with_row}
 use Rattle.hazard_core.specs.declared.change.Change.{Change}
@@ -29,29 +30,26 @@ use Rattle.hazard_core.specs.Changes.{with_tables, IsChange, CommitsChange}
 use Rattle.hazard_core.specs.Commits.{committed, change_by}
 use Rattle.hazard_core.specs.Keeping.{AreAlike, LooksBelow, ReadsKeep}
 use Rattle.realization.specs.beat_core.Ports.{Arrival}
-use Rattle.pipe_core.specs.Machine.{Packet, Build, Turn, Commits, Writes, Moves, packet_of, place_at, injected, entered, struck, some_send, worked, work, clock}
+use Rattle.hazard_core.proofs.HeldLaws.{found_is}
+use Rattle.pipe_core.specs.Machine.{Packet, Build, Action, Commits, Writes, Moves, packet_of, place_at, injected, entered, marked_by, some_send, worked, work, clock}
 use Rattle.pipe_core.specs.History.{next}
 use Rattle.pipe_core.specs.Agreement.{ReadsArePlanned}
-use Rattle.pipe_core.specs.Agreed.{IsRightTurn}
-use Rattle.pipe_core.specs.Right.{TurnsAreRight}
+use Rattle.pipe_core.specs.Agreed.{IsRightAction}
+use Rattle.pipe_core.specs.Right.{ActionsAreRight}
 use Rattle.pipe_core.specs.Placed.{Placed}
-use Rattle.pipe_core.specs.Watched.{Seen, Watched, held_in, sees, seen_on, seen_after, rest_of, turn_in, observed}
-use Rattle.pipe_core.specs.Blamed.{Waits}
+use Rattle.pipe_core.specs.SeenChanges.{Seen, SeenChanges, held_in, sees, seen_on, seen_after, rest_of, action_in, observed}
+use Rattle.pipe_core.specs.ChangeCauses.{Waits}
 use Rattle.pipe_core.specs.Found.{key_changed, FindsRight, KeepsFound, BeginsFound}
 use Rattle.pipe_core.proofs.Agreeing.{Rowed, rowed}
-use Rattle.pipe_core.proofs.Striking.{found_is}
 use Rattle.pipe_core.proofs.Marking.{begins_placed}
-use Rattle.pipe_core.proofs.Placing.{Settled, StruckSteps, MovedSteps, TurnSteps, next_placed}
-use Rattle.pipe_core.proofs.Turning.{TurnIs, turn_is, clock_aside}
+use Rattle.pipe_core.proofs.Placing.{Settled, MarkedBySteps, MovedSteps, ActionSteps, next_placed}
+use Rattle.pipe_core.proofs.Acting.{ActionIs, action_is}
 use Rattle.pipe_core.proofs.Agreed.{Known, all_known, both_placed}
 use Rattle.pipe_core.proofs.Passing.{map_same}
 use Rattle.pipe_core.proofs.Blaming.{all_map}
+use Rattle.pipe_core.proofs.ClockLaws.{clock_aside}
 
 -- ---- a change of another key leaves the entry that an update of a hash finds
-
-fold_alike : {A B : Type 0} (f g : B → A → B) (a b : B) (xs : List A) → ((y : B) (x : A) → f y x ≡ g y x) → a ≡ b → fold f a xs ≡ fold g b xs
-fold_alike f g a b [] h e = e
-fold_alike f g a b (x ∷ xs) h e = fold_alike f g (f a x) (g b x) xs h (h a x ∙ ap (λ y. g y x) e)
 
 abbrev KeyStays : Change → ℕ → List ℕ → Type 0
 KeyStays e m key = (m ≢ e.map) ⊎ ((key ≢ e.key) ⊎ (e.presence ≡ false))
@@ -65,7 +63,7 @@ key_stays e m key f = by e.presence refl (m == e.map) refl (bytes_eq key e.key) 
     by true p true q false r f = inr (inl (λ same. false≢true (sym r ∙ (bytes_eq-Decides key e.key).1 same)))
     by true p true q true r f = cc
 
-module _ (p : ProgramView) (t : TableState) (ts : List (List Slot)) (e : Change) (h : Held) (change : IsChange t e ts) where
+module _ (p : ProgramView) (t : TableState) (ts : List (List Slot)) (e : Change) (h : StageValues) (change : IsChange t e ts) where
   slot_stays : (m : ℕ) (key : List ℕ) → KeyStays e m key → slot_pointer (get_or ts m []) key ≡ slot_pointer (table_at t m) key
   slot_stays m key why = by (m == e.map) refl why
     where
@@ -104,10 +102,10 @@ module _ (p : ProgramView) (t : TableState) (ts : List (List Slot)) (e : Change)
       ∙ fold_alike (found_over p (with_tables t ts) h key) (found_over p t h key) (slot_pointer (get_or ts s.map []) key) (slot_pointer (table_at t s.map) key) before (over_stays key) (slot_stays s.map key why)
       ∙ sym (ap (λ k. key_pointer_as k p t h before s.map key) kind))
 
-struck_finds : (b : Build) (t : TableState) (ts : List (List Slot)) (e : Change) → IsChange t e ts → (k : ℕ) (held : Held) (seen : List Seen) (x : Packet) → FindsRight b t seen k x
-    → FindsRight b (with_tables t ts) ((record { place = k; held = held; change = e }) ∷ seen) k (struck b t k e x)
-unfolding struck
-struck_finds b t ts e change k held seen x old j l update hash inside low = elim (old j l update hash inside low) [
+marked_by_finds : (b : Build) (t : TableState) (ts : List (List Slot)) (e : Change) → IsChange t e ts → (k : ℕ) (held : StageValues) (seen : List Seen) (x : Packet) → FindsRight b t seen k x
+    → FindsRight b (with_tables t ts) ((record { place = k; held = held; change = e }) ∷ seen) k (marked_by b t k e x)
+unfolding marked_by
+marked_by_finds b t ts e change k held seen x old j l update hash inside low = elim (old j l update hash inside low) [
   | inl changed ↦ inl (or_right (key_changed t.decls x.held (site_at b.program.sites j) (record { place = k; held = held; change = e })) (list_any (key_changed t.decls x.held (site_at b.program.sites j)) seen) changed)
   | inr found ↦ by (key_changed t.decls x.held (site_at b.program.sites j) (record { place = k; held = held; change = e })) refl found
 ]
@@ -124,11 +122,11 @@ struck_finds b t ts e change k held seen x old j l update hash inside low = elim
 
 -- ---- a packet takes in a row
 
-key_same : (decls : List MapDecl) (h g : Held) (s : SiteView) → s.act ≡ act.Update → map_list (held_value h) s.key ≡ map_list (held_value g) s.key → asked_key decls h s ≡ asked_key decls g s
-key_same decls h g s update same = own h ∙ ap (λ (words : List ℕ). key_in (operation_with (decl_of decls s.map) act.Update words (map_list (held_value h) s.operands))) same ∙ sym (own g)
+key_same : (decls : List MapDecl) (h g : StageValues) (s : SiteView) → s.act ≡ act.Update → map_list (stage_value h) s.key ≡ map_list (stage_value g) s.key → asked_key decls h s ≡ asked_key decls g s
+key_same decls h g s update same = own h ∙ ap (λ (words : List ℕ). key_in (operation_with (decl_of decls s.map) act.Update words (map_list (stage_value h) s.operands))) same ∙ sym (own g)
   where
-    own : (f : Held) → asked_key decls f s ≡ key_in (operation_with (decl_of decls s.map) act.Update (map_list (held_value f) s.key) (map_list (held_value f) s.operands))
-    own f = ap (λ (a : Act). key_in (operation_with (decl_of decls s.map) a (map_list (held_value f) s.key) (map_list (held_value f) s.operands))) update
+    own : (f : StageValues) → asked_key decls f s ≡ key_in (operation_with (decl_of decls s.map) act.Update (map_list (stage_value f) s.key) (map_list (stage_value f) s.operands))
+    own f = ap (λ (a : Act). key_in (operation_with (decl_of decls s.map) a (map_list (stage_value f) s.key) (map_list (stage_value f) s.operands))) update
 
 module _ (keep : ReadsKeep) (b : Build) (plan : ReadsArePlanned b) where
   finds_there : (j : ℕ) → found_cell b.program.cells j < length b.program.cells → (cell_at b.program.cells (found_cell b.program.cells j)).op ≡ Found j
@@ -150,10 +148,10 @@ module _ (keep : ReadsKeep) (b : Build) (plan : ReadsArePlanned b) where
       s : SiteView
       s = site_at b.program.sites j
 
-      g : Held
+      g : StageValues
       g = with_row b.program b.plan.row k t (packet_of c) x.held
 
-      Right : Held → Type 0
+      Right : StageValues → Type 0
       Right h = (list_any (key_changed t.decls h (site_at b.program.sites j)) seen ≡ true)
           ⊎ (pointer_in h (found_cell b.program.cells j) ≡ found_pointer b.program t h (pending b.program b.plan.row (b.plan.row (found_cell b.program.cells j)) j) j)
 
@@ -166,7 +164,7 @@ module _ (keep : ReadsKeep) (b : Build) (plan : ReadsArePlanned b) where
 
       kept : Rowed b t (packet_of c) k x.held g → b.plan.row (found_cell b.program.cells j) < k → Right x.held → Right g
       kept made lower (inl changed) =
-          let words = map_same (held_value x.held) (held_value g) s.key (all_map (λ i. b.plan.row i < b.plan.row (found_cell b.program.cells j)) (λ i. held_value x.held i ≡ held_value g i) (λ i m. (made.same i (inl (omega (arith, m, lower)))).value) s.key below.0) in
+          let words = map_same (stage_value x.held) (stage_value g) s.key (all_map (λ i. b.plan.row i < b.plan.row (found_cell b.program.cells j)) (λ i. stage_value x.held i ≡ stage_value g i) (λ i m. (made.same i (inl (omega (arith, m, lower)))).value) s.key below.0) in
           inl (subst (λ (key : List ℕ). list_any (λ (se : Seen). se.change.presence && ((s.map == se.change.map) && bytes_eq key se.change.key)) seen ≡ true) (key_same t.decls x.held g s update words) changed)
       kept made lower (inr found) =
           let d = found_cell b.program.cells j in
@@ -182,13 +180,13 @@ abbrev Finds : Build → TableState → ℕ → (ℕ → List Seen) → ℕ → 
 Finds b t done seen k c x = Waits b done k → FindsRight b t (seen k) k x
 
 -- with that packets agree with their tables
-abbrev Finding : Build → Watched → ℕ → Arrival → Packet → Type 0
+abbrev Finding : Build → SeenChanges → ℕ → Arrival → Packet → Type 0
 Finding b w k c x = Known b w k c x × Finds b w.trace.state.tables w.trace.state.done w.seen k c x
 
-committed_finds : CommitsChange → (b : Build) (w : Watched) (rest : List (Option Packet)) (j : ℕ) (y : Packet) → TurnIs b w.trace.state rest (Commits j y) → IsRightTurn b w.trace.state (Commits j y)
+committed_finds : CommitsChange → (b : Build) (w : SeenChanges) (rest : List (Option Packet)) (j : ℕ) (y : Packet) → ActionIs b w.trace.state rest (Commits j y) → IsRightAction b w.trace.state (Commits j y)
     → (let s = w.trace.state in
     let e = change_by b.program s.tables s.taken y.held j in
-    StruckSteps b s.tables e b.plan.commit (Settled b rest (Finding b w)) (Finds b (committed b.program s.tables s.taken y.held j) (suc j) (sees b rest b.plan.commit e w.seen)))
+    MarkedBySteps b s.tables e b.plan.commit (Settled b rest (Finding b w)) (Finds b (committed b.program s.tables s.taken y.held j) (suc j) (sees b rest b.plan.commit e w.seen)))
 unfolding committed
 committed_finds changes b w rest j y is right = record {
   hit = λ k c x l m waits.
@@ -196,8 +194,8 @@ committed_finds changes b w rest j y is right = record {
       let u = committed b.program s.tables s.taken y.held j in
       let e = change_by b.program s.tables s.taken y.held j in
       let held = held_in b.program (place_at rest k) in
-      subst (λ (d : Bool). FindsRight b u (if d then (record { place = k; held = held; change = e }) ∷ w.seen k else w.seen k) k (struck b s.tables k e x)) (sym l)
-      (struck_finds b s.tables u.tables e (changes b.program s.tables s.taken y.held j is.writes_there right) k held (w.seen k) x (m.holds.1 (inl (below k waits))));
+      subst (λ (d : Bool). FindsRight b u (if d then (record { place = k; held = held; change = e }) ∷ w.seen k else w.seen k) k (marked_by b s.tables k e x)) (sym l)
+      (marked_by_finds b s.tables u.tables e (changes b.program s.tables s.taken y.held j is.writes_there right) k held (w.seen k) x (m.holds.1 (inl (below k waits))));
   missed = λ k c x l m waits. absurd (above k l (below k waits));
 }
   where
@@ -208,7 +206,7 @@ committed_finds changes b w rest j y is right = record {
     above : (k : ℕ) → nat_lt k b.plan.commit ≡ false → k < b.plan.commit → ⊥
     above k l low = let past : b.plan.commit ≤ k = grind (arith, nat_tests) in omega (arith, past, low)
 
-moved_finds : ReadsKeep → (b : Build) → ReadsArePlanned b → (w : Watched) (rest : List (Option Packet))
+moved_finds : ReadsKeep → (b : Build) → ReadsArePlanned b → (w : SeenChanges) (rest : List (Option Packet))
     → MovedSteps b w.trace.state.tables (Settled b rest (Finding b w)) (Finds b w.trace.state.tables 0 (seen_on w.seen))
 moved_finds keep b plan w rest = record {
   first = λ c waits. entered_finds keep b plan w.trace.state.tables [] 0 c (injected b.program) (length-replicate (length b.program.cells) 0) (length-replicate (length b.program.cells) Null) (λ r e. absurd (omega (arith, e)));
@@ -220,23 +218,23 @@ moved_finds keep b plan w rest = record {
     below k (inl low) = omega (arith, low)
     below k (inr at) = let here = at.0 in omega (arith, here)
 
-turned_finds : ReadsKeep → CommitsChange → (b : Build) → ReadsArePlanned b → (w : Watched) (back : Bool) (rest : List (Option Packet)) (u : Turn) → TurnIs b w.trace.state rest u → IsRightTurn b w.trace.state u
-    → (let v = worked b w.trace.state back rest u in TurnSteps b w.trace.state (Settled b rest (Finding b w)) (Finds b v.tables v.done (seen_after b w.trace.state rest u w.seen)) u)
-turned_finds keep changes b plan w back rest (Commits j y) is right = committed_finds changes b w rest j y is right
-turned_finds keep changes b plan w back rest (Writes a n) is right = absurd is
-turned_finds keep changes b plan w back rest Moves is right = moved_finds keep b plan w rest
+acted_finds : ReadsKeep → CommitsChange → (b : Build) → ReadsArePlanned b → (w : SeenChanges) (back : Bool) (rest : List (Option Packet)) (u : Action) → ActionIs b w.trace.state rest u → IsRightAction b w.trace.state u
+    → (let v = worked b w.trace.state back rest u in ActionSteps b w.trace.state (Settled b rest (Finding b w)) (Finds b v.tables v.done (seen_after b w.trace.state rest u w.seen)) u)
+acted_finds keep changes b plan w back rest (Commits j y) is right = committed_finds changes b w rest j y is right
+acted_finds keep changes b plan w back rest (Writes a n) is right = absurd is
+acted_finds keep changes b plan w back rest Moves is right = moved_finds keep b plan w rest
 
-pub keeps_found : ReadsKeep → CommitsChange → TurnsAreRight → KeepsFound
+pub keeps_found : ReadsKeep → CommitsChange → ActionsAreRight → KeepsFound
 unfolding observed next work
-keeps_found keep changes turns b maps fit i silent w o h old =
+keeps_found keep changes actions b maps fit i silent w o h old =
     let s = w.trace.state in
     let rest = rest_of b s in
     let v = work b i s in
     let c = clock_aside b i s in
     let n = next b i w.trace in
-    let seen = seen_after b s rest (turn_in b i s) w.seen in
+    let seen = seen_after b s rest (action_in b i s) w.seen in
     let both = both_placed (Known b w) (Finds b s.tables s.done w.seen) (Finding b w) (λ k c x p q. (p, q)) s.frames 0 s.places (all_known b w h.right.agreed) old in
-    let steps = turned_finds keep changes b fit.rows.reads w (some_send b 0 s.places) rest (turn_in b i s) (turn_is b i silent s rest) (turns b maps.decls fit i silent w h.right) in
+    let steps = acted_finds keep changes b fit.rows.reads w (some_send b 0 s.places) rest (action_in b i s) (action_is b i silent s rest) (actions b maps.decls fit i silent w h.right) in
     subst (λ (t : TableState). Placed (Finds b t (clock b i s).done seen) n.state.frames 0 n.state.places) (sym c.tables)
     (subst (λ d. Placed (Finds b v.tables d seen) n.state.frames 0 n.state.places) (sym c.done) (next_placed b i w.trace (Finding b w) (Finds b v.tables v.done seen) o both steps))
 

@@ -18,16 +18,16 @@ use Rattle.hazard_core.specs.cell_core.declared.site.Act.TheVariants as act
 use Rattle.hazard_core.specs.cell_core.Cells.{cell_at, no_cell, site_in, bits_from, bit, on}
 use Rattle.hazard_core.specs.cell_core.Sites.{ProgramView, site_at, operation_with}
 use Rattle.hazard_core.specs.Tables.{TableState, decl_of}
-use Rattle.hazard_core.specs.Held.{Held, is_null, held_value, pointer_in, guard_on, is_found_of, is_answer_of, found_cell, answer_cell, writes_as, pending}
+use Rattle.hazard_core.specs.StageValues.{StageValues, is_null, stage_value, pointer_in, guard_on, is_found_of, is_answer_of, found_cell, answer_cell, writes_as, pending}
 use Rattle.hazard_core.specs.Overlay.{found_pointer, update_answer, delete_answer, answer_as, answer_over}
 use Rattle.hazard_core.specs.Rows.{cell_number, cell_pointer}
 use Rattle.hazard_core.specs.Replay.{earlier, HoldsReads, says_done, SeesEarlier}
 use Rattle.hazard_core.proofs.ActsLaws.{recorded}
+use Rattle.hazard_core.proofs.HeldLaws.{answer_is, found_is}
 use Rattle.pipe_core.specs.Machine.{Packet, Build}
 use Rattle.pipe_core.specs.Agreement.{Agrees, excused_as}
-use Rattle.pipe_core.specs.Pipeable.{FitsReads, IsOwn, IsSuited}
+use Rattle.pipe_core.specs.Pipeable.{FitsReads, IsOwn, IsPipelinable}
 use Rattle.pipe_core.specs.Agreed.{IsPathMade}
-use Rattle.pipe_core.proofs.Striking.{found_is, answer_is}
 
 -- ---- what a cell keeps of an answer
 
@@ -91,11 +91,11 @@ told_delete from width t Hash false = t.absent
 told_delete from width t Array present = t.inval
 
 -- an answer of a site that says whether it was done
-told_answer : (from width : ℕ) → ErrorsTold from width → (p : ProgramView) (t : TableState) (h : Held) (before : List ℕ) (j : ℕ) → says_done (site_at p.sites j).act (decl_of t.decls (site_at p.sites j).map).kind ≡ true → Told from width (answer_over p t h before j)
+told_answer : (from width : ℕ) → ErrorsTold from width → (p : ProgramView) (t : TableState) (h : StageValues) (before : List ℕ) (j : ℕ) → says_done (site_at p.sites j).act (decl_of t.decls (site_at p.sites j).map).kind ≡ true → Told from width (answer_over p t h before j)
 told_answer from width told p t h before j says = by (site_at p.sites j).act refl (decl_of t.decls (site_at p.sites j).map).kind says
   where
     answered : Act → ℕ
-    answered a = answer_as a (operation_with (decl_of t.decls (site_at p.sites j).map) a (map_list (held_value h) (site_at p.sites j).key) (map_list (held_value h) (site_at p.sites j).operands)) p t h before j
+    answered a = answer_as a (operation_with (decl_of t.decls (site_at p.sites j).map) a (map_list (stage_value h) (site_at p.sites j).key) (map_list (stage_value h) (site_at p.sites j).operands)) p t h before j
 
     by : (a : Act) → (site_at p.sites j).act ≡ a → (k : MapKind) → says_done (site_at p.sites j).act k ≡ true → Told from width (answer_over p t h before j)
     by act.Update is k s =
@@ -124,11 +124,11 @@ told_answer from width told p t h before j says = by (site_at p.sites j).act ref
 pub own_cells : (b : Build) (t : TableState) (packet : PacketIn) (x : Packet) → Agrees b t packet (suc b.plan.commit) x → IsOwn b t packet x.held
 own_cells b t packet x a c l low none = a.each c l (omega (arith, low)) (ap (λ o. excused_as b (suc b.plan.commit) x o) none)
 
-module _ (seen : SeesEarlier) (b : Build) (t : TableState) (packet : PacketIn) (x : Packet) (fit : IsSuited t.decls b) (own : IsOwn b t packet x.held) (fits : FitsReads b x.held) (path : IsPathMade b t packet x) where
+module _ (seen : SeesEarlier) (b : Build) (t : TableState) (packet : PacketIn) (x : Packet) (fit : IsPipelinable t.decls b) (own : IsOwn b t packet x.held) (fits : FitsReads b x.held) (path : IsPathMade b t packet x) where
   abbrev p : ProgramView
   p = b.program
 
-  abbrev h : Held
+  abbrev h : StageValues
   h = x.held
 
   pub both_seen : (c j : ℕ) → c < length b.program.cells → site_in (cell_at b.program.cells c).op ≡ Some j → guard_on x.held (site_at b.program.sites j) ≡ true →
@@ -136,8 +136,8 @@ module _ (seen : SeesEarlier) (b : Build) (t : TableState) (packet : PacketIn) (
       × (answer_over b.program t x.held (pending b.program b.plan.row (b.plan.row c) j) j ≡ answer_over b.program t x.held (earlier b.program j) j)
   both_seen c j l e guard = seen p b.plan.row (b.plan.row c) j t h (λ i before same w.
       let s = site_at p.sites i in
-      let q = and_parts (guard_on h s) (writes_as s.act (decl_of t.decls s.map).kind (held_value h (answer_cell p.cells i))) w in
-      fit.sees t packet h refl own fits c j i l e before same (recorded s.act (decl_of t.decls s.map).kind (held_value h (answer_cell p.cells i)) q.1) q.0 guard)
+      let q = and_parts (guard_on h s) (writes_as s.act (decl_of t.decls s.map).kind (stage_value h (answer_cell p.cells i))) w in
+      fit.sees t packet h refl own fits c j i l e before same (recorded s.act (decl_of t.decls s.map).kind (stage_value h (answer_cell p.cells i)) q.1) q.0 guard)
 
   found_op : (j : ℕ) → found_cell b.program.cells j < length b.program.cells → (cell_at b.program.cells (found_cell b.program.cells j)).op ≡ Found j
   found_op j l = found_is j (cell_at p.cells (found_cell p.cells j)).op (passes_at_first (λ d. is_found_of j d.op) p.cells no_cell l)
@@ -161,7 +161,7 @@ module _ (seen : SeesEarlier) (b : Build) (t : TableState) (packet : PacketIn) (
         let s : site_in (cell_at p.cells c).op ≡ Some j = ap site_in o in
         let made = path c j m s guard in
         let at : pointer_in h c ≡ found_pointer p t h (pending p b.plan.row (b.plan.row c) j) j = made.pointer ∙ ap (cell_pointer p b.plan.row (b.plan.row c) t h d) o in
-        let value : held_value h c ≡ 0 =
+        let value : stage_value h c ≡ 0 =
         made.value ∙ ap (λ q. bits_from (cell_number p b.plan.row (b.plan.row c) t packet h d q) d.from d.width) o
         ∙ ap (λ q. bits_from (bit (not (is_null q))) d.from d.width) (sym at) ∙ ap (λ z. bits_from (bit (not z)) d.from d.width) none ∙ no_bits d.from d.width in
         ap on value;
@@ -171,7 +171,7 @@ module _ (seen : SeesEarlier) (b : Build) (t : TableState) (packet : PacketIn) (
         let tell = fit.tells j l says in
         let o = answer_op j tell.in_range in
         let s : site_in (cell_at p.cells c).op ≡ Some j = ap site_in o in
-        let value : held_value h c ≡ bits_from (answer_over p t h (earlier p j) j) d.from d.width =
+        let value : stage_value h c ≡ bits_from (answer_over p t h (earlier p j) j) d.from d.width =
         (path c j tell.in_range s guard).value ∙ ap (λ q. bits_from (cell_number p b.plan.row (b.plan.row c) t packet h d q) d.from d.width) o
         ∙ ap (λ n. bits_from n d.from d.width) (both_seen c j tell.in_range s guard).1 in
         ap (λ n. n == 0) value ∙ told_answer d.from d.width (errors_told d.from d.width tell.errors) p t h (earlier p j) j says;

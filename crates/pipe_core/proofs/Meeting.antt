@@ -16,6 +16,7 @@ use Rattle.hazard_core.specs.xdp_maps.Calls.{lookup_of}
 use Rattle.hazard_core.specs.xdp_maps.Operations as map
 use Rattle.hazard_core.specs.xdp_maps.Operations.{Operation, key_in}
 use Rattle.hazard_core.specs.xdp_maps.Touched.{Resource, Present, Content, Size, update_reads, reads_as}
+use Rattle.hazard_core.proofs.xdp_maps_laws.ResourceLaws.{first, second}
 use Rattle.hazard_core.specs.cell_core.declared.site.Act.{Act}
 use Rattle.hazard_core.specs.cell_core.declared.site.Act.TheVariants as act
 use Rattle.hazard_core.specs.cell_core.Acts.{finds_key, is_access, asks}
@@ -29,15 +30,12 @@ use Rattle.hazard_core.specs.declared.pointer.Pointer.{Pointer}
 use Rattle.hazard_core.specs.declared.pointer.Pointer.TheVariants.{Null, InSlot, Pending}
 use Rattle.hazard_core.specs.Tables.{TableState, decl_of, table_at, slot_at, no_slot, has_key, slot_of, maps_of}
 use Rattle.hazard_core.specs.Tabled.{AreTables}
-use Rattle.hazard_core.specs.Held.{is_null, Held, held_value, pointer_in, guard_on, asked, asked_key, access_pointer, found_cell, answer_cell, writes_as, writes, update_pointer, slot_pointer, written_as, written_pointer}
+use Rattle.hazard_core.specs.StageValues.{is_null, StageValues, stage_value, pointer_in, guard_on, asked, asked_key, access_pointer, found_cell, answer_cell, writes_as, writes, update_pointer, slot_pointer, written_as, written_pointer}
 use Rattle.hazard_core.specs.Overlay.{found_as, found_over, key_pointer_as, key_pointer, looks, found_pointer}
 use Rattle.hazard_core.specs.Marks.{entry_touched, presence_touched, touched_as}
 use Rattle.hazard_core.specs.Replay.{earlier, HoldsReads, ReadsInTurn}
 use Rattle.pipe_core.specs.Meeting.{site_reads, Meets, TouchesWhatIsRead}
 use Rattle.pipe_core.proofs.Elsewhere.{applied_decls}
-
-no_case : false ≡ true → ⊥
-no_case e = cc
 
 -- the numbers that pass a test, from one on
 numbers_pass : (f : ℕ → Bool) (from n : ℕ) → AllByRecursion (λ i. (f i ≡ true) × (i < from + n)) (filter f (numbers from n))
@@ -54,7 +52,7 @@ numbers_pass f from (suc n) = by (f from) refl (widened (filter f (numbers (suc 
 
 -- ---- where a pointer comes from
 
-module _ (p : ProgramView) (t : TableState) (h : Held) (reads : HoldsReads p t h) where
+module _ (p : ProgramView) (t : TableState) (h : StageValues) (reads : HoldsReads p t h) where
   -- an update of the packet's own that wrote under a key of a map
   pub record Own (bound m : ℕ) (under : List ℕ) (i : ℕ) : Type 0 where
     pub key : asked_key t.decls h (site_at p.sites i) ≡ under
@@ -136,7 +134,7 @@ module _ (p : ProgramView) (t : TableState) (h : Held) (reads : HoldsReads p t h
 
       by : (w : Bool) → writes p t.decls h i ≡ w → (c : Bool) → bytes_eq (asked_key t.decls h (site_at p.sites i)) key ≡ c → Source bound m key (if w && c then found_as x.act (written_pointer p t h i) found else found)
       by true e true f =
-          by_act ((bytes_eq-Decides (asked_key t.decls h x) key).0 f) (and_parts (guard_on h x) (writes_as x.act (decl_of t.decls x.map).kind (held_value h (answer_cell p.cells i))) e).0 x.act refl
+          by_act ((bytes_eq-Decides (asked_key t.decls h x) key).0 f) (and_parts (guard_on h x) (writes_as x.act (decl_of t.decls x.map).kind (stage_value h (answer_cell p.cells i))) e).0 x.act refl
       by true e false f = s
       by false e c f = s
 
@@ -187,12 +185,6 @@ slot_has slots key n e = by (nat_lt (slot_of slots key) (length slots)) refl e
 
 -- ---- what is read
 
-pub first : (r : Resource) (rs : List Resource) → Contains (r ∷ rs) r
-first r rs = (0, omega arith, refl)
-
-pub second : (r s : Resource) (rs : List Resource) → Contains (r ∷ s ∷ rs) s
-second r s rs = (1, omega arith, refl)
-
 load_reads : (k : MapKind) (q : ℕ) (c : Contents) (key : List ℕ) → Contains (reads_as k q c (map.Load key)) (Content q key)
 load_reads Hash q c key = first (Content q key) []
 load_reads Array q c key = first (Content q key) []
@@ -218,7 +210,7 @@ pub after_decls : (v : ℕ → ℕ) (maps : MapState) (ss : List SiteView) → (
 after_decls v maps [] = refl
 after_decls v maps (s ∷ ss) = after_decls v (applied v maps s) ss ∙ applied_decls v maps s
 
-module _ (right : ReadsInTurn) (p : ProgramView) (t : TableState) (h : Held) (tables : AreTables t) (fit : AllFit t.decls p.sites) (reads : HoldsReads p t h) (j : ℕ) (l : j < length p.sites) (guard : guard_on h (site_at p.sites j) ≡ true) (e : Change) where
+module _ (right : ReadsInTurn) (p : ProgramView) (t : TableState) (h : StageValues) (tables : AreTables t) (fit : AllFit t.decls p.sites) (reads : HoldsReads p t h) (j : ℕ) (l : j < length p.sites) (guard : guard_on h (site_at p.sites j) ≡ true) (e : Change) where
   abbrev s : SiteView
   s = site_at p.sites j
 
@@ -226,13 +218,13 @@ module _ (right : ReadsInTurn) (p : ProgramView) (t : TableState) (h : Held) (ta
   d = decl_of t.decls (site_at p.sites j).map
 
   abbrev maps : MapState
-  maps = after (held_value h) (maps_of t) (take j p.sites)
+  maps = after (stage_value h) (maps_of t) (take j p.sites)
 
-  pub decl_is : decl_at (after (held_value h) (maps_of t) (take j p.sites)) (site_at p.sites j).map ≡ decl_of t.decls (site_at p.sites j).map
-  decl_is = ap (λ ds. get_or ds (site_at p.sites j).map no_decl) (after_decls (held_value h) (maps_of t) (take j p.sites))
+  pub decl_is : decl_at (after (stage_value h) (maps_of t) (take j p.sites)) (site_at p.sites j).map ≡ decl_of t.decls (site_at p.sites j).map
+  decl_is = ap (λ ds. get_or ds (site_at p.sites j).map no_decl) (after_decls (stage_value h) (maps_of t) (take j p.sites))
 
   abbrev op_by : Act → Operation
-  op_by a = operation_with (decl_of t.decls (site_at p.sites j).map) a (map_list (held_value h) (site_at p.sites j).key) (map_list (held_value h) (site_at p.sites j).operands)
+  op_by a = operation_with (decl_of t.decls (site_at p.sites j).map) a (map_list (stage_value h) (site_at p.sites j).key) (map_list (stage_value h) (site_at p.sites j).operands)
 
   -- the reads by the act
   abbrev reads_by : Act → List Resource
@@ -240,11 +232,11 @@ module _ (right : ReadsInTurn) (p : ProgramView) (t : TableState) (h : Held) (ta
 
   reads_are : (a : Act) → s.act ≡ a → site_reads p t h j ≡ reads_by a
   reads_are a is =
-      ap (λ (x : MapDecl). reads_as x.kind s.map (contents_at maps s.map) (operation_with x s.act (map_list (held_value h) s.key) (map_list (held_value h) s.operands))) decl_is
+      ap (λ (x : MapDecl). reads_as x.kind s.map (contents_at maps s.map) (operation_with x s.act (map_list (stage_value h) s.key) (map_list (stage_value h) s.operands))) decl_is
       ∙ ap reads_by is
 
   abbrev key : List ℕ
-  key = bytes_of (decl_of t.decls (site_at p.sites j).map).key (map_list (held_value h) (site_at p.sites j).key)
+  key = bytes_of (decl_of t.decls (site_at p.sites j).map).key (map_list (stage_value h) (site_at p.sites j).key)
 
   meets_by : (a : Act) → s.act ≡ a → Meets t e (reads_by a) → Meets t e (site_reads p t h j)
   meets_by a is = subst (Meets t e) (sym (reads_are a is))
@@ -256,16 +248,16 @@ module _ (right : ReadsInTurn) (p : ProgramView) (t : TableState) (h : Held) (ta
   by_key : (rs : List Resource) → s.map ≡ e.map → e.presence ≡ true → bytes_eq key e.key ≡ true → Contains rs (Present s.map key) → Meets t e rs
   by_key rs same presence k has = inl (presence, inl (subst (λ n. Contains rs (Present n e.key)) same (subst (λ (x : List ℕ). Contains rs (Present s.map x)) ((bytes_eq-Decides key e.key).0 k) has)))
 
-  pub absent : s.act ≡ act.Update → d.kind ≡ Hash → not there ≡ true → nat_le (slice_index (map_list (held_value h) s.operands) 0) 2 ≡ true → is_some (lookup_of (contents_at maps s.map) key) ≡ false
+  pub absent : s.act ≡ act.Update → d.kind ≡ Hash → not there ≡ true → nat_le (slice_index (map_list (stage_value h) s.operands) 0) 2 ≡ true → is_some (lookup_of (contents_at maps s.map) key) ≡ false
   absent is hash none small =
       let found = reads.found j l guard (ap (λ (a : Act). asks a d.kind) is ∙ ap (asks act.Update) hash) in
       let r = (right p t h tables fit reads j l guard).found (ap finds_key is) in
       let null : is_null (found_pointer p t h (earlier p j) j) ≡ true = ap is_null (sym found) ∙ not_not (is_null (pointer_in h (found_cell p.cells j))) none in
       let zero_bit : bit (found_in (contents_at maps s.map) (op_by act.Update)) ≡ 0 =
-      ap (λ (x : MapDecl). bit (found_in (contents_at maps s.map) (operation_with x act.Update (map_list (held_value h) s.key) (map_list (held_value h) s.operands)))) (sym decl_is)
-      ∙ ap (λ (a : Act). bit (found_in (contents_at maps s.map) (operation_with (decl_at maps s.map) a (map_list (held_value h) s.key) (map_list (held_value h) s.operands)))) (sym is)
+      ap (λ (x : MapDecl). bit (found_in (contents_at maps s.map) (operation_with x act.Update (map_list (stage_value h) s.key) (map_list (stage_value h) s.operands)))) (sym decl_is)
+      ∙ ap (λ (a : Act). bit (found_in (contents_at maps s.map) (operation_with (decl_at maps s.map) a (map_list (stage_value h) s.key) (map_list (stage_value h) s.operands)))) (sym is)
       ∙ sym r ∙ ap (λ c. bit (not c)) null in
-      both (nat_le (slice_index (map_list (held_value h) s.operands) 0) 2) (is_some (lookup_of (contents_at maps s.map) key)) small zero_bit
+      both (nat_le (slice_index (map_list (stage_value h) s.operands) 0) 2) (is_some (lookup_of (contents_at maps s.map) key)) small zero_bit
     where
       not_not : (c : Bool) → not (not c) ≡ true → c ≡ true
       not_not true f = refl
@@ -285,7 +277,7 @@ module _ (right : ReadsInTurn) (p : ProgramView) (t : TableState) (h : Held) (ta
       let q = and_parts e.presence (bytes_eq key e.key) touched in
       by_key (reads_by act.Delete) same q.0 q.1 (subst (λ k. Contains (reads_as k s.map (contents_at maps s.map) (op_by act.Delete)) (Present s.map key)) (sym kind) (first (Present s.map key) []))
   presence_of act.Update is Hash kind same f touched =
-      let flags = slice_index (map_list (held_value h) s.operands) 0 in
+      let flags = slice_index (map_list (stage_value h) s.operands) 0 in
       let q = and_parts e.presence (not (nat_lt 2 flags) && (bytes_eq key e.key || (nat_lt flags 2 && not there))) touched in
       let r = and_parts (not (nat_lt 2 flags)) (bytes_eq key e.key || (nat_lt flags 2 && not there)) q.1 in
       subst (λ k. Meets t e (reads_as k s.map (contents_at maps s.map) (op_by act.Update))) (sym kind)
@@ -302,15 +294,15 @@ module _ (right : ReadsInTurn) (p : ProgramView) (t : TableState) (h : Held) (ta
           by true f = refl
           by false f = let m : 2 < n = grind (arith, nat_tests) in let k : n ≤ 2 = grind (arith, nat_tests) in absurd (omega (arith, m, k))
 
-      either : (flags : ℕ) → nat_lt 2 (slice_index (map_list (held_value h) s.operands) 0) ≡ false → e.presence ≡ true → (b : Bool) → bytes_eq key e.key ≡ b → (c : Bool) → (nat_lt (slice_index (map_list (held_value h) s.operands) 0) 2 && not there) ≡ c → b || c ≡ true →
-          Meets t e (update_reads s.map key (is_some (lookup_of (contents_at maps s.map) key)) (slice_index (map_list (held_value h) s.operands) 0))
-      either flags small presence true k c f or = by_key (update_reads s.map key (is_some (lookup_of (contents_at maps s.map) key)) (slice_index (map_list (held_value h) s.operands) 0)) same presence k (update_looks s.map key (is_some (lookup_of (contents_at maps s.map) key)) (slice_index (map_list (held_value h) s.operands) 0) small)
+      either : (flags : ℕ) → nat_lt 2 (slice_index (map_list (stage_value h) s.operands) 0) ≡ false → e.presence ≡ true → (b : Bool) → bytes_eq key e.key ≡ b → (c : Bool) → (nat_lt (slice_index (map_list (stage_value h) s.operands) 0) 2 && not there) ≡ c → b || c ≡ true →
+          Meets t e (update_reads s.map key (is_some (lookup_of (contents_at maps s.map) key)) (slice_index (map_list (stage_value h) s.operands) 0))
+      either flags small presence true k c f or = by_key (update_reads s.map key (is_some (lookup_of (contents_at maps s.map) key)) (slice_index (map_list (stage_value h) s.operands) 0)) same presence k (update_looks s.map key (is_some (lookup_of (contents_at maps s.map) key)) (slice_index (map_list (stage_value h) s.operands) 0) small)
       either flags small presence false k true f or =
-          let g = and_parts (nat_lt (slice_index (map_list (held_value h) s.operands) 0) 2) (not there) f in
+          let g = and_parts (nat_lt (slice_index (map_list (stage_value h) s.operands) 0) 2) (not there) f in
           inl (
             presence,
-            inr (subst (λ n. Contains (update_reads s.map key (is_some (lookup_of (contents_at maps s.map) key)) (slice_index (map_list (held_value h) s.operands) 0)) (Size n)) same
-                (update_counts s.map key (is_some (lookup_of (contents_at maps s.map) key)) (slice_index (map_list (held_value h) s.operands) 0) small (absent is kind g.1 (at_most (slice_index (map_list (held_value h) s.operands) 0) small)) g.0)),
+            inr (subst (λ n. Contains (update_reads s.map key (is_some (lookup_of (contents_at maps s.map) key)) (slice_index (map_list (stage_value h) s.operands) 0)) (Size n)) same
+                (update_counts s.map key (is_some (lookup_of (contents_at maps s.map) key)) (slice_index (map_list (stage_value h) s.operands) 0) small (absent is kind g.1 (at_most (slice_index (map_list (stage_value h) s.operands) 0) small)) g.0)),
           )
       either flags small presence false k false f or = cc
   presence_of (act.Load at size) is k kind same f touched = cc
@@ -355,7 +347,7 @@ module _ (right : ReadsInTurn) (p : ProgramView) (t : TableState) (h : Held) (ta
       let q = and_parts a.fetch (entry_touched p t.decls h e (access_pointer h s)) touched in
       meets_by (act.Atomic at a) is (through (reads_by (act.Atomic at a)) same (ap is_access is) (key_is (act.Atomic at a) is refl) (fetched a.fetch q.0 d.kind) (access_pointer h s) refl q.1)
     where
-      fetched : (b : Bool) → b ≡ true → (k : MapKind) → Contains (reads_as k s.map (contents_at maps s.map) (map.Atomic key at (change_of a (slice_index (map_list (held_value h) s.operands) 0) (slice_index (map_list (held_value h) s.operands) 1)) b)) (Content s.map key)
+      fetched : (b : Bool) → b ≡ true → (k : MapKind) → Contains (reads_as k s.map (contents_at maps s.map) (map.Atomic key at (change_of a (slice_index (map_list (stage_value h) s.operands) 0) (slice_index (map_list (stage_value h) s.operands) 1)) b)) (Content s.map key)
       fetched true f Hash = first (Content s.map key) []
       fetched true f Array = first (Content s.map key) []
       fetched false f k = cc

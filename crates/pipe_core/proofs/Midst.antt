@@ -17,7 +17,7 @@ use Rattle.hazard_core.specs.cell_core.SiteLaws.{ValuesKeep}
 use Rattle.realization.specs.beat_core.Ports.{Arrival}
 use Rattle.pipe_core.specs.Machine.{Build, packet_of}
 use Rattle.pipe_core.specs.Agreement.{ReadsArePlanned}
-use Rattle.pipe_core.specs.Apart.{AllRun, AreOthers, ReadOthers, AreApart, RunsElsewhere, RunsComplete, Leads, RunsInTurnToo, InTurnToo}
+use Rattle.pipe_core.specs.Apart.{AllRun, AreOthers, ReadOthers, ConflictFree, RunsElsewhere, RunsComplete, Leads, RunsInTurnToo, InTurnToo}
 use Rattle.pipe_core.proofs.Elsewhere.{after_sound}
 
 -- ---- what shows the same
@@ -27,20 +27,12 @@ same_trans (Present q key) s t u h k = h ∙ k
 same_trans (Content q key) s t u h k = h ∙ k
 same_trans (Size q) s t u h k = h ∙ k
 
-same_back : (r : Resource) (s t : MapState) → SameOf s t r → SameOf t s r
-same_back (Present q key) s t h = sym h
-same_back (Content q key) s t h = sym h
-same_back (Size q) s t h = sym h
-
 same_self : (r : Resource) (s : MapState) → SameOf s s r
 same_self (Present q key) s = refl
 same_self (Content q key) s = refl
 same_self (Size q) s = refl
 
 module _ (v : ℕ → ℕ) where
-  own : MapState → SiteView → Touched
-  own m s = touched_by m (Some (s.map, operation_on v m s))
-
   -- a site that does not write a resource keeps it
   site_keeps : (m : MapState) (s : SiteView) (r : Resource) → (Contains (if on (v s.guard) then touched_by m (Some (s.map, operation_on v m s)) else nothing).writes r → ⊥) → SameOf (applied v m s) m r
   site_keeps m s r not_written = by (records s.act) (on (v s.guard)) refl
@@ -85,7 +77,7 @@ module _ (p : ProgramView) where
   leads_then maps last (c ∷ cs) ds (t ∷ ts) us (v, run, touches, more) k = (v, run, touches, leads_then (after v maps p.sites) last cs ds ts us more k)
 
   -- of what is apart: what follows a run
-  pub apart_after : (n : ℕ) (ts us : List Touched) → AreApart n (ts ++ us) → AreApart n us
+  pub apart_after : (n : ℕ) (ts us : List Touched) → ConflictFree n (ts ++ us) → ConflictFree n us
   apart_after n [] us h = h
   apart_after n (t ∷ ts) us h = apart_after n ts us h.1
 
@@ -95,7 +87,7 @@ module _ (p : ProgramView) where
   reads_others (suc n) writes (x ∷ ts) us t l h = reads_others n writes ts us t (omega (arith, l)) h.1
 
   -- what is read after these runs none of them wrote
-  unread_stays : (n : ℕ) (maps last : MapState) (cs : List Arrival) (ts us : List Touched) (t : Touched) → length ts ≤ n → AreApart n (ts ++ (t ∷ us)) → Leads p maps cs ts last → (r : Resource) → Contains t.reads r → SameOf last maps r
+  unread_stays : (n : ℕ) (maps last : MapState) (cs : List Arrival) (ts us : List Touched) (t : Touched) → length ts ≤ n → ConflictFree n (ts ++ (t ∷ us)) → Leads p maps cs ts last → (r : Resource) → Contains t.reads r → SameOf last maps r
   unread_stays n maps last [] [] us t l a h r has = subst (λ m. SameOf m maps r) (sym h) (same_self r maps)
   unread_stays n maps last [] (x ∷ ts) us t l a h r has = absurd h
   unread_stays n maps last (c ∷ cs) [] us t l a h r has = absurd h
@@ -156,7 +148,7 @@ module _ (elsewhere : RunsElsewhere) (complete : RunsComplete) (keep : ValuesKee
   abbrev p : ProgramView
   p = b.program
 
-  module _ (n : ℕ) (before : List Arrival) (w : Arrival) (between : List Arrival) (y : Arrival) (later : List Arrival) (apart : (ts : List Touched) → AllRun b.program maps (before ++ (w ∷ (between ++ (y ∷ later)))) ts → AreApart n ts) (near : length between < n)
+  module _ (n : ℕ) (before : List Arrival) (w : Arrival) (between : List Arrival) (y : Arrival) (later : List Arrival) (apart : (ts : List Touched) → AllRun b.program maps (before ++ (w ∷ (between ++ (y ∷ later)))) ts → ConflictFree n ts) (near : length between < n)
       (first : List Touched) (m : MapState) (leads : Leads b.program maps before first m) (u : ℕ → ℕ) (writer : IsCellRun (packet_of w) m b.program u) (s : ℕ) where
     abbrev midst : MapState
     midst = after u m (take s b.program.sites)
@@ -185,17 +177,17 @@ module _ (elsewhere : RunsElsewhere) (complete : RunsComplete) (keep : ValuesKee
     btw : Led complete maps.decls b.program plan.planned.formed sited (after u m b.program.sites) between
     btw = led_by complete maps.decls p plan.planned.formed sited left between
 
-    abbrev turn : MapState
-    turn = btw.last
+    abbrev action : MapState
+    action = btw.last
 
-    turn_sound : IsSound btw.last × (btw.last.decls ≡ (after u m b.program.sites).decls)
-    turn_sound = leads_sound p left btw.last (subst (λ ds. AllFit ds p.sites) (sym left_sound.1) fit_m) between btw.ts btw.leads left_sound.0
+    action_sound : IsSound btw.last × (btw.last.decls ≡ (after u m b.program.sites).decls)
+    action_sound = leads_sound p left btw.last (subst (λ ds. AllFit ds p.sites) (sym left_sound.1) fit_m) between btw.ts btw.leads left_sound.0
 
-    turn_decls : btw.last.decls ≡ maps.decls
-    turn_decls = turn_sound.1 ∙ left_sound.1 ∙ m_sound.1
+    action_decls : btw.last.decls ≡ maps.decls
+    action_decls = action_sound.1 ∙ left_sound.1 ∙ m_sound.1
 
     midst_decls : (after u m (take s b.program.sites)).decls ≡ btw.last.decls
-    midst_decls = midst_sound.1 ∙ m_sound.1 ∙ sym turn_decls
+    midst_decls = midst_sound.1 ∙ m_sound.1 ∙ sym action_decls
 
     -- whatever run of the frame there is in its turn, it reads nothing that was written since
     unread : (x : ℕ → ℕ) → IsCellRun (packet_of y) btw.last b.program x → (r : Resource) → Contains (touched x btw.last b.program.sites).reads r → SameOf btw.last (after u m (take s b.program.sites)) r
@@ -213,18 +205,18 @@ module _ (elsewhere : RunsElsewhere) (complete : RunsComplete) (keep : ValuesKee
     runs_in_turn_too : (v : ℕ → ℕ) → IsCellRun (packet_of y) (after u m (take s b.program.sites)) b.program v → RunsInTurnToo b.program (packet_of y) (after u m (take s b.program.sites)) (after u m b.program.sites) between v
     runs_in_turn_too v run =
         let given = complete maps.decls p plan.planned.formed sited (packet_of y) btw.last v (λ k l is. solves_fit (is_read (cell_at p.cells k).op) (packet_of y) v (cell_at p.cells k) (v k) is (run.each k l).solves) in
-        let fit_turn = subst (λ ds. AllFit ds p.sites) (sym turn_decls) fit in
-        let there = elsewhere b plan (packet_of y) btw.last midst given.0 midst_decls turn_sound.0 midst_sound.0 fit_turn given.1.run (unread given.0 given.1.run) in
+        let fit_action = subst (λ ds. AllFit ds p.sites) (sym action_decls) fit in
+        let there = elsewhere b plan (packet_of y) btw.last midst given.0 midst_decls action_sound.0 midst_sound.0 fit_action given.1.run (unread given.0 given.1.run) in
         let one = complete maps.decls p plan.planned.formed sited (packet_of y) midst v (λ k l is. solves_fit (is_read (cell_at p.cells k).op) (packet_of y) v (cell_at p.cells k) (v k) is (run.each k l).solves) in
         let same : (k : ℕ) → k < length p.cells → given.0 k ≡ v k =
         λ k l. one.2 given.0 (record { run = there.0; aside = given.1.aside }) k l ∙ sym (one.2 v (record { run = run; aside = λ i j h e off. refl }) k l) in
         let in_turn = same_run keep b maps.decls plan sited (packet_of y) btw.last given.0 v same given.1.run in
         record {
           ts = btw.ts;
-          turn = btw.last;
+          action = btw.last;
           leads = btw.leads;
           run = in_turn;
-          touches = (elsewhere b plan (packet_of y) btw.last midst v midst_decls turn_sound.0 midst_sound.0 fit_turn in_turn (unread v in_turn)).1;
+          touches = (elsewhere b plan (packet_of y) btw.last midst v midst_decls action_sound.0 midst_sound.0 fit_action in_turn (unread v in_turn)).1;
         }
 
 pub in_turn_too : RunsElsewhere → RunsComplete → ValuesKeep → InTurnToo

@@ -1,4 +1,4 @@
--- What a clock does to the beats that are still to come and to be given, whatever its turn is.
+-- What a clock does to the beats that are still to come and to be given, whatever its action is.
 use Rattle.std.proofs.Common.{◌≡◌, ℕ, ◌+◌, ◌*◌, ◌≤◌, inl, inr, Bool, true, false, List, [], ◌∷◌, ◌++◌, Option, Some, None, length, drop, refl, sym, ap, ◌∙◌, subst, arith, length-append}
 use Rattle.std.specs.Prelude.{if◌then◌else◌, is_some}
 use Rattle.std.proofs.lemmas.Bool.{cases_lt}
@@ -7,28 +7,29 @@ use Rattle.realization.specs.beat_core.declared.answer.Answer.{Answer}
 use Rattle.realization.specs.beat_core.Clocks.{AreOffers}
 use Rattle.realization.specs.beat_core.Ports.{Arrival}
 use Rattle.hazard_core.specs.cell_core.Sites.{ProgramView}
-use Rattle.hazard_core.specs.Held.{Held, held_value}
-use Rattle.pipe_core.specs.Machine.{Packet, State, Input, Build, Turn, Commits, Writes, Moves, some_send, swept, turn_of, worked, work, gathered, beat_over, beat_at, taken_beat, scattered, clock}
+use Rattle.hazard_core.proofs.cell_core_laws.FrameLaws.{with_bytes_length}
+use Rattle.hazard_core.specs.StageValues.{StageValues, stage_value}
+use Rattle.pipe_core.specs.Machine.{Packet, State, Input, Build, Action, Commits, Writes, Moves, some_send, flushed, action_of, worked, work, gathered, beat_over, beat_at, taken_beat, scattered, clock}
 use Rattle.pipe_core.specs.History.{Trace, came_in, left_in, next, answers_of, IsInOrder}
 use Rattle.pipe_core.specs.Drive.{ahead}
 use Rattle.pipe_core.proofs.Order.{Worked, work_keeps, beats_keep, keeps_order}
-use Rattle.pipe_core.proofs.Draining.{beats, answer_beats, frame_beats, part_beats, part_length, EndsWhole, IsAt, to_give, bytes_length, answer_append, at_append, at_within, gave, Took, took_none, took_one, Driving}
+use Rattle.pipe_core.proofs.Draining.{beats, answer_beats, frame_beats, part_beats, part_length, EndsWhole, IsAt, to_give, answer_append, at_append, at_within, gave, Took, took_none, took_one, Driving}
 
 -- answers have the beats of their frames
-answers_beats : (p : ProgramView) (hs : List Held) (cs : List Arrival) → length hs ≤ length cs → answer_beats (answers_of p hs cs) + frame_beats (drop (length hs) cs) ≡ frame_beats cs
+answers_beats : (p : ProgramView) (hs : List StageValues) (cs : List Arrival) → length hs ≤ length cs → answer_beats (answers_of p hs cs) + frame_beats (drop (length hs) cs) ≡ frame_beats cs
 answers_beats p [] cs l = omega arith
 answers_beats p (h ∷ hs) [] l = absurd (omega (arith, l))
 answers_beats p (h ∷ hs) (c ∷ cs) l =
-    let e = ap beats (bytes_length (held_value h) c.frame p.frame) in omega (arith, e, answers_beats p hs cs (omega (arith, l)))
+    let e = ap beats (with_bytes_length (stage_value h) c.frame p.frame) in omega (arith, e, answers_beats p hs cs (omega (arith, l)))
 
-turn_pos : (b : Build) (s : State) (back : Bool) (rest : List (Option Packet)) (u : Turn) → (worked b s back rest u).pos ≡ s.pos
-turn_pos b s back rest (Commits j x) = refl
-turn_pos b s back rest (Writes a n) = refl
-turn_pos b s back rest Moves = refl
+action_pos : (b : Build) (s : State) (back : Bool) (rest : List (Option Packet)) (u : Action) → (worked b s back rest u).pos ≡ s.pos
+action_pos b s back rest (Commits j x) = refl
+action_pos b s back rest (Writes a n) = refl
+action_pos b s back rest Moves = refl
 
 work_pos : (b : Build) (i : Input) (s : State) → (work b i s).pos ≡ s.pos
 unfolding work
-work_pos b i s = turn_pos b s (some_send b 0 s.places) (swept b 0 s.places) (turn_of b i s (swept b 0 s.places))
+work_pos b i s = action_pos b s (some_send b 0 s.places) (flushed b 0 s.places) (action_of b i s (flushed b 0 s.places))
 
 took_ahead : (w : State) (i : Input) (o : Option Beat) (left : List Beat) → 8 * part_beats w.part ≡ part_length w.part → AreOffers (part_beats w.part) (ahead o left) → EndsWhole (is_some w.part) (ahead o left) →
     Took w (gathered w i o) (ahead o left) left

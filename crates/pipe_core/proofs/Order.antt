@@ -10,39 +10,27 @@ use Rattle.realization.specs.beat_core.Beats.{first_beat}
 use Rattle.hazard_core.specs.xdp_maps.State.{MapState}
 use Rattle.hazard_core.specs.cell_core.Cells.{bit}
 use Rattle.hazard_core.specs.cell_core.Sites.{ProgramView}
-use Rattle.hazard_core.specs.Held.{Held}
+use Rattle.hazard_core.specs.StageValues.{StageValues}
 use Rattle.hazard_core.specs.Tables.{TableState}
 use Rattle.hazard_core.specs.declared.change.Change.{Change}
 use Rattle.hazard_core.specs.Commits.{change_by, host_change}
 use Rattle.realization.specs.beat_core.Ports.{Arrival}
-use Rattle.pipe_core.specs.Machine.{Packet, State, Input, Build, Turn, Commits, Writes, Moves, place_at, inside, swept, some_send, struck, struck_below, enters, moved, newcomer, injected, answers_by, answer_of, worked, work, turn_of, came_with, gathered, beat_over, beat_at, taken_beat, scattered, clock}
+use Rattle.pipe_core.specs.Machine.{Packet, State, Input, Build, Action, Commits, Writes, Moves, place_at, inside, flushed, some_send, marked_by, marked_below, moved, newcomer, injected, answers_by, answer_of, worked, work, action_of, came_with, gathered, beat_over, beat_at, taken_beat, scattered, clock}
 use Rattle.pipe_core.specs.History.{Trace, came_in, left_as, left_in, gave_in, next, run, begin, answers_of, IsInOrder}
+use Rattle.pipe_core.proofs.FlushLaws.{flushed_inside, flushed_length}
+use Rattle.pipe_core.proofs.HistoryLaws.{answers_length}
 
 -- ---- packets in the places
 
-pub swept_length : (b : Build) (k : ℕ) (xs : List (Option Packet)) → length (swept b k xs) ≡ length xs
-swept_length b k [] = refl
-swept_length b k (x ∷ xs) = ap suc (swept_length b (suc k) xs)
+pub marked_by_length : (to : ℕ) (b : Build) (t : TableState) (e : Change) (k : ℕ) (xs : List (Option Packet)) → length (marked_below to b t e k xs) ≡ length xs
+marked_by_length to b t e k [] = refl
+marked_by_length to b t e k (x ∷ xs) = ap suc (marked_by_length to b t e (suc k) xs)
 
-pub swept_inside : (b : Build) (k : ℕ) (xs : List (Option Packet)) → inside (swept b k xs) ≤ inside xs
-swept_inside b k [] = omega arith
-swept_inside b k (x ∷ xs) = by (some_send b k (x ∷ xs)) x (swept_inside b (suc k) xs)
+pub marked_by_inside : (to : ℕ) (b : Build) (t : TableState) (e : Change) (k : ℕ) (xs : List (Option Packet)) → inside (marked_below to b t e k xs) ≡ inside xs
+marked_by_inside to b t e k [] = refl
+marked_by_inside to b t e k (x ∷ xs) = by (nat_lt k to) x (marked_by_inside to b t e (suc k) xs)
   where
-    by : (c : Bool) (x : Option Packet) → inside (swept b (suc k) xs) ≤ inside xs → inside ((if c then None else x) ∷ swept b (suc k) xs) ≤ inside (x ∷ xs)
-    by true None h = h
-    by true (Some x) h = omega arith
-    by false None h = h
-    by false (Some x) h = omega arith
-
-pub struck_length : (to : ℕ) (b : Build) (t : TableState) (e : Change) (k : ℕ) (xs : List (Option Packet)) → length (struck_below to b t e k xs) ≡ length xs
-struck_length to b t e k [] = refl
-struck_length to b t e k (x ∷ xs) = ap suc (struck_length to b t e (suc k) xs)
-
-pub struck_inside : (to : ℕ) (b : Build) (t : TableState) (e : Change) (k : ℕ) (xs : List (Option Packet)) → inside (struck_below to b t e k xs) ≡ inside xs
-struck_inside to b t e k [] = refl
-struck_inside to b t e k (x ∷ xs) = by (nat_lt k to) x (struck_inside to b t e (suc k) xs)
-  where
-    by : (c : Bool) (x : Option Packet) → inside (struck_below to b t e (suc k) xs) ≡ inside xs → inside ((if c then option_map (struck b t k e) x else x) ∷ struck_below to b t e (suc k) xs) ≡ inside (x ∷ xs)
+    by : (c : Bool) (x : Option Packet) → inside (marked_below to b t e (suc k) xs) ≡ inside xs → inside ((if c then option_map (marked_by b t k e) x else x) ∷ marked_below to b t e (suc k) xs) ≡ inside (x ∷ xs)
     by true None more = more
     by true (Some x) more = ap suc more
     by false None more = more
@@ -60,10 +48,6 @@ place_last x (y ∷ ys) = place_last y ys
 pub moved_length : (b : Build) (t : TableState) (fs : List Arrival) (k : ℕ) (x : Option Packet) (ys : List (Option Packet)) → length (moved b t fs k x ys) ≡ length ys
 moved_length b t fs k x [] = refl
 moved_length b t fs k x (y ∷ ys) = ap suc (moved_length b t fs (suc k) y ys)
-
-pub enters_inside : (b : Build) (t : TableState) (k : ℕ) (c : Arrival) (x : Option Packet) (ys : List (Option Packet)) → inside (enters b t k c x ∷ ys) ≡ inside (x ∷ ys)
-enters_inside b t k c None ys = refl
-enters_inside b t k c (Some x) ys = refl
 
 pub moved_inside : (b : Build) (t : TableState) (fs : List Arrival) (k : ℕ) (x : Option Packet) (ys : List (Option Packet)) →
     inside (moved b t fs k x ys) + bit (is_some (last_or x ys)) ≡ inside (x ∷ ys)
@@ -83,7 +67,7 @@ came_inside b back fs rest h = by (not back) (nat_lt (inside rest) (length fs)) 
 
 -- ---- the work of a clock
 
-pub record Worked (b : Build) (s w : State) (left : List Held) : Type 0 where
+pub record Worked (b : Build) (s w : State) (left : List StageValues) : Type 0 where
   pub places : length w.places ≡ suc b.plan.last
   pub packets : inside w.places ≤ length w.frames
   pub one : length left ≤ length s.frames
@@ -160,55 +144,50 @@ moves b s back (x ∷ xs) h l = by (place_at (x ∷ xs) b.plan.last) here
           part = refl;
         }
 
--- a turn in which no packet moves
+-- an action in which no packet moves
 stays : (b : Build) (s w : State) (to : ℕ) (e : Change) (rest : List (Option Packet)) → length rest ≡ suc b.plan.last → inside rest ≤ length s.frames →
-    w.places ≡ struck_below to b s.tables e 0 rest → w.frames ≡ s.frames → w.answers ≡ s.answers → w.part ≡ s.part → Worked b s w []
+    w.places ≡ marked_below to b s.tables e 0 rest → w.frames ≡ s.frames → w.answers ≡ s.answers → w.part ≡ s.part → Worked b s w []
 stays b s w to e rest h l places frames answers part = record {
-  places = ap length places ∙ struck_length to b s.tables e 0 rest ∙ h;
-  packets = omega (arith, ap inside places, struck_inside to b s.tables e 0 rest, l, ap length frames);
+  places = ap length places ∙ marked_by_length to b s.tables e 0 rest ∙ h;
+  packets = omega (arith, ap inside places, marked_by_inside to b s.tables e 0 rest, l, ap length frames);
   one = omega arith;
   frames = frames;
   answers = answers ∙ sym (append_none s.answers);
   part = part;
 }
 
-turned : (b : Build) (s : State) (back : Bool) (rest : List (Option Packet)) (u : Turn) → length rest ≡ suc b.plan.last → inside rest ≤ length s.frames →
+acted : (b : Build) (s : State) (back : Bool) (rest : List (Option Packet)) (u : Action) → length rest ≡ suc b.plan.last → inside rest ≤ length s.frames →
     Worked b s (worked b s back rest u) (left_as u (place_at rest b.plan.last))
-turned b s back rest (Commits j x) h l =
+acted b s back rest (Commits j x) h l =
     subst (Worked b s (worked b s back rest (Commits j x))) (nothing (place_at rest b.plan.last))
     (stays b s (worked b s back rest (Commits j x)) b.plan.commit (change_by b.program s.tables s.taken x.held j) rest h l refl refl refl refl)
   where
     nothing : (y : Option Packet) → [] ≡ left_as (Commits j x) y
     nothing None = refl
     nothing (Some y) = refl
-turned b s back rest (Writes a n) h l =
+acted b s back rest (Writes a n) h l =
     subst (Worked b s (worked b s back rest (Writes a n))) (nothing (place_at rest b.plan.last))
     (stays b s (worked b s back rest (Writes a n)) (suc b.plan.commit) (host_change s.tables a) rest h l refl refl refl refl)
   where
     nothing : (y : Option Packet) → [] ≡ left_as (Writes a n) y
     nothing None = refl
     nothing (Some y) = refl
-turned b s back rest Moves h l = moves b s back rest h l
+acted b s back rest Moves h l = moves b s back rest h l
 
 pub work_keeps : (b : Build) (i : Input) (s : State) → length s.places ≡ suc b.plan.last → inside s.places ≤ length s.frames → Worked b s (work b i s) (left_in b i s)
 unfolding work
 work_keeps b i s h l =
-    let rest = swept b 0 s.places in
-    turned b s (some_send b 0 s.places) rest (turn_of b i s rest) (swept_length b 0 s.places ∙ h) (omega (arith, swept_inside b 0 s.places, l))
+    let rest = flushed b 0 s.places in
+    acted b s (some_send b 0 s.places) rest (action_of b i s rest) (flushed_length b 0 s.places ∙ h) (omega (arith, flushed_inside b 0 s.places, l))
 
 -- ---- answers to frames
 
-pub answers_length : (p : ProgramView) (hs : List Held) (cs : List Arrival) → length hs ≤ length cs → length (answers_of p hs cs) ≡ length hs
-answers_length p [] cs h = refl
-answers_length p (x ∷ hs) [] h = absurd (omega arith)
-answers_length p (x ∷ hs) (c ∷ cs) h = ap suc (answers_length p hs cs (omega arith))
-
-pub answers_append : (p : ProgramView) (hs gs : List Held) (cs : List Arrival) → length hs ≤ length cs → answers_of p (hs ++ gs) cs ≡ answers_of p hs cs ++ answers_of p gs (drop (length hs) cs)
+pub answers_append : (p : ProgramView) (hs gs : List StageValues) (cs : List Arrival) → length hs ≤ length cs → answers_of p (hs ++ gs) cs ≡ answers_of p hs cs ++ answers_of p gs (drop (length hs) cs)
 answers_append p [] gs cs h = refl
 answers_append p (x ∷ hs) gs [] h = absurd (omega arith)
 answers_append p (x ∷ hs) gs (c ∷ cs) h = ap (λ l. answer_of p x c ∷ l) (answers_append p hs gs cs (omega arith))
 
-pub answers_more : (p : ProgramView) (hs : List Held) (cs ds : List Arrival) → length hs ≤ length cs → answers_of p hs (cs ++ ds) ≡ answers_of p hs cs
+pub answers_more : (p : ProgramView) (hs : List StageValues) (cs ds : List Arrival) → length hs ≤ length cs → answers_of p hs (cs ++ ds) ≡ answers_of p hs cs
 answers_more p [] cs ds h = refl
 answers_more p (x ∷ hs) [] ds h = absurd (omega arith)
 answers_more p (x ∷ hs) (c ∷ cs) ds h = ap (λ l. answer_of p x c ∷ l) (answers_more p hs cs ds (omega arith))

@@ -14,36 +14,36 @@ use Rattle.pipe_core.specs.Machine.{Packet, Input, Build, place_at, inside, some
 use Rattle.pipe_core.specs.History.{Trace, came_in, left_in, next, run, IsInOrder}
 use Rattle.pipe_core.specs.Computed.{IsAlwaysComputed}
 use Rattle.pipe_core.specs.Sequential.{AreCellRuns}
-use Rattle.pipe_core.specs.Pipeable.{IsSuited}
-use Rattle.pipe_core.specs.Watched.{Watched, views_after, rest_of, turn_in, observed, watch, watch_start}
+use Rattle.pipe_core.specs.Pipeable.{IsPipelinable}
+use Rattle.pipe_core.specs.SeenChanges.{SeenChanges, views_after, rest_of, action_in, observed, watch, watch_start}
 use Rattle.pipe_core.specs.Right.{KeepsRight, IsAlwaysRight}
-use Rattle.pipe_core.specs.InTurn.{left_maps, passed_maps, AreChained, IsSequential, KeepsSequential, RunsInTurn, FinalMaps}
+use Rattle.pipe_core.specs.SequentialOrder.{left_maps, passed_maps, AreChained, IsSequential, KeepsSequential, RunsInTurn, FinalMaps}
 use Rattle.pipe_core.proofs.Order.{beats_keep, keeps_order, begins}
 use Rattle.pipe_core.proofs.Carrying.{work_carries, keeps_computed, computed}
-use Rattle.pipe_core.proofs.Turning.{turn_is}
-use Rattle.pipe_core.proofs.Sequencing.{left_append, runs_append, runs_more, Core, turn_core}
+use Rattle.pipe_core.proofs.Acting.{action_is}
+use Rattle.pipe_core.proofs.Sequencing.{left_append, runs_append, runs_more, Core, action_core}
 
 -- ---- a clock
 
-core_now : (seen : SeesEarlier) (in_turn : CommitsInTurn) (maps_turn : MapsInTurn) (reads_turn : ReadsInTurn) → RowsRise → (b : Build) (maps : MapState) → IsSuited maps.decls b → (i : Input) → i.host ≡ None → (w : Watched) → IsInOrder b w.trace → IsSequential b maps w →
-    Core b (left_maps b.program maps w.trace.left) maps.decls w.trace.state.frames (left_in b i w.trace.state) (views_after b w.trace.state (turn_in b i w.trace.state) w.views) (work b i w.trace.state).places
+core_now : (seen : SeesEarlier) (in_turn : CommitsInTurn) (maps_action : MapsInTurn) (reads_action : ReadsInTurn) → RowsRise → (b : Build) (maps : MapState) → IsPipelinable maps.decls b → (i : Input) → i.host ≡ None → (w : SeenChanges) → IsInOrder b w.trace → IsSequential b maps w →
+    Core b (left_maps b.program maps w.trace.left) maps.decls w.trace.state.frames (left_in b i w.trace.state) (views_after b w.trace.state (action_in b i w.trace.state) w.views) (work b i w.trace.state).places
 unfolding work
-core_now seen in_turn maps_turn reads_turn rise b maps fit i silent w o h =
+core_now seen in_turn maps_action reads_action rise b maps fit i silent w o h =
     let s = w.trace.state in
-    turn_core seen in_turn maps_turn reads_turn b maps fit w h o (some_send b 0 s.places) (turn_in b i s) (turn_is b i silent s (rest_of b s))
+    action_core seen in_turn maps_action reads_action b maps fit w h o (some_send b 0 s.places) (action_in b i s) (action_is b i silent s (rest_of b s))
     (work_carries b rise fit.rows.reads.planned i s o.places o.packets h.computed.places).left
 
 pub keeps_sequential : SeesEarlier → CommitsInTurn → MapsInTurn → ReadsInTurn → RowsRise → KeepsRight → KeepsSequential
 unfolding observed next
-keeps_sequential seen in_turn maps_turn reads_turn rise right b maps fit i silent w o h =
+keeps_sequential seen in_turn maps_action reads_action rise right b maps fit i silent w o h =
     let p = b.program in
     let s = w.trace.state in
     let t = w.trace in
     let gone = left_in b i s in
     let more = came_in s i (beat_over b s i) in
-    let core = core_now seen in_turn maps_turn reads_turn rise b maps fit i silent w o h in
+    let core = core_now seen in_turn maps_action reads_action rise b maps fit i silent w o h in
     let beats = beats_keep b i t o in
-    let views = views_after b s (turn_in b i s) w.views in
+    let views = views_after b s (action_in b i s) w.views in
     let all : left_maps p maps (t.left ++ gone) ≡ left_maps p (left_maps p maps t.left) gone = left_append p maps t.left gone in
     record {
       right = right b maps.decls fit i silent w o h.right;
@@ -78,7 +78,7 @@ no_passed p maps n zero = by n
 no_passed p maps zero (suc m) = no_passed p maps zero m
 no_passed p maps (suc n) (suc m) = no_passed p maps n m
 
-pub begins_sequential : IsAlwaysRight → IsAlwaysComputed → LoadsTables → TablesStand → (b : Build) (maps : MapState) → IsSuited maps.decls b → IsSound maps → IsSequential b maps (watch_start b maps)
+pub begins_sequential : IsAlwaysRight → IsAlwaysComputed → LoadsTables → TablesStand → (b : Build) (maps : MapState) → IsPipelinable maps.decls b → IsSound maps → IsSequential b maps (watch_start b maps)
 begins_sequential right computed loads stand b maps fit sound = record {
   right = right b maps fit sound [] tt;
   computed = computed b fit.rows.reads.planned maps [];
@@ -89,18 +89,18 @@ begins_sequential right computed loads stand b maps fit sound = record {
   now = stand maps sound ∙ sym (no_passed b.program maps (suc b.plan.commit) (suc b.plan.last));
 }
 
-all_sequential : KeepsSequential → (b : Build) (maps : MapState) → IsSuited maps.decls b → (is : List Input) → AllByRecursion (λ i. i.host ≡ None) is → (w : Watched) → IsInOrder b w.trace → IsSequential b maps w → IsSequential b maps (watch b is w)
+all_sequential : KeepsSequential → (b : Build) (maps : MapState) → IsPipelinable maps.decls b → (is : List Input) → AllByRecursion (λ i. i.host ≡ None) is → (w : SeenChanges) → IsInOrder b w.trace → IsSequential b maps w → IsSequential b maps (watch b is w)
 unfolding observed
 all_sequential keeps b maps fit [] silent w o h = h
 all_sequential keeps b maps fit (i ∷ is) silent w o h = all_sequential keeps b maps fit is silent.1 (observed b i w) (keeps_order b i w.trace o) (keeps b maps fit i silent.0 w o h)
 
-pub watch_runs : (b : Build) (is : List Input) (w : Watched) → (watch b is w).trace ≡ run b is w.trace
+pub watch_runs : (b : Build) (is : List Input) (w : SeenChanges) → (watch b is w).trace ≡ run b is w.trace
 unfolding observed
 watch_runs b [] w = refl
 watch_runs b (i ∷ is) w = watch_runs b is (observed b i w)
 
 module _ (keeps : KeepsSequential) (right : IsAlwaysRight) (computed : IsAlwaysComputed) (loads : LoadsTables) (stand : TablesStand) where
-  pub sequential : (b : Build) (maps : MapState) → IsSuited maps.decls b → IsSound maps → (is : List Input) → AllByRecursion (λ i. i.host ≡ None) is → IsSequential b maps (watch b is (watch_start b maps))
+  pub sequential : (b : Build) (maps : MapState) → IsPipelinable maps.decls b → IsSound maps → (is : List Input) → AllByRecursion (λ i. i.host ≡ None) is → IsSequential b maps (watch b is (watch_start b maps))
   sequential b maps fit sound is silent = all_sequential keeps b maps fit is silent (watch_start b maps) (begins b maps) (begins_sequential right computed loads stand b maps fit sound)
 
   pub runs_in_turn : RunsInTurn
@@ -119,7 +119,7 @@ module _ (keeps : KeepsSequential) (right : IsAlwaysRight) (computed : IsAlwaysC
   nobody_at zero (None ∷ xs) x e q = cc
   nobody_at (suc n) (None ∷ xs) x e q = nobody_at n xs x e q
 
-  empty_maps : (b : Build) (maps : MapState) (w : Watched) → IsSequential b maps w → inside w.trace.state.places ≡ 0 → maps_of w.trace.state.tables ≡ left_maps b.program maps w.trace.left
+  empty_maps : (b : Build) (maps : MapState) (w : SeenChanges) → IsSequential b maps w → inside w.trace.state.places ≡ 0 → maps_of w.trace.state.tables ≡ left_maps b.program maps w.trace.left
   empty_maps b maps w h none = ap maps_of (sym (h.right.agreed.begun still)) ∙ h.now ∙ nobody_passed b.program (left_maps b.program maps w.trace.left) (suc b.plan.commit) w.trace.state.places none
     where
       still : w.trace.state.done ≡ 0

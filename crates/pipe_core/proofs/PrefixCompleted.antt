@@ -11,22 +11,23 @@ use Rattle.hazard_core.specs.cell_core.Rows.{RowsRise}
 use Rattle.hazard_core.specs.Tables.{TableState}
 use Rattle.hazard_core.specs.declared.pointer.Pointer.{Pointer}
 use Rattle.hazard_core.specs.declared.pointer.Pointer.TheVariants.{Null}
-use Rattle.hazard_core.specs.Held.{Held, held_value, pointer_in, with_cell, guard_on}
+use Rattle.hazard_core.specs.StageValues.{StageValues, stage_value, pointer_in, with_cell, guard_on}
 use Rattle.hazard_core.specs.Rows.{cell_number, cell_pointer}
 use Rattle.hazard_core.specs.Keeping.{SameCell, ReadsKeep}
+use Rattle.hazard_core.proofs.HeldLaws.{same_trans}
 use Rattle.pipe_core.specs.Machine.{Build}
 use Rattle.pipe_core.specs.Agreement.{IsMade}
-use Rattle.pipe_core.specs.Pipeable.{IsSuited}
-use Rattle.pipe_core.proofs.Agreeing.{set_same, same_trans}
+use Rattle.pipe_core.specs.Pipeable.{IsPipelinable}
+use Rattle.pipe_core.proofs.Agreeing.{set_same}
 use Rattle.pipe_core.proofs.PrefixMade.{made_before}
 
 -- whether a cell of this site, if it is a read, is one off the path
-abbrev pub is_off : Build → Held → Option ℕ → Bool
+abbrev pub is_off : Build → StageValues → Option ℕ → Bool
 is_off b h None = false
 is_off b h (Some j) = not (guard_on h (site_at b.program.sites j))
 
 -- cell k of the completed packet; a read off the path stays what it is in the rows below r
-completed_at : Build → TableState → PacketIn → ℕ → Held → ℕ → Held
+completed_at : Build → TableState → PacketIn → ℕ → StageValues → ℕ → StageValues
 completed_at b t packet r h k =
     let c = cell_at b.program.cells k in
     if is_off b h (site_in c.op)
@@ -34,29 +35,29 @@ completed_at b t packet r h k =
     else with_cell h k (bits_from (cell_number b.program b.plan.row (b.plan.row k) t packet h c c.op) c.from c.width) (cell_pointer b.program b.plan.row (b.plan.row k) t h c c.op)
 
 -- the cells below n completed
-pub completed : Build → TableState → PacketIn → ℕ → Held → ℕ → Held
+pub completed : Build → TableState → PacketIn → ℕ → StageValues → ℕ → StageValues
 completed b t packet r h zero = h
 completed b t packet r h (suc n) = completed_at b t packet r (completed b t packet r h n) n
 
-same_sym : (h g : Held) (c : ℕ) → SameCell h g c → SameCell g h c
+same_sym : (h g : StageValues) (c : ℕ) → SameCell h g c → SameCell g h c
 same_sym h g c s = record { value = sym s.value; pointer = sym s.pointer }
 
 -- ---- one cell
 
-record MadeFrom (b : Build) (t : TableState) (packet : PacketIn) (h g : Held) (k : ℕ) : Type 0 where
-  value : held_value g k
+record MadeFrom (b : Build) (t : TableState) (packet : PacketIn) (h g : StageValues) (k : ℕ) : Type 0 where
+  value : stage_value g k
       ≡ bits_from (cell_number b.program b.plan.row (b.plan.row k) t packet h (cell_at b.program.cells k) (cell_at b.program.cells k).op) (cell_at b.program.cells k).from (cell_at b.program.cells k).width
   pointer : pointer_in g k ≡ cell_pointer b.program b.plan.row (b.plan.row k) t h (cell_at b.program.cells k) (cell_at b.program.cells k).op
 
-record Step (b : Build) (t : TableState) (packet : PacketIn) (r k : ℕ) (h g : Held) : Type 0 where
+record Step (b : Build) (t : TableState) (packet : PacketIn) (r k : ℕ) (h g : StageValues) : Type 0 where
   values : length g.values ≡ length h.values
   pointers : length g.pointers ≡ length h.pointers
   others : (c : ℕ) → c ≢ k → SameCell h g c
   made : is_off b h (site_in (cell_at b.program.cells k).op) ≡ false → k < length h.values → k < length h.pointers → MadeFrom b t packet h g k
   kept : is_off b h (site_in (cell_at b.program.cells k).op) ≡ true → b.plan.row k < r → SameCell h g k
-  none : is_off b h (site_in (cell_at b.program.cells k).op) ≡ true → r ≤ b.plan.row k → k < length h.values → held_value g k ≡ 0
+  none : is_off b h (site_in (cell_at b.program.cells k).op) ≡ true → r ≤ b.plan.row k → k < length h.values → stage_value g k ≡ 0
 
-step : (b : Build) (t : TableState) (packet : PacketIn) (r k : ℕ) (h : Held) → Step b t packet r k h (completed_at b t packet r h k)
+step : (b : Build) (t : TableState) (packet : PacketIn) (r k : ℕ) (h : StageValues) → Step b t packet r k h (completed_at b t packet r h k)
 unfolding completed_at
 step b t packet r k h = by (is_off b h (site_in (cell_at b.program.cells k).op)) refl (nat_lt (b.plan.row k) r) refl
   where
@@ -103,15 +104,15 @@ step b t packet r k h = by (is_off b h (site_in (cell_at b.program.cells k).op))
 -- ---- all cells
 
 -- what a packet held at first, and what it holds with all cells completed
-pub record IsCompleted (b : Build) (t : TableState) (packet : PacketIn) (r : ℕ) (h g : Held) : Type 0 where
+pub record IsCompleted (b : Build) (t : TableState) (packet : PacketIn) (r : ℕ) (h g : StageValues) : Type 0 where
   pub values : length g.values ≡ length b.program.cells
   pub past : (c : ℕ) → length b.program.cells ≤ c → SameCell h g c
   pub made : (c : ℕ) → c < length b.program.cells → is_off b g (site_in (cell_at b.program.cells c).op) ≡ false → IsMade b t packet g c
   pub kept : (c : ℕ) → c < length b.program.cells → is_off b g (site_in (cell_at b.program.cells c).op) ≡ true → b.plan.row c < r → SameCell h g c
-  pub none : (c : ℕ) → c < length b.program.cells → is_off b g (site_in (cell_at b.program.cells c).op) ≡ true → r ≤ b.plan.row c → held_value g c ≡ 0
+  pub none : (c : ℕ) → c < length b.program.cells → is_off b g (site_in (cell_at b.program.cells c).op) ≡ true → r ≤ b.plan.row c → stage_value g c ≡ 0
 
-module _ (keep : ReadsKeep) (rise : RowsRise) (decls : List MapDecl) (b : Build) (fit : IsSuited decls b) (t : TableState) (packet : PacketIn) (r : ℕ) (h : Held) (values : length h.values ≡ length b.program.cells) (pointers : length h.pointers ≡ length b.program.cells) where
-  abbrev to : ℕ → Held
+module _ (keep : ReadsKeep) (rise : RowsRise) (decls : List MapDecl) (b : Build) (fit : IsPipelinable decls b) (t : TableState) (packet : PacketIn) (r : ℕ) (h : StageValues) (values : length h.values ≡ length b.program.cells) (pointers : length h.pointers ≡ length b.program.cells) where
+  abbrev to : ℕ → StageValues
   to n = completed b t packet r h n
 
   step_at : (n : ℕ) → Step b t packet r n (to n) (to (suc n))

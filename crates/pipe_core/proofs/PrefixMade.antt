@@ -16,16 +16,16 @@ use Rattle.hazard_core.specs.cell_core.Cells.{CellView, cell_at, no_cell, site_i
 use Rattle.hazard_core.specs.cell_core.Sites.{ProgramView, site_at, records}
 use Rattle.hazard_core.specs.cell_core.Rows.{RowsRise, numbers, taken_by}
 use Rattle.hazard_core.specs.Tables.{TableState}
-use Rattle.hazard_core.specs.Held.{Held, is_null, is_found_of, is_answer_of, found_cell, answer_cell, read_cells, parts, is_pending, pending}
+use Rattle.hazard_core.specs.StageValues.{StageValues, is_null, is_found_of, is_answer_of, found_cell, answer_cell, read_cells, parts, is_pending, pending}
 use Rattle.hazard_core.specs.Overlay.{found_pointer, answer_over}
 use Rattle.hazard_core.specs.Rows.{cell_number, cell_pointer}
 use Rattle.hazard_core.specs.Keeping.{SameCell, AreAlike, looked_operands, LooksBelow, ReadsKeep}
+use Rattle.hazard_core.proofs.HeldLaws.{answer_is, found_is}
 use Rattle.pipe_core.specs.Machine.{Build}
-use Rattle.pipe_core.specs.Pipeable.{IsSuited}
+use Rattle.pipe_core.specs.Pipeable.{IsPipelinable}
 use Rattle.pipe_core.proofs.Agreeing.{MadeSame, made_same}
-use Rattle.pipe_core.proofs.Striking.{found_is, answer_is}
 
--- the rows of the cells before c; what stands behind is moved up to row r, where a read of that row does not look
+-- the rows of the cells before c; what stands after is moved up to row r, where a read of that row does not look
 abbrev pub rows_before : (ℕ → ℕ) → ℕ → ℕ → ℕ → ℕ
 rows_before row r c d = if nat_lt d c then row d else r
 
@@ -64,7 +64,7 @@ filter_below f g from (suc n) same =
     ap (λ (b : Bool). cond b (from ∷ filter f (numbers (suc from) n)) (filter f (numbers (suc from) n))) (same from (omega arith))
     ∙ ap (λ (xs : List ℕ). cond (g from) (from ∷ xs) xs) (filter_below f g (suc from) n (λ i l. same i (omega (arith, l))))
 
-module _ (decls : List MapDecl) (b : Build) (fit : IsSuited decls b) (c j : ℕ) (l : c < length b.program.cells) (e : site_in (cell_at b.program.cells c).op ≡ Some j) where
+module _ (decls : List MapDecl) (b : Build) (fit : IsPipelinable decls b) (c j : ℕ) (l : c < length b.program.cells) (e : site_in (cell_at b.program.cells c).op ≡ Some j) where
   -- a cell of a read of an earlier site stands before
   read_before : (i d : ℕ) → i < j → nat_lt d (length b.program.cells) ≡ true → site_in (cell_at b.program.cells d).op ≡ Some i → d < c
   read_before i d m kept s = let n : d < length b.program.cells = grind (arith, nat_tests) in fit.ordered c d i j l n s e m
@@ -124,18 +124,18 @@ module _ (decls : List MapDecl) (b : Build) (fit : IsSuited decls b) (c j : ℕ)
 -- ---- a cell
 
 -- rows under which the same is pending
-record RowsSame (p : ProgramView) (up row : ℕ → ℕ) (r : ℕ) (t : TableState) (packet : PacketIn) (h : Held) (c : CellView) (op : Operator) : Type 0 where
+record RowsSame (p : ProgramView) (up row : ℕ → ℕ) (r : ℕ) (t : TableState) (packet : PacketIn) (h : StageValues) (c : CellView) (op : Operator) : Type 0 where
   number : cell_number p up r t packet h c op ≡ cell_number p row r t packet h c op
   pointer : cell_pointer p up r t h c op ≡ cell_pointer p row r t h c op
 
-rows_same : (p : ProgramView) (up row : ℕ → ℕ) (r : ℕ) (t : TableState) (packet : PacketIn) (h : Held) (c : CellView) (op : Operator) → ((j : ℕ) → site_in op ≡ Some j → pending p up r j ≡ pending p row r j) → RowsSame p up row r t packet h c op
+rows_same : (p : ProgramView) (up row : ℕ → ℕ) (r : ℕ) (t : TableState) (packet : PacketIn) (h : StageValues) (c : CellView) (op : Operator) → ((j : ℕ) → site_in op ≡ Some j → pending p up r j ≡ pending p row r j) → RowsSame p up row r t packet h c op
 rows_same p up row r t packet h c (Found j) same =
     let q = ap (λ (before : List ℕ). found_pointer p t h before j) (same j refl) in
     record { number = ap (λ u. bit (not (is_null u))) q; pointer = q }
 rows_same p up row r t packet h c (Answer j) same = record { number = ap (λ (before : List ℕ). answer_over p t h before j) (same j refl); pointer = refl }
 rows_same p up row r t packet h c op same = record { number = refl; pointer = refl }
 
-pub made_before : (keep : ReadsKeep) (rise : RowsRise) (decls : List MapDecl) (b : Build) → IsSuited decls b → (t : TableState) (packet : PacketIn) (h g : Held) (c : ℕ) → c < length b.program.cells →
+pub made_before : (keep : ReadsKeep) (rise : RowsRise) (decls : List MapDecl) (b : Build) → IsPipelinable decls b → (t : TableState) (packet : PacketIn) (h g : StageValues) (c : ℕ) → c < length b.program.cells →
     ((d : ℕ) → d < c → b.plan.row d ≤ b.plan.row c → SameCell h g d) → ((d : ℕ) → length b.program.cells ≤ d → SameCell h g d) → MadeSame b (b.plan.row c) t packet h g (cell_at b.program.cells c) (cell_at b.program.cells c).op
 made_before keep rise decls b fit t packet h g c l same past =
     let plan = fit.rows.reads.planned in

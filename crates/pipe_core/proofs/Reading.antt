@@ -1,8 +1,8 @@
 -- Where a site reads, and what a run reads there.
 use Rattle.std.proofs.Common.{◌≡◌, ℕ, zero, suc, ◌+◌, ◌<◌, ◌≤◌, ◌⊎◌, inl, inr, Bool, true, false, List, [], ◌∷◌, Some, length, take, refl, sym, ap, subst, arith, cond}
 use Rattle.std.specs.Prelude.{if◌then◌else◌, nat_lt, nat_le, ◌||◌, filter, Contains}
-use Rattle.std.specs.List.{AllByRecursion, list_any, list_all}
-use Rattle.std.proofs.lemmas.Bool.{cases_lt, and_parts}
+use Rattle.std.specs.List.{AllByRecursion, list_any}
+use Rattle.std.proofs.lemmas.Bool.{cases_lt}
 use Rattle.std.proofs.lemmas.Bool.Decides.{nat_tests}
 use Rattle.std.proofs.lemmas.List.Elements.{Contains-append_left, Contains-append_right}
 use Rattle.std.proofs.lemmas.List.Sums.{passes_at_first}
@@ -12,10 +12,10 @@ use Rattle.hazard_core.specs.xdp_machine.Touched.{Touched, nothing, touched_by}
 use Rattle.hazard_core.specs.cell_core.Cells.{cell_at, no_cell, site_in, on}
 use Rattle.hazard_core.specs.cell_core.Rows.{numbers}
 use Rattle.hazard_core.specs.cell_core.Sites.{SiteView, site_at, operation_on, applied, after, touched}
-use Rattle.hazard_core.specs.Held.{is_found_of, is_answer_of, found_cell, answer_cell, read_cells}
+use Rattle.hazard_core.specs.StageValues.{is_found_of, is_answer_of, found_cell, answer_cell, read_cells}
 use Rattle.hazard_core.specs.Marks.{has_read}
+use Rattle.hazard_core.proofs.HeldLaws.{answer_is, found_is}
 use Rattle.pipe_core.specs.Machine.{Build}
-use Rattle.pipe_core.proofs.Striking.{found_is, answer_is}
 
 -- ---- what passes a test
 
@@ -54,14 +54,6 @@ each_kept test P (x ∷ xs) all = by (test x) refl (each_kept test P xs all.1)
     by : (c : Bool) → test x ≡ c → AllByRecursion P (filter test xs) → AllByRecursion P (cond c (x ∷ filter test xs) (filter test xs))
     by true e more = (all.0 e, more)
     by false e more = more
-
-pub all_lower : (row : ℕ → ℕ) (r : ℕ) (cs : List ℕ) → list_all (λ c. nat_lt (row c) r) cs ≡ true → AllByRecursion (λ c. row c < r) cs
-all_lower row r [] e = tt
-all_lower row r (c ∷ cs) e =
-    let q = and_parts (nat_lt (row c) r) (list_all (λ c. nat_lt (row c) r) cs) e in
-    let a = q.0 in
-    let l : row c < r = grind (arith, nat_tests) in
-    (l, all_lower row r cs q.1)
 
 pub numbered_in : (from n : ℕ) → AllByRecursion (λ j. j < from + n) (numbers from n)
 numbered_in from zero = tt

@@ -1,7 +1,7 @@
 -- Who is sent back in a clock.
 use Rattle.std.proofs.Common.{◌≡◌, ℕ, zero, suc, ◌+◌, ◌<◌, ◌≤◌, Bool, true, false, List, [], ◌∷◌, Option, Some, None, length, refl, ap, subst, arith, not}
 use Rattle.std.specs.Prelude.{if◌then◌else◌, nat_lt, ◌&&◌, ◌||◌}
-use Rattle.pipe_core.specs.Machine.{Packet, Build, place_at, inside, sends, some_send, swept, injected}
+use Rattle.pipe_core.specs.Machine.{Packet, Build, place_at, inside, sends, some_send, flushed, injected}
 use Rattle.pipe_core.specs.Sending.{SentBack, AlwaysSendsBack}
 
 -- places of which the first is number j
@@ -51,12 +51,12 @@ sooner b j x xs k s = by s.at refl
         let q : sends b (j + suc n) (place_at (x ∷ xs) (suc n)) ≡ true = subst (λ n. sends b (j + n) (place_at (x ∷ xs) n) ≡ true) e s.sends_back in
         record { at = n; further = omega (arith, s.further, e); within = omega (arith, s.within, e); sends_back = subst (λ m. sends b m (place_at xs n) ≡ true) (omega arith) q }
 
-sent_from : (b : Build) (j : ℕ) (xs : List (Option Packet)) (k : ℕ) → k < length xs → Sender b j xs k → place_at (swept b j xs) k ≡ None
+sent_from : (b : Build) (j : ℕ) (xs : List (Option Packet)) (k : ℕ) → k < length xs → Sender b j xs k → place_at (flushed b j xs) k ≡ None
 sent_from b j [] k l s = absurd (omega arith)
 sent_from b j (x ∷ xs) zero l s = ap (λ (c : Bool). if c then None else x) (some_at b j (x ∷ xs) s)
 sent_from b j (x ∷ xs) (suc k) l s = sent_from b (suc j) xs k (omega arith) (sooner b j x xs k s)
 
-kept_from : (b : Build) (j : ℕ) (xs : List (Option Packet)) (k : ℕ) → k < length xs → (Sender b j xs k → ⊥) → place_at (swept b j xs) k ≡ place_at xs k
+kept_from : (b : Build) (j : ℕ) (xs : List (Option Packet)) (k : ℕ) → k < length xs → (Sender b j xs k → ⊥) → place_at (flushed b j xs) k ≡ place_at xs k
 kept_from b j [] k l s = absurd (omega arith)
 kept_from b j (x ∷ xs) zero l s = by (some_send b j (x ∷ xs)) refl
   where

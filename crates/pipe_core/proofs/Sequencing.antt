@@ -11,46 +11,47 @@ use Rattle.hazard_core.specs.cell_core.Formed.{AllFit}
 use Rattle.hazard_core.specs.cell_core.Sites.{ProgramView, IsCellRun, after}
 use Rattle.hazard_core.specs.Tables.{TableState, maps_of}
 use Rattle.hazard_core.specs.Tabled.{AreTables}
-use Rattle.hazard_core.specs.Held.{Held, held_value, writes}
+use Rattle.hazard_core.specs.StageValues.{StageValues, stage_value, writes}
 use Rattle.hazard_core.specs.declared.change.Change.{Change}
 use Rattle.hazard_core.specs.Commits.{committed, change_by}
 use Rattle.hazard_core.specs.Replay.{Replayed, replayed, CommitsInTurn, MapsInTurn, ReadsInTurn, SeesEarlier}
 use Rattle.realization.specs.beat_core.Ports.{Arrival}
-use Rattle.pipe_core.specs.Machine.{Packet, State, Build, Turn, Commits, Writes, Moves, packet_of, place_at, struck_below, moved, newcomer, worked}
+use Rattle.pipe_core.specs.Machine.{Packet, State, Build, Action, Commits, Writes, Moves, packet_of, place_at, marked_below, moved, newcomer, worked}
 use Rattle.pipe_core.specs.History.{left_as, IsInOrder}
 use Rattle.pipe_core.specs.Computed.{Computes, LeftCompute}
 use Rattle.pipe_core.specs.Sequential.{AreCellRuns}
 use Rattle.pipe_core.specs.Agreement.{excused_as}
-use Rattle.pipe_core.specs.Pipeable.{IsSuited}
-use Rattle.pipe_core.specs.Watched.{Watched, views_below, views_on, views_after, rest_of}
-use Rattle.pipe_core.specs.InTurn.{left_maps, passed_maps, AreChained, IsSequential}
-use Rattle.pipe_core.proofs.Order.{last_or, place_last, swept_length}
+use Rattle.pipe_core.specs.Pipeable.{IsPipelinable}
+use Rattle.pipe_core.specs.SeenChanges.{SeenChanges, views_below, views_on, views_after, rest_of}
+use Rattle.pipe_core.specs.SequentialOrder.{left_maps, passed_maps, AreChained, IsSequential}
+use Rattle.pipe_core.proofs.Order.{last_or, place_last}
 use Rattle.pipe_core.proofs.Agreed.{Known, all_known, unmarked, path_made}
 use Rattle.pipe_core.proofs.Placing.{Settled, settled, placed_at}
-use Rattle.pipe_core.proofs.Turning.{TurnIs}
-use Rattle.pipe_core.proofs.Righting.{stayed, keeps_place, skips, reads_there, moved_view, kept_view}
-use Rattle.pipe_core.proofs.Passing.{exit_maps, passed_moved, ReadyMaps, chained_moved, chained_same, drop_moved, drop_struck, drop_swept}
+use Rattle.pipe_core.proofs.Acting.{ActionIs}
+use Rattle.pipe_core.proofs.Righting.{keeps_place, skips, reads_there, moved_view, kept_view}
+use Rattle.pipe_core.proofs.Passing.{exit_maps, passed_moved, ReadyMaps, chained_moved, chained_same, drop_moved, drop_marked_by, drop_flushed}
 use Rattle.pipe_core.proofs.Exiting.{cell_run}
+use Rattle.pipe_core.proofs.FlushLaws.{flushed_at, flushed_length}
 
 -- ---- lists of runs
 
-pub left_append : (p : ProgramView) (maps : MapState) (hs gs : List Held) → left_maps p maps (hs ++ gs) ≡ left_maps p (left_maps p maps hs) gs
+pub left_append : (p : ProgramView) (maps : MapState) (hs gs : List StageValues) → left_maps p maps (hs ++ gs) ≡ left_maps p (left_maps p maps hs) gs
 left_append p maps [] gs = refl
-left_append p maps (h ∷ hs) gs = left_append p (after (held_value h) maps p.sites) hs gs
+left_append p maps (h ∷ hs) gs = left_append p (after (stage_value h) maps p.sites) hs gs
 
-pub runs_append : (p : ProgramView) (maps last : MapState) (hs gs : List Held) (cs : List Arrival) → AreCellRuns p maps hs cs (left_maps p maps hs) → AreCellRuns p (left_maps p maps hs) gs (drop (length hs) cs) last → AreCellRuns p maps (hs ++ gs) cs last
+pub runs_append : (p : ProgramView) (maps last : MapState) (hs gs : List StageValues) (cs : List Arrival) → AreCellRuns p maps hs cs (left_maps p maps hs) → AreCellRuns p (left_maps p maps hs) gs (drop (length hs) cs) last → AreCellRuns p maps (hs ++ gs) cs last
 runs_append p maps last [] gs cs h k = k
 runs_append p maps last (x ∷ hs) gs [] h k = absurd h
-runs_append p maps last (x ∷ hs) gs (c ∷ cs) h k = (h.0, runs_append p (after (held_value x) maps p.sites) last hs gs cs h.1 k)
+runs_append p maps last (x ∷ hs) gs (c ∷ cs) h k = (h.0, runs_append p (after (stage_value x) maps p.sites) last hs gs cs h.1 k)
 
-pub runs_more : (p : ProgramView) (maps last : MapState) (hs : List Held) (cs ds : List Arrival) → AreCellRuns p maps hs cs last → AreCellRuns p maps hs (cs ++ ds) last
+pub runs_more : (p : ProgramView) (maps last : MapState) (hs : List StageValues) (cs ds : List Arrival) → AreCellRuns p maps hs cs last → AreCellRuns p maps hs (cs ++ ds) last
 runs_more p maps last [] cs ds h = h
 runs_more p maps last (x ∷ hs) [] ds h = absurd h
-runs_more p maps last (x ∷ hs) (c ∷ cs) ds h = (h.0, runs_more p (after (held_value x) maps p.sites) last hs cs ds h.1)
+runs_more p maps last (x ∷ hs) (c ∷ cs) ds h = (h.0, runs_more p (after (stage_value x) maps p.sites) last hs cs ds h.1)
 
--- ---- what a turn does
+-- ---- what an action does
 
-pub record Core (b : Build) (maps : MapState) (decls : List MapDecl) (frames : List Arrival) (gone : List Held) (views : ℕ → TableState) (places : List (Option Packet)) : Type 0 where
+pub record Core (b : Build) (maps : MapState) (decls : List MapDecl) (frames : List Arrival) (gone : List StageValues) (views : ℕ → TableState) (places : List (Option Packet)) : Type 0 where
   pub runs : AreCellRuns b.program maps gone frames (left_maps b.program maps gone)
   pub chained : AreChained b.program (left_maps b.program maps gone) views (suc b.plan.commit) (drop (suc b.plan.commit) places)
   pub now : maps_of (views b.plan.commit) ≡ passed_maps b.program (left_maps b.program maps gone) (drop (suc b.plan.commit) places)
@@ -58,7 +59,7 @@ pub record Core (b : Build) (maps : MapState) (decls : List MapDecl) (frames : L
   pub view_tables : (k : ℕ) → b.plan.commit ≤ k → AreTables (views k)
 
 past_places : (b : Build) (s : State) → drop (suc b.plan.commit) (rest_of b s) ≡ drop (suc b.plan.commit) s.places
-past_places b s = drop_swept b 0 (suc b.plan.commit) s.places (omega arith)
+past_places b s = drop_flushed b 0 (suc b.plan.commit) s.places (omega arith)
 
 below_same : (commit : ℕ) (t : TableState) (views : ℕ → TableState) (k : ℕ) → commit ≤ k → views_below commit t views k ≡ views k
 below_same commit t views k l = by (nat_lt k commit) refl
@@ -70,11 +71,11 @@ below_same commit t views k l = by (nat_lt k commit) refl
 on_same : (commit : ℕ) (t : TableState) (views : ℕ → TableState) (k : ℕ) → commit ≤ k → views_on commit t views (suc k) ≡ views k
 on_same commit t views k l = below_same commit t views k l
 
-commit_core : (b : Build) (maps : MapState) (w : Watched) (t : TableState) (e : Change) → IsSequential b maps w → Core b (left_maps b.program maps w.trace.left) maps.decls w.trace.state.frames [] (views_below b.plan.commit t w.views) (struck_below b.plan.commit b w.trace.state.tables e 0 (rest_of b w.trace.state))
+commit_core : (b : Build) (maps : MapState) (w : SeenChanges) (t : TableState) (e : Change) → IsSequential b maps w → Core b (left_maps b.program maps w.trace.left) maps.decls w.trace.state.frames [] (views_below b.plan.commit t w.views) (marked_below b.plan.commit b w.trace.state.tables e 0 (rest_of b w.trace.state))
 commit_core b maps w t e h =
     let s = w.trace.state in
-    let places : drop (suc b.plan.commit) (struck_below b.plan.commit b s.tables e 0 (rest_of b s)) ≡ drop (suc b.plan.commit) s.places =
-    drop_struck b.plan.commit b s.tables e 0 (suc b.plan.commit) (rest_of b s) (omega arith) ∙ past_places b s in
+    let places : drop (suc b.plan.commit) (marked_below b.plan.commit b s.tables e 0 (rest_of b s)) ≡ drop (suc b.plan.commit) s.places =
+    drop_marked_by b.plan.commit b s.tables e 0 (suc b.plan.commit) (rest_of b s) (omega arith) ∙ past_places b s in
     let m = left_maps b.program maps w.trace.left in
     record {
       runs = refl;
@@ -104,7 +105,7 @@ last_view p maps views k (Some x) [] z r h e = ap (λ n. maps_of (views n)) (ome
 last_view p maps views k x (None ∷ ys) z r h e = ap (λ n. maps_of (views n)) (omega arith) ∙ last_view p maps views (suc k) None ys z tt h e
 last_view p maps views k x (Some y ∷ ys) z r h e = ap (λ n. maps_of (views n)) (omega arith) ∙ last_view p maps views (suc k) (Some y) ys z h.0 h.1 e
 
-module _ (seen : SeesEarlier) (in_turn : CommitsInTurn) (maps_turn : MapsInTurn) (reads_turn : ReadsInTurn) (b : Build) (maps : MapState) (fit : IsSuited maps.decls b) (w : Watched) (h : IsSequential b maps w) (o : IsInOrder b w.trace) where
+module _ (seen : SeesEarlier) (in_turn : CommitsInTurn) (maps_action : MapsInTurn) (reads_action : ReadsInTurn) (b : Build) (maps : MapState) (fit : IsPipelinable maps.decls b) (w : SeenChanges) (h : IsSequential b maps w) (o : IsInOrder b w.trace) where
   abbrev s : State
   s = w.trace.state
 
@@ -121,7 +122,7 @@ module _ (seen : SeesEarlier) (in_turn : CommitsInTurn) (maps_turn : MapsInTurn)
   at_commit = place_at (rest_of b w.trace.state) b.plan.commit
 
   rest_length : length (rest_of b w.trace.state) ≡ suc b.plan.last
-  rest_length = swept_length b 0 s.places ∙ o.places
+  rest_length = flushed_length b 0 s.places ∙ o.places
 
   chained_rest : AreChained b.program base w.views (suc b.plan.commit) past
   chained_rest = subst (AreChained b.program base w.views (suc b.plan.commit)) (sym (past_places b s)) h.chained
@@ -134,7 +135,7 @@ module _ (seen : SeesEarlier) (in_turn : CommitsInTurn) (maps_turn : MapsInTurn)
   ready (Some x) = now_rest
 
   -- the operations of the packet that passes are in the tables
-  passes : TurnIs b w.trace.state (rest_of b w.trace.state) Moves → (x : Option Packet) → place_at (rest_of b w.trace.state) b.plan.commit ≡ x → maps_of w.trace.state.tables ≡ passed_maps b.program base (x ∷ past)
+  passes : ActionIs b w.trace.state (rest_of b w.trace.state) Moves → (x : Option Packet) → place_at (rest_of b w.trace.state) b.plan.commit ≡ x → maps_of w.trace.state.tables ≡ passed_maps b.program base (x ∷ past)
   passes through None e = ap maps_of (sym (h.right.agreed.begun still)) ∙ now_rest
     where
       still : w.trace.state.done ≡ 0
@@ -152,7 +153,7 @@ module _ (seen : SeesEarlier) (in_turn : CommitsInTurn) (maps_turn : MapsInTurn)
   passes through (Some x) e =
       let p = b.program in
       let view = w.views b.plan.commit in
-      let rp = h.right.at.replays x (stayed b 0 s.places b.plan.commit x e) in
+      let rp = h.right.at.replays x (flushed_at b 0 s.places b.plan.commit x e) in
       let at : Replayed = record { tables = view; taken = rp.first } in
       let fits = subst (λ ds. AllFit ds p.sites) (sym h.right.at.view_decls) fit.fits in
       let reads = reads_there seen b maps.decls fit w h.right.at.view_decls h.right.agreed x e in
@@ -163,10 +164,10 @@ module _ (seen : SeesEarlier) (in_turn : CommitsInTurn) (maps_turn : MapsInTurn)
       let done_all = skips b x.held at view.decls s.done n (λ k l. (in_turn p view rp.first x.held h.right.at.view_tables fits rp.long reads k (omega (arith, l, all))).decls)
       (λ i a l. ap (λ ds. writes p ds x.held i) (sym same) ∙ through x e i a (omega (arith, l, all))) in
       ap (λ (q : Replayed). maps_of q.tables) (rp.state ∙ sym done_all ∙ ap (replayed p x.held at) all)
-      ∙ maps_turn p view rp.first x.held h.right.at.view_tables fits rp.long reads (length p.sites) (omega arith)
-      ∙ ap (after (held_value x.held) (maps_of view)) (take_all (length p.sites) p.sites (omega arith)) ∙ ap (λ m. after (held_value x.held) m p.sites) now_rest
+      ∙ maps_action p view rp.first x.held h.right.at.view_tables fits rp.long reads (length p.sites) (omega arith)
+      ∙ ap (after (stage_value x.held) (maps_of view)) (take_all (length p.sites) p.sites (omega arith)) ∙ ap (λ m. after (stage_value x.held) m p.sites) now_rest
 
-  exit_run : (z : Packet) → place_at (rest_of b w.trace.state) b.plan.last ≡ Some z → (packet : PacketIn) → Computes b packet (suc b.plan.last) z.held → IsCellRun packet base b.program (held_value z.held)
+  exit_run : (z : Packet) → place_at (rest_of b w.trace.state) b.plan.last ≡ Some z → (packet : PacketIn) → Computes b packet (suc b.plan.last) z.held → IsCellRun packet base b.program (stage_value z.held)
   exit_run z e packet k =
       let c = fit.rows.commit in
       let q = placed_at (Settled b rest (Known b w)) s.frames 0 b.plan.last rest z (settled b s (Known b w) (all_known b w h.right.agreed)) e in
@@ -177,8 +178,8 @@ module _ (seen : SeesEarlier) (in_turn : CommitsInTurn) (maps_turn : MapsInTurn)
       let at_last : b.plan.commit + length past ≡ b.plan.last = omega (arith, length-drop (suc b.plan.commit) rest, rest_length, c) in
       let maps_are : maps_of t ≡ base = ap (λ n. maps_of (w.views n)) (sym at_last) ∙ last_view b.program base w.views b.plan.commit at_commit past z (ready at_commit) chained_rest (sym last_is ∙ e) in
       let path = path_made b fit.rows t other b.plan.last z c (unmarked b fit.rows w rest b.plan.last q.0 z c m) m.holds.agrees in
-      subst (λ v. IsCellRun packet v b.program (held_value z.held)) maps_are
-      (cell_run seen reads_turn b t other z (subst (λ ds. IsSuited ds b) (sym (h.view_decls b.plan.last c)) fit) (h.view_tables b.plan.last c)
+      subst (λ v. IsCellRun packet v b.program (stage_value z.held)) maps_are
+      (cell_run seen reads_action b t other z (subst (λ ds. IsPipelinable ds b) (sym (h.view_decls b.plan.last c)) fit) (h.view_tables b.plan.last c)
       (λ i l low none. m.holds.agrees.each i l (omega (arith, low, c)) (ap (λ (a : Option ℕ). excused_as b (suc b.plan.last) z a) none)) (λ i l low read. m.holds.agrees.fit i l (omega (arith, low, c)) read) path packet k m.holds.agrees.fit)
 
   exit_runs : (x : Option Packet) → place_at (rest_of b w.trace.state) b.plan.last ≡ x → (fs : List Arrival) → LeftCompute b (left_as Moves x) fs → AreCellRuns b.program base (left_as Moves x) fs (left_maps b.program base (left_as Moves x))
@@ -186,7 +187,7 @@ module _ (seen : SeesEarlier) (in_turn : CommitsInTurn) (maps_turn : MapsInTurn)
   exit_runs (Some z) e [] k = absurd k
   exit_runs (Some z) e (f ∷ fs) k = (exit_run z e (packet_of f) k.0, refl)
 
-  moves_core : (back : Bool) → TurnIs b w.trace.state (rest_of b w.trace.state) Moves → LeftCompute b (left_as Moves (place_at (rest_of b w.trace.state) b.plan.last)) w.trace.state.frames →
+  moves_core : (back : Bool) → ActionIs b w.trace.state (rest_of b w.trace.state) Moves → LeftCompute b (left_as Moves (place_at (rest_of b w.trace.state) b.plan.last)) w.trace.state.frames →
       Core b base maps.decls w.trace.state.frames (left_as Moves (place_at (rest_of b w.trace.state) b.plan.last)) (views_on b.plan.commit w.trace.state.tables w.views) (worked b w.trace.state back (rest_of b w.trace.state) Moves).places
   moves_core back through k =
       let p = b.program in
@@ -218,15 +219,15 @@ module _ (seen : SeesEarlier) (in_turn : CommitsInTurn) (maps_turn : MapsInTurn)
       later P zero l f = absurd (omega (arith, l))
       later P (suc n) l f = subst P (sym (on_same b.plan.commit w.trace.state.tables w.views n (omega (arith, l)))) (f n (omega (arith, l)))
 
-  pub turn_core : (back : Bool) (u : Turn) → TurnIs b w.trace.state (rest_of b w.trace.state) u → LeftCompute b (left_as u (place_at (rest_of b w.trace.state) b.plan.last)) w.trace.state.frames →
+  pub action_core : (back : Bool) (u : Action) → ActionIs b w.trace.state (rest_of b w.trace.state) u → LeftCompute b (left_as u (place_at (rest_of b w.trace.state) b.plan.last)) w.trace.state.frames →
       Core b base maps.decls w.trace.state.frames (left_as u (place_at (rest_of b w.trace.state) b.plan.last)) (views_after b w.trace.state u w.views) (worked b w.trace.state back (rest_of b w.trace.state) u).places
-  turn_core back (Commits j x) is k =
+  action_core back (Commits j x) is k =
       let u = committed b.program s.tables s.taken x.held j in
       let e = change_by b.program s.tables s.taken x.held j in
-      subst (λ gone. Core b base maps.decls s.frames gone (views_below b.plan.commit u w.views) (struck_below b.plan.commit b s.tables e 0 rest)) (nothing (place_at rest b.plan.last)) (commit_core b maps w u e h)
+      subst (λ gone. Core b base maps.decls s.frames gone (views_below b.plan.commit u w.views) (marked_below b.plan.commit b s.tables e 0 rest)) (nothing (place_at rest b.plan.last)) (commit_core b maps w u e h)
     where
       nothing : (y : Option Packet) → [] ≡ left_as (Commits j x) y
       nothing None = refl
       nothing (Some y) = refl
-  turn_core back (Writes a n) is k = absurd is
-  turn_core back Moves is k = moves_core back is k
+  action_core back (Writes a n) is k = absurd is
+  action_core back Moves is k = moves_core back is k

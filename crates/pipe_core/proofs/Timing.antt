@@ -1,38 +1,38 @@
 -- The full drive ends in time: each clock takes a beat in or out, or commits an operation, or is counted, and of these there are not too many.
 use Rattle.std.proofs.Common.{◌≡◌, ℕ, zero, suc, ◌+◌, ◌*◌, ◌<◌, ◌≤◌, ◌⊎◌, inl, inr, Bool, true, false, List, [], ◌∷◌, ◌++◌, Option, Some, None, length, drop, refl, sym, ap, ◌∙◌, subst, arith, cond, length-append, length-drop}
-use Rattle.std.specs.Prelude.{if◌then◌else◌, is_some, map, not}
+use Rattle.std.specs.Prelude.{if◌then◌else◌, is_some, map}
 use Rattle.std.specs.List.{flat_map, AllByRecursion}
 use Rattle.std.proofs.lemmas.Bool.{and_parts, cases_lt}
 use Rattle.std.proofs.lemmas.List.Sums.{sum_by-cons}
 use Rattle.std.proofs.Math.Nat.{mul-le-mul_left}
 use Rattle.realization.specs.beat_core.declared.beat.Beat.{Beat}
 use Rattle.realization.specs.beat_core.Beats.{beats_of}
-use Rattle.realization.specs.beat_core.Filling.{filled_up}
 use Rattle.realization.specs.beat_core.Laws.{IsFrame}
-use Rattle.realization.proofs.beat_core_laws.FillingLaws.{AreOffers-filled_up}
 use Rattle.hazard_core.specs.xdp_maps.declared.decl.MapDecl.{MapDecl}
-use Rattle.hazard_core.specs.xdp_maps.State.{MapState}
 use Rattle.hazard_core.specs.cell_core.Cells.{bit}
 use Rattle.hazard_core.specs.cell_core.Sites.{SiteView, site_at, records}
 use Rattle.hazard_core.specs.cell_core.Rows.{record_count}
 use Rattle.hazard_core.specs.Tables.{decl_of}
 use Rattle.hazard_core.specs.Tabled.{LoadsTables}
-use Rattle.hazard_core.specs.Held.{held_value, guard_on, answer_cell, writes_as}
+use Rattle.hazard_core.specs.StageValues.{stage_value, guard_on, answer_cell, writes_as}
 use Rattle.hazard_core.specs.Commits.{change_by}
 use Rattle.hazard_core.proofs.ActsLaws.{recorded}
-use Rattle.pipe_core.specs.Machine.{Packet, State, Input, Build, Turn, Commits, Writes, Moves, new_state, place_at, inside, some_send, swept, struck_below, moved, newcomer, worked, work, is_ready, beat_over, clock}
+use Rattle.pipe_core.specs.Machine.{Packet, State, Input, Build, Action, Commits, Writes, Moves, new_state, place_at, inside, some_send, flushed, marked_below, moved, newcomer, worked, work, is_ready, beat_over, clock}
 use Rattle.pipe_core.specs.History.{Trace, left_as, left_in, next, run, begin}
-use Rattle.pipe_core.specs.Drive.{Driven, first_of, driving, drive_clock, Beside, drive, drive_start, EndsInTime, ahead, beats_in, EndsLate, EndsLateWithoutMaps}
-use Rattle.pipe_core.specs.Pipeable.{IsSuited}
-use Rattle.pipe_core.specs.Watched.{Watched, rest_of, turn_in, observed, watch, watch_start}
+use Rattle.pipe_core.specs.Drive.{Driven, first_of, driving, drive_clock, Beside, drive, drive_start, EndsInTime, ahead, beats_in, EndsLate}
+use Rattle.pipe_core.specs.Pipeable.{IsPipelinable}
+use Rattle.pipe_core.specs.SeenChanges.{SeenChanges, rest_of, action_in, observed, watch, watch_start}
 use Rattle.pipe_core.specs.Right.{IsRight, KeepsRight}
-use Rattle.pipe_core.proofs.Order.{swept_length, beats_keep}
-use Rattle.pipe_core.proofs.Turning.{TurnIs, turn_is, clock_aside}
+use Rattle.pipe_core.proofs.Order.{beats_keep}
+use Rattle.pipe_core.proofs.Acting.{ActionIs, action_is}
 use Rattle.pipe_core.proofs.Righting.{keeps_place, always_right}
 use Rattle.pipe_core.proofs.Overlapping.{watch_runs}
-use Rattle.pipe_core.proofs.Draining.{EndsWhole, lasts, drives, way_short, no_lasts, no_part, no_frames, no_answers, goes_in, to_give, Driving, all_given, begins_driving}
-use Rattle.pipe_core.proofs.Counting.{begun, past, Bounds, past_swept, past_struck, past_moved, among, commits_bounds, moves_bounds, within, left_within, none_aged, begins_aged}
+use Rattle.pipe_core.proofs.Draining.{lasts, no_lasts, no_part, no_frames, no_answers, goes_in, to_give, Driving, all_given, begins_driving}
+use Rattle.pipe_core.proofs.Counting.{begun, past, Bounds, past_flushed, past_marked_by, past_moved, among, commits_bounds, moves_bounds, within, left_within, none_aged, begins_aged}
 use Rattle.pipe_core.proofs.Offering.{Offered, offered_on}
+use Rattle.pipe_core.proofs.FlushLaws.{flushed_length}
+use Rattle.pipe_core.proofs.HistoryLaws.{ahead_append}
+use Rattle.pipe_core.proofs.ClockLaws.{clock_aside}
 
 -- ---- how many operations are committed
 
@@ -62,7 +62,7 @@ passes q passed (suc d) at sites e amid =
     let m : q * (passed + 1) ≤ q * (passed + at) = mul-le-mul_left q (omega (arith, one)) in
     omega (arith, m, below_all (suc d) sites, e)
 
--- ---- what a turn takes
+-- ---- what an action takes
 
 record Spent (b : Build) (z n counted commits extra e done : ℕ) (places : List (Option Packet)) : Type 0 where
   counts : ℕ
@@ -81,18 +81,18 @@ stays_inside j x None = refl
 stays_inside j x (Some y) = refl
 
 module _ (b : Build) (far : b.plan.commit ≤ b.plan.last) (z n counted commits extra e : ℕ) (s : State) (long : length s.places ≡ suc b.plan.last) (all : e + length s.frames ≤ n)
-    (amid : 0 < s.done → bit (is_some (place_at (swept b 0 s.places) b.plan.commit)) ≡ 1)
+    (amid : 0 < s.done → bit (is_some (place_at (flushed b 0 s.places) b.plan.commit)) ≡ 1)
     (one : extra ≤ 1) (quiet : length s.frames ≤ inside s.places → e + inside s.places < n → extra ≡ 0) (room : counted + extra + 1 ≤ (z + n) * (b.plan.last + 2) + n)
     (sites : commits ≤ (e + past b s.places) * record_count b.program.sites + below s.done b.program.sites) (h : Bounds b z n counted e s.done s.places) where
-  spends : (u : Turn) → TurnIs b s (swept b 0 s.places) u →
-      (let v = worked b s (some_send b 0 s.places) (swept b 0 s.places) u in Spent b z n counted commits extra (e + length (left_as u (place_at (swept b 0 s.places) b.plan.last))) v.done v.places)
+  spends : (u : Action) → ActionIs b s (flushed b 0 s.places) u →
+      (let v = worked b s (some_send b 0 s.places) (flushed b 0 s.places) u in Spent b z n counted commits extra (e + length (left_as u (place_at (flushed b 0 s.places) b.plan.last))) v.done v.places)
   spends (Commits j x) is =
       let change = change_by b.program s.tables s.taken x.held j in
       let site = site_at b.program.sites j in
-      let w = and_parts (guard_on x.held site) (writes_as site.act (decl_of s.tables.decls site.map).kind (held_value x.held (answer_cell b.program.cells j))) is.writes_there in
-      let more = below_more s.done j b.program.sites is.from_on is.in_range (recorded site.act (decl_of s.tables.decls site.map).kind (held_value x.held (answer_cell b.program.cells j)) w.1) in
-      let same = past_struck b s.tables change s.places in
-      subst (λ l. Spent b z n counted commits extra l (suc j) (struck_below b.plan.commit b s.tables change 0 (swept b 0 s.places))) (sym (ap (λ l. e + l) (stays_inside j x (place_at (swept b 0 s.places) b.plan.last)) ∙ no_more e)) (record {
+      let w = and_parts (guard_on x.held site) (writes_as site.act (decl_of s.tables.decls site.map).kind (stage_value x.held (answer_cell b.program.cells j))) is.writes_there in
+      let more = below_more s.done j b.program.sites is.from_on is.in_range (recorded site.act (decl_of s.tables.decls site.map).kind (stage_value x.held (answer_cell b.program.cells j)) w.1) in
+      let same = past_marked_by b s.tables change s.places in
+      subst (λ l. Spent b z n counted commits extra l (suc j) (marked_below b.plan.commit b s.tables change 0 (flushed b 0 s.places))) (sym (ap (λ l. e + l) (stays_inside j x (place_at (flushed b 0 s.places) b.plan.last)) ∙ no_more e)) (record {
         counts = counted;
         commits_so_far = commits + 1;
         sum = omega (arith, one);
@@ -105,13 +105,13 @@ module _ (b : Build) (far : b.plan.commit ≤ b.plan.last) (z n counted commits 
       no_more e = omega arith
   spends (Writes a m) is = absurd is
   spends Moves is =
-      let rest = swept b 0 s.places in
+      let rest = flushed b 0 s.places in
       let new = newcomer b (some_send b 0 s.places) s.frames rest in
       let after = moved b s.tables s.frames 0 new rest in
       let out = bit (is_some (place_at rest b.plan.last)) in
       let at = bit (is_some (place_at rest b.plan.commit)) in
       let q = record_count b.program.sites in
-      let gone : e + out + past b after ≡ e + past b s.places + at = omega (arith, past_moved b far s.tables s.frames new rest (swept_length b 0 s.places ∙ long), past_swept b s.places) in
+      let gone : e + out + past b after ≡ e + past b s.places + at = omega (arith, past_moved b far s.tables s.frames new rest (flushed_length b 0 s.places ∙ long), past_flushed b s.places) in
       subst (λ l. Spent b z n counted commits extra l 0 after) (sym (ap (λ l. e + l) (left_count (place_at rest b.plan.last)))) (record {
         counts = counted + extra;
         commits_so_far = commits;
@@ -124,7 +124,7 @@ module _ (b : Build) (far : b.plan.commit ≤ b.plan.last) (z n counted commits 
 -- ---- a clock of the drive
 
 -- Of so many clocks each took a beat in or out, or committed, or was counted.
-record Account (b : Build) (z n start elapsed : ℕ) (left : List Beat) (w : Watched) : Type 0 where
+record Account (b : Build) (z n start elapsed : ℕ) (left : List Beat) (w : SeenChanges) : Type 0 where
   counts : ℕ
   commits : ℕ
   clocks : elapsed + length left + to_give (record { left = left; trace = w.trace }) ≤ start + commits + counts
@@ -132,7 +132,7 @@ record Account (b : Build) (z n start elapsed : ℕ) (left : List Beat) (w : Wat
   bounds : Bounds b z n counts (length w.trace.left) w.trace.state.done w.trace.state.places
   bounded : counts + 1 ≤ (z + n) * (b.plan.last + 2) + n
 
-record Lasts (b : Build) (decls : List MapDecl) (z n start elapsed : ℕ) (left : List Beat) (w : Watched) : Type 0 where
+record Lasts (b : Build) (decls : List MapDecl) (z n start elapsed : ℕ) (left : List Beat) (w : SeenChanges) : Type 0 where
   driving : Driving n b (record { left = left; trace = w.trace })
   right : IsRight b decls w
   account : Account b z n start elapsed left w ⊎ (to_give (record { left = left; trace = w.trace }) ≡ 0)
@@ -149,7 +149,7 @@ ahead_more (Some x) left = omega arith
 frames_in : (n : ℕ) (b : Build) (d : Driven) → Driving n b d → length d.trace.left + length d.trace.state.frames + lasts d.left ≡ n
 frames_in n b d v = omega (arith, v.count, ap length v.order.frames, length-drop (length d.trace.left) d.trace.came, v.order.begun)
 
-commit_kept : (b : Build) (decls : List MapDecl) → IsSuited decls b → (w : Watched) → length w.trace.state.places ≡ suc b.plan.last → IsRight b decls w → 0 < w.trace.state.done →
+commit_kept : (b : Build) (decls : List MapDecl) → IsPipelinable decls b → (w : SeenChanges) → length w.trace.state.places ≡ suc b.plan.last → IsRight b decls w → 0 < w.trace.state.done →
     (bit (is_some (place_at (rest_of b w.trace.state) b.plan.commit)) ≡ 1) × (bit (is_some (place_at w.trace.state.places b.plan.commit)) ≡ 1)
 commit_kept b decls fit w long h l =
     let u = h.at.amid l in
@@ -184,8 +184,8 @@ has_room b z n counted d v more amid none why h = elim (cases_lt (e + inside s.p
 abbrev pub left_after : Build → State → List Beat → List Beat
 left_after b s left = if is_ready b s then drop 1 left else left
 
-module _ (keeps : KeepsRight) (b : Build) (decls : List MapDecl) (fit : IsSuited decls b) (slots : b.slots ≡ b.plan.last + 4) (z n start : ℕ) where
-  accounts : (elapsed ifindex time : ℕ) (left : List Beat) (w : Watched) → Lasts b decls z n start elapsed left w → Offered n b (driving ifindex time left) w.trace (left_after b w.trace.state left) → 1 ≤ to_give (record { left = left; trace = w.trace }) →
+module _ (keeps : KeepsRight) (b : Build) (decls : List MapDecl) (fit : IsPipelinable decls b) (slots : b.slots ≡ b.plan.last + 4) (z n start : ℕ) where
+  accounts : (elapsed ifindex time : ℕ) (left : List Beat) (w : SeenChanges) → Lasts b decls z n start elapsed left w → Offered n b (driving ifindex time left) w.trace (left_after b w.trace.state left) → 1 ≤ to_give (record { left = left; trace = w.trace }) →
       Account b z n start elapsed left w → Account b z n start (elapsed + 1) (left_after b w.trace.state left) (observed b (driving ifindex time left) w)
   unfolding observed next work
   accounts elapsed ifindex time left w v o more a = elim (cases_lt 0 (length s.answers)) [
@@ -236,7 +236,7 @@ module _ (keeps : KeepsRight) (b : Build) (decls : List MapDecl) (fit : IsSuited
       spend : (extra : ℕ) → extra ≤ 1 → (length s.frames ≤ inside s.places → length w.trace.left + inside s.places < n → extra ≡ 0) → a.counts + extra + 1 ≤ (z + n) * (b.plan.last + 2) + n →
           length after + to_give d' + 1 ≤ length left + to_give d + extra → Account b z n start (elapsed + 1) after (observed b i w)
       spend extra one still room less =
-          let u = spends b fit.rows.commit z n a.counts a.commits extra (length w.trace.left) s v.driving.order.places (omega (arith, frames)) (λ l. (kept l).0) one still room a.of_sites a.bounds (turn_in b i s) (turn_is b i refl s (rest_of b s)) in
+          let u = spends b fit.rows.commit z n a.counts a.commits extra (length w.trace.left) s v.driving.order.places (omega (arith, frames)) (λ l. (kept l).0) one still room a.of_sites a.bounds (action_in b i s) (action_is b i refl s (rest_of b s)) in
           let count : length (w.trace.left ++ left_in b i s) ≡ length w.trace.left + length (left_in b i s) = length-append w.trace.left (left_in b i s) in
           let done : (clock b i s).done ≡ (work b i s).done = (clock_aside b i s).done in
           let places : (clock b i s).places ≡ (work b i s).places = (beats_keep b i w.trace v.driving.order).places in
@@ -253,7 +253,7 @@ module _ (keeps : KeepsRight) (b : Build) (decls : List MapDecl) (fit : IsSuited
             bounded = u.bounded;
           }
 
-  lasts_on : (elapsed ifindex time : ℕ) (left : List Beat) (w : Watched) → Lasts b decls z n start elapsed left w → Lasts b decls z n start (elapsed + 1) (left_after b w.trace.state left) (observed b (driving ifindex time left) w)
+  lasts_on : (elapsed ifindex time : ℕ) (left : List Beat) (w : SeenChanges) → Lasts b decls z n start elapsed left w → Lasts b decls z n start (elapsed + 1) (left_after b w.trace.state left) (observed b (driving ifindex time left) w)
   unfolding observed
   lasts_on elapsed ifindex time left w v = record {
     driving = o.driving;
@@ -289,7 +289,7 @@ module _ (keeps : KeepsRight) (b : Build) (decls : List MapDecl) (fit : IsSuited
       by (inr l) a = inr (omega (arith, no_more, l))
 
   -- in the end nothing is left to be given
-  ends : (elapsed : ℕ) (left : List Beat) (w : Watched) → Lasts b decls z n start elapsed left w → start + n * record_count b.program.sites + (z + n) * (b.plan.last + 2) + n ≤ elapsed + 1 → length w.trace.gave ≡ n
+  ends : (elapsed : ℕ) (left : List Beat) (w : SeenChanges) → Lasts b decls z n start elapsed left w → start + n * record_count b.program.sites + (z + n) * (b.plan.last + 2) + n ≤ elapsed + 1 → length w.trace.gave ≡ n
   ends elapsed left w v long = all_given n b (record { left = left; trace = w.trace }) v.driving (by v.account)
     where
       s : State
@@ -307,7 +307,7 @@ module _ (keeps : KeepsRight) (b : Build) (decls : List MapDecl) (fit : IsSuited
       by (inl a) = omega (arith, a.clocks, a.bounded, a.of_sites, passed, long)
       by (inr a) = a
 
-  drives_on : (clocks : List Beside) (elapsed : ℕ) (left : List Beat) (w : Watched) → Lasts b decls z n start elapsed left w → start + n * record_count b.program.sites + (z + n) * (b.plan.last + 2) + n ≤ elapsed + length clocks + 1 →
+  drives_on : (clocks : List Beside) (elapsed : ℕ) (left : List Beat) (w : SeenChanges) → Lasts b decls z n start elapsed left w → start + n * record_count b.program.sites + (z + n) * (b.plan.last + 2) + n ≤ elapsed + length clocks + 1 →
       length (drive b clocks (record { left = left; trace = w.trace })).trace.gave ≡ n
   unfolding drive_clock observed
   drives_on [] elapsed left w v long = ends elapsed left w v (omega (arith, long))
@@ -326,7 +326,7 @@ ends_in_time keeps loads b maps fit sound slots frames whole clocks long =
     beats : List Beat
     beats = flat_map beats_of frames
 
-    w : Watched
+    w : SeenChanges
     w = watch_start b maps
 
     by : (fs : List (List ℕ)) → AllByRecursion IsFrame fs → fs ≡ frames → Account b 0 (length frames) (2 * length beats) 0 beats (watch_start b maps) ⊎ (to_give (drive_start b maps frames) ≡ 0)
@@ -344,10 +344,6 @@ ends_in_time keeps loads b maps fit sound slots frames whole clocks long =
     })
 
 -- ---- from a reached state on
-
-ahead_append : (o : Option Beat) (xs ys : List Beat) → ahead o xs ++ ys ≡ ahead o (xs ++ ys)
-ahead_append None xs ys = refl
-ahead_append (Some x) xs ys = refl
 
 reaches : (n : ℕ) (b : Build) (is : List Input) (t : Trace) (left : List Beat) → Driving n b (record { left = beats_in b is t.state ++ left; trace = t }) →
     Driving n b (record { left = left; trace = run b is t }) × (to_give (record { left = left; trace = run b is t }) ≤ to_give (record { left = beats_in b is t.state ++ left; trace = t }))
@@ -387,40 +383,3 @@ ends_late keeps loads b maps fit sound slots is silent frames whole left over cl
         bounded = omega arith;
       });
     }) (omega (arith, long)))
-
--- ---- the bytes that do not count
-ends_unfilled : (begun : Bool) (bs left : List Beat) → EndsWhole begun (map filled_up bs ++ left) → EndsWhole begun (bs ++ left)
-ends_unfilled begun [] left h = h
-ends_unfilled begun (x ∷ bs) left h = ends_unfilled (not x.last) bs left h
-
-lasts_unfilled : (bs left : List Beat) → lasts (map filled_up bs ++ left) ≡ lasts (bs ++ left)
-lasts_unfilled [] left = refl
-lasts_unfilled (x ∷ bs) left = ap (λ n. bit x.last + n) (lasts_unfilled bs left)
-
-length_unfilled : (bs left : List Beat) → length (map filled_up bs ++ left) ≡ length (bs ++ left)
-length_unfilled [] left = refl
-length_unfilled (x ∷ bs) left = ap suc (length_unfilled bs left)
-
-begins_unfilled : (b : Build) (maps : MapState) (frames : List (List ℕ)) → AllByRecursion IsFrame frames → (bs left : List Beat) → map filled_up bs ++ left ≡ flat_map beats_of frames →
-    Driving (length frames) b (record { left = bs ++ left; trace = begin b maps })
-begins_unfilled b maps frames whole bs left e =
-    let v = subst (λ l. Driving (length frames) b (record { left = l; trace = begin b maps })) (sym e) (begins_driving b maps frames whole) in
-    record {
-      order = v.order;
-      count = omega (arith, v.count, lasts_unfilled bs left);
-      full = v.full;
-      offers = AreOffers-filled_up 0 bs left v.offers;
-      ends = ends_unfilled false bs left v.ends;
-      at = v.at;
-    }
-
-pub ends_late_without_maps : EndsLateWithoutMaps
-ends_late_without_maps b none slots maps is frames whole left over clocks long =
-    let beats = flat_map beats_of frames in
-    let n = length frames in
-    let came = beats_in b is (new_state b maps) in
-    let d : Driven = record { left = left; trace = run b is (begin b maps) } in
-    let r = reaches n b is (begin b maps) left (begins_unfilled b maps frames whole came left over) in
-    let many : length (came ++ left) ≡ length beats = sym (length_unfilled came left) ∙ ap length over in
-    let e = drives n b none slots clocks d r.0 in
-    all_given n b (drive b clocks d) e.0 (omega (arith, e.1, r.1, many, length-append came left, long, way_short b d r.0.order.places, frames_in n b d r.0))

@@ -21,33 +21,33 @@ use Rattle.hazard_core.specs.declared.change.Change.{Change}
 use Rattle.hazard_core.specs.declared.pointer.Pointer.{Pointer}
 use Rattle.hazard_core.specs.declared.pointer.Pointer.TheVariants.{Null, InSlot, Pending}
 use Rattle.hazard_core.specs.Tables.{TableState, decl_of}
-use Rattle.hazard_core.specs.Held.{is_null, Held, held_value, pointer_in, asked_key, access_pointer, pointer_operand, found_cell}
+use Rattle.hazard_core.specs.StageValues.{is_null, StageValues, stage_value, pointer_in, asked_key, access_pointer, pointer_operand, found_cell}
 use Rattle.hazard_core.specs.Keeping.{SameCell, looked_operands}
 use Rattle.hazard_core.specs.Marks.{entry_touched, presence_touched, touched_as, touches}
+use Rattle.hazard_core.proofs.ActsLaws.{key_is}
 use Rattle.pipe_core.specs.Machine.{Build}
-use Rattle.pipe_core.specs.Pipeable.{IsSuited}
-use Rattle.pipe_core.proofs.Elsewhere.{key_is}
+use Rattle.pipe_core.specs.Pipeable.{IsPipelinable}
 
-module _ (b : Build) (t : TableState) (d : ℕ) (h g : Held) (same : (c : ℕ) → c < d → b.plan.row c < b.plan.row d → SameCell h g c) where
+module _ (b : Build) (t : TableState) (d : ℕ) (h g : StageValues) (same : (c : ℕ) → c < d → b.plan.row c < b.plan.row d → SameCell h g c) where
   abbrev pub Before : List ℕ → Type 0
   Before xs = All (λ c. c < d) xs
 
   abbrev pub Lower : List ℕ → Type 0
   Lower xs = AllByRecursion (λ c. b.plan.row c < b.plan.row d) xs
 
-  values_same : (xs : List ℕ) → Before xs → Lower xs → map_list (held_value h) xs ≡ map_list (held_value g) xs
+  values_same : (xs : List ℕ) → Before xs → Lower xs → map_list (stage_value h) xs ≡ map_list (stage_value g) xs
   values_same [] before low = refl
   values_same (c ∷ cs) before low =
-      ap (λ n. n ∷ map_list (held_value h) cs) (same c (before 0 c (omega arith)) low.0).value
-      ∙ ap (λ ns. held_value g c ∷ ns) (values_same cs (λ i e m. before (suc i) e (omega (arith, m))) low.1)
+      ap (λ n. n ∷ map_list (stage_value h) cs) (same c (before 0 c (omega arith)) low.0).value
+      ∙ ap (λ ns. stage_value g c ∷ ns) (values_same cs (λ i e m. before (suc i) e (omega (arith, m))) low.1)
 
   pub key_same : (s : SiteView) → Before s.key → Lower s.key → asked_key t.decls h s ≡ asked_key t.decls g s
   key_same s before low =
       let m = decl_of t.decls s.map in
-      key_is m s.act (map_list (held_value h) s.key) (map_list (held_value h) s.operands) ∙ ap (bytes_of m.key) (values_same s.key before low)
-      ∙ sym (key_is m s.act (map_list (held_value g) s.key) (map_list (held_value g) s.operands))
+      key_is m s.act (map_list (stage_value h) s.key) (map_list (stage_value h) s.operands) ∙ ap (bytes_of m.key) (values_same s.key before low)
+      ∙ sym (key_is m s.act (map_list (stage_value g) s.key) (map_list (stage_value g) s.operands))
 
-  first_value : (xs : List ℕ) → Before xs → Lower (take 1 xs) → slice_index (map_list (held_value h) xs) 0 ≡ slice_index (map_list (held_value g) xs) 0
+  first_value : (xs : List ℕ) → Before xs → Lower (take 1 xs) → slice_index (map_list (stage_value h) xs) 0 ≡ slice_index (map_list (stage_value g) xs) 0
   first_value [] before low = refl
   first_value (c ∷ cs) before low = (same c (before 0 c (omega arith)) low.0).value
 
@@ -60,7 +60,7 @@ module _ (b : Build) (t : TableState) (d : ℕ) (h g : Held) (same : (c : ℕ) �
   third_pointer (c ∷ []) before low = refl
   third_pointer (c ∷ e ∷ cs) before low = first_pointer cs (λ i f m. before (suc (suc i)) f (omega (arith, m))) low
 
-  module _ (fit : IsSuited t.decls b) (j : ℕ) (l : d < length b.program.cells) (here : site_in (cell_at b.program.cells d).op ≡ Some j)
+  module _ (fit : IsPipelinable t.decls b) (j : ℕ) (l : d < length b.program.cells) (here : site_in (cell_at b.program.cells d).op ≡ Some j)
       (own : is_access (site_at b.program.sites j).act ≡ true → (i : ℕ) → access_pointer g (site_at b.program.sites j) ≡ Pending i → asked_key t.decls h (site_at b.program.sites i) ≡ asked_key t.decls g (site_at b.program.sites i)) where
     abbrev p : ProgramView
     p = b.program
@@ -71,18 +71,18 @@ module _ (b : Build) (t : TableState) (d : ℕ) (h g : Held) (same : (c : ℕ) �
     abbrev decl : MapDecl
     decl = decl_of t.decls (site_at b.program.sites j).map
 
-    abbrev op_by : Held → Act → Operation
-    op_by w a = operation_with (decl_of t.decls (site_at b.program.sites j).map) a (map_list (held_value w) (site_at b.program.sites j).key) (map_list (held_value w) (site_at b.program.sites j).operands)
+    abbrev op_by : StageValues → Act → Operation
+    op_by w a = operation_with (decl_of t.decls (site_at b.program.sites j).map) a (map_list (stage_value w) (site_at b.program.sites j).key) (map_list (stage_value w) (site_at b.program.sites j).operands)
 
     -- whether a packet found the key
-    abbrev there : Held → Bool
+    abbrev there : StageValues → Bool
     there w = not (is_null (pointer_in w (found_cell b.program.cells j)))
 
-    abbrev key : Held → List ℕ
-    key w = bytes_of (decl_of t.decls (site_at b.program.sites j).map).key (map_list (held_value w) (site_at b.program.sites j).key)
+    abbrev key : StageValues → List ℕ
+    key w = bytes_of (decl_of t.decls (site_at b.program.sites j).map).key (map_list (stage_value w) (site_at b.program.sites j).key)
 
-    abbrev flags : Held → ℕ
-    flags w = slice_index (map_list (held_value w) (site_at b.program.sites j).operands) 0
+    abbrev flags : StageValues → ℕ
+    flags w = slice_index (map_list (stage_value w) (site_at b.program.sites j).operands) 0
 
     below : IsBelow d (site_at b.program.sites j)
     below = fit.sited.below d j j l here (omega arith)
@@ -162,7 +162,7 @@ module _ (b : Build) (t : TableState) (d : ℕ) (h g : Held) (same : (c : ℕ) �
             none = not_not (is_null (pointer_in h (found_cell p.cells j))) q.1;
             too = λ null. now e at (all_three e.presence (not (nat_lt 2 (flags g))) (bytes_eq (key g) e.key || (nat_lt (flags g) 2 && not (there g))) presence small
                 (ap (λ (o : Bool). o || (nat_lt (flags g) 2 && not (there g))) k ∙ ap (λ (o : Bool). o && not (there g)) q.0 ∙ ap (λ (o : Bool). not (not o)) null));
-            keyed = λ c by m k. by_key c m by small ((bytes_eq-Decides (key g) c.key).1 (sym (key_is decl s.act (map_list (held_value g) s.key) (map_list (held_value g) s.operands)) ∙ k));
+            keyed = λ c by m k. by_key c m by small ((bytes_eq-Decides (key g) c.key).1 (sym (key_is decl s.act (map_list (stage_value g) s.key) (map_list (stage_value g) s.operands)) ∙ k));
           })
 
       updates_too : updated e (key h) (flags h) (there h) ≡ true → Touched e

@@ -17,20 +17,20 @@ use Rattle.hazard_core.specs.cell_core.Rows.{taken_by}
 use Rattle.hazard_core.specs.cell_core.SiteLaws.{ValuesKeep}
 use Rattle.hazard_core.specs.cell_core.Sites.{SiteView, ProgramView, site_at, IsCellRun, after, touched}
 use Rattle.hazard_core.specs.Tables.{TableState, maps_of}
-use Rattle.hazard_core.specs.Held.{Held, held_value}
+use Rattle.hazard_core.specs.StageValues.{StageValues, stage_value}
 use Rattle.hazard_core.specs.Replay.{Replayed, SeesEarlier, MapsInTurn}
 use Rattle.pipe_core.specs.Machine.{Packet, State, Build, no_frame, packet_of, place_at, inside}
 use Rattle.pipe_core.specs.History.{IsInOrder}
 use Rattle.pipe_core.specs.Sequential.{AreCellRuns}
 use Rattle.pipe_core.specs.Placed.{Placed}
-use Rattle.pipe_core.specs.Pipeable.{IsSuited}
-use Rattle.pipe_core.specs.InTurn.{left_maps, passed_maps, AreChained, IsSequential}
+use Rattle.pipe_core.specs.Pipeable.{IsPipelinable}
+use Rattle.pipe_core.specs.SequentialOrder.{left_maps, passed_maps, AreChained, IsSequential}
 use Rattle.pipe_core.specs.Prefix.{HoldsRun, CommittersHoldRuns}
-use Rattle.pipe_core.specs.Watched.{Watched, rest_of}
-use Rattle.pipe_core.specs.Apart.{AllRun, AreOthers, ReadOthers, AreApart, RunsComplete, Leads, RunsInTurnToo, InTurnToo}
-use Rattle.pipe_core.specs.Blamed.{left_touched, past_touched, now_touched, so_far, written_by, Wrote, Waits, ReadsNothingWritten}
+use Rattle.pipe_core.specs.SeenChanges.{SeenChanges, rest_of}
+use Rattle.pipe_core.specs.Apart.{AllRun, AreOthers, ReadOthers, ConflictFree, RunsComplete, Leads, RunsInTurnToo, InTurnToo}
+use Rattle.pipe_core.specs.ChangeCauses.{left_touched, past_touched, now_touched, so_far, written_by, Wrote, Waits, ReadsNothingWritten}
 use Rattle.pipe_core.proofs.Righting.{keeps_place, reads_there}
-use Rattle.pipe_core.proofs.Passing.{SameSites, after_same, drop_swept}
+use Rattle.pipe_core.proofs.Passing.{SameSites, after_same, drop_flushed}
 use Rattle.pipe_core.proofs.Midst.{same_run, leads_then, leads_long, led_by, runs_after}
 use Rattle.pipe_core.proofs.Blaming.{grows_front, left_length, past_length, none_there, fewer, between, front_place, there, touched_same, take_whole}
 
@@ -42,7 +42,7 @@ others_at (suc n) ws [] h j l r has wrote = none_there r has
 others_at (suc n) ws (t ∷ ts) h zero l r has wrote = h.0 r has wrote
 others_at (suc n) ws (t ∷ ts) h (suc j) l r has wrote = others_at n ws ts h.1 j (omega (arith, l)) r has wrote
 
-apart_at : (n : ℕ) (ts : List Touched) → AreApart n ts → (i j : ℕ) → i < j → j ≤ i + n → AreOthers (get_or ts j nothing).reads (get_or ts i nothing).writes
+apart_at : (n : ℕ) (ts : List Touched) → ConflictFree n ts → (i j : ℕ) → i < j → j ≤ i + n → AreOthers (get_or ts j nothing).reads (get_or ts i nothing).writes
 apart_at n [] h i j l m r has wrote = none_there r has
 apart_at n (t ∷ ts) h i zero l m r has wrote = absurd (omega (arith, l))
 apart_at n (t ∷ ts) h zero (suc j) l m r has wrote = others_at n t.writes ts h.0 j (omega (arith, m)) r has wrote
@@ -69,10 +69,10 @@ module _ (p : ProgramView) where
   leads_on maps mid last (c ∷ cs) ds [] us h k = absurd h
   leads_on maps mid last (c ∷ cs) ds (x ∷ ts) us (u, one, same, more) k = (u, one, same, leads_on (after u maps p.sites) mid last cs ds ts us more k)
 
-  left_leads : (maps : MapState) (hs : List Held) (cs : List Arrival) → AreCellRuns p maps hs cs (left_maps p maps hs) → Leads p maps (take (length hs) cs) (left_touched p maps hs) (left_maps p maps hs)
+  left_leads : (maps : MapState) (hs : List StageValues) (cs : List Arrival) → AreCellRuns p maps hs cs (left_maps p maps hs) → Leads p maps (take (length hs) cs) (left_touched p maps hs) (left_maps p maps hs)
   left_leads maps [] cs runs = refl
   left_leads maps (h ∷ hs) [] runs = absurd runs
-  left_leads maps (h ∷ hs) (c ∷ cs) runs = (held_value h, runs.0, refl, left_leads (after (held_value h) maps p.sites) hs cs runs.1)
+  left_leads maps (h ∷ hs) (c ∷ cs) runs = (stage_value h, runs.0, refl, left_leads (after (stage_value h) maps p.sites) hs cs runs.1)
 
 placed_drop : (P : ℕ → Arrival → Packet → Type 0) (fs : List Arrival) (k n : ℕ) (xs : List (Option Packet)) → Placed P fs k xs → Placed P fs (k + n) (drop n xs)
 placed_drop P fs k zero xs h = subst (λ m. Placed P fs m xs) (omega arith) h
@@ -91,12 +91,12 @@ placed_there P fs k zero (Some y ∷ xs) x h e =
 placed_there P fs k (suc n) (None ∷ xs) x h e = let f : suc k + n ≡ k + suc n = omega arith in subst (λ m. P m (get_or fs (inside (drop (suc n) xs)) no_frame) x) f (placed_there P fs (suc k) n xs x h e)
 placed_there P fs k (suc n) (Some y ∷ xs) x h e = let f : suc k + n ≡ k + suc n = omega arith in subst (λ m. P m (get_or fs (inside (drop (suc n) xs)) no_frame) x) f (placed_there P fs (suc k) n xs x h.1 e)
 
-module _ (keep : ValuesKeep) (b : Build) (maps : MapState) (fit : IsSuited maps.decls b) where
+module _ (keep : ValuesKeep) (b : Build) (maps : MapState) (fit : IsPipelinable maps.decls b) where
   -- a run that holds of the cells of sites what the packet holds, those past the last too
-  record SiteRun (packet : Arrival) (m : MapState) (h : Held) : Type 0 where
+  record SiteRun (packet : Arrival) (m : MapState) (h : StageValues) : Type 0 where
     v : ℕ → ℕ
     run : IsCellRun (packet_of packet) m b.program v
-    same : SameSites v (held_value h) b.program.sites
+    same : SameSites v (stage_value h) b.program.sites
 
   site_run : (c : Arrival) (t : TableState) (k : ℕ) (x : Packet) → b.plan.commit ≤ k → HoldsRun b t (packet_of c) (suc k) x → SiteRun c (maps_of t) x.held
   site_run c t k x far r = record {
@@ -106,23 +106,23 @@ module _ (keep : ValuesKeep) (b : Build) (maps : MapState) (fit : IsSuited maps.
   }
     where
       w : ℕ → ℕ
-      w i = if nat_lt i (length b.program.cells) then r.v i else held_value x.held i
+      w i = if nat_lt i (length b.program.cells) then r.v i else stage_value x.held i
 
-      within : (i : ℕ) → i < length b.program.cells → (if nat_lt i (length b.program.cells) then r.v i else held_value x.held i) ≡ r.v i
+      within : (i : ℕ) → i < length b.program.cells → (if nat_lt i (length b.program.cells) then r.v i else stage_value x.held i) ≡ r.v i
       within i l = by (nat_lt i (length b.program.cells)) refl
         where
-          by : (c : Bool) → nat_lt i (length b.program.cells) ≡ c → (if c then r.v i else held_value x.held i) ≡ r.v i
+          by : (c : Bool) → nat_lt i (length b.program.cells) ≡ c → (if c then r.v i else stage_value x.held i) ≡ r.v i
           by true e = refl
           by false e = let m : length b.program.cells ≤ i = grind (arith, nat_tests) in absurd (omega (arith, l, m))
 
-      one : (i : ℕ) → b.plan.row i ≤ b.plan.commit → (if nat_lt i (length b.program.cells) then r.v i else held_value x.held i) ≡ held_value x.held i
+      one : (i : ℕ) → b.plan.row i ≤ b.plan.commit → (if nat_lt i (length b.program.cells) then r.v i else stage_value x.held i) ≡ stage_value x.held i
       one i low = by (nat_lt i (length b.program.cells)) refl
         where
-          by : (c : Bool) → nat_lt i (length b.program.cells) ≡ c → (if c then r.v i else held_value x.held i) ≡ held_value x.held i
+          by : (c : Bool) → nat_lt i (length b.program.cells) ≡ c → (if c then r.v i else stage_value x.held i) ≡ stage_value x.held i
           by true e = let l : i < length b.program.cells = grind (arith, nat_tests) in sym (r.holds i l (omega (arith, low, far)))
           by false e = refl
 
-      each : (cs : List ℕ) → AllByRecursion (λ i. b.plan.row i ≤ b.plan.commit) cs → AllByRecursion (λ i. (if nat_lt i (length b.program.cells) then r.v i else held_value x.held i) ≡ held_value x.held i) cs
+      each : (cs : List ℕ) → AllByRecursion (λ i. b.plan.row i ≤ b.plan.commit) cs → AllByRecursion (λ i. (if nat_lt i (length b.program.cells) then r.v i else stage_value x.held i) ≡ stage_value x.held i) cs
       each [] a = tt
       each (i ∷ cs) a = (one i a.0, each cs a.1)
 
@@ -141,7 +141,7 @@ module _ (keep : ValuesKeep) (b : Build) (maps : MapState) (fit : IsSuited maps.
       let run : IsCellRun (packet_of c) m p r.v = subst (λ z. IsCellRun (packet_of c) z p r.v) chained.0 r.run in
       let more = past_leads base views fs (suc k) xs (omega (arith, far)) chained.1 holds.1 (omega (arith, few)) in
       subst (λ cs. Leads p base cs (past_touched p base (Some x ∷ xs)) (passed_maps p base (Some x ∷ xs))) (sym (take-suc fs (inside xs) no_frame (omega (arith, few))))
-      (leads_one p base m (passed_maps p base (Some x ∷ xs)) (take (inside xs) fs) (past_touched p base xs) c (touched (held_value x.held) m p.sites) r.v more run (touched_same r.v (held_value x.held) m p.sites r.same) (sym (after_same r.v (held_value x.held) m p.sites r.same)))
+      (leads_one p base m (passed_maps p base (Some x ∷ xs)) (take (inside xs) fs) (past_touched p base xs) c (touched (stage_value x.held) m p.sites) r.v more run (touched_same r.v (stage_value x.held) m p.sites r.same) (sym (after_same r.v (stage_value x.held) m p.sites r.same)))
 
 same_take : (v w : ℕ → ℕ) (n : ℕ) (ss : List SiteView) → SameSites v w ss → SameSites v w (take n ss)
 same_take v w zero ss same j l = absurd (omega (arith, l))
@@ -149,8 +149,8 @@ same_take v w (suc n) [] same j l = absurd (omega (arith, l))
 same_take v w (suc n) (s ∷ ss) same zero l = same 0 (omega arith)
 same_take v w (suc n) (s ∷ ss) same (suc j) l = same_take v w n ss (λ i h. same (suc i) (omega (arith, h))) j (omega (arith, l))
 
-module _ (seen : SeesEarlier) (maps_turn : MapsInTurn) (hold : CommittersHoldRuns) (complete : RunsComplete) (too : InTurnToo) (keep : ValuesKeep) (b : Build) (maps : MapState) (fit : IsSuited maps.decls b) (sound : IsSound maps) (w : Watched) (o : IsInOrder b w.trace) (h : IsSequential b maps w) (later : List Arrival)
-    (apart : (ts : List Touched) → AllRun b.program maps (w.trace.came ++ later) ts → AreApart (b.plan.last + 3) ts) where
+module _ (seen : SeesEarlier) (maps_action : MapsInTurn) (hold : CommittersHoldRuns) (complete : RunsComplete) (too : InTurnToo) (keep : ValuesKeep) (b : Build) (maps : MapState) (fit : IsPipelinable maps.decls b) (sound : IsSound maps) (w : SeenChanges) (o : IsInOrder b w.trace) (h : IsSequential b maps w) (later : List Arrival)
+    (apart : (ts : List Touched) → AllRun b.program maps (w.trace.came ++ later) ts → ConflictFree (b.plan.last + 3) ts) where
   abbrev p : ProgramView
   p = b.program
 
@@ -185,7 +185,7 @@ module _ (seen : SeesEarlier) (maps_turn : MapsInTurn) (hold : CommittersHoldRun
   few = omega (arith, o.packets, fewer s.places 0 (suc b.plan.commit) (omega arith))
 
   rest_past : drop (suc b.plan.commit) (rest_of b w.trace.state) ≡ passed
-  rest_past = drop_swept b 0 (suc b.plan.commit) s.places (omega arith)
+  rest_past = drop_flushed b 0 (suc b.plan.commit) s.places (omega arith)
 
   holds_rest : Placed (Holding keep b maps fit w.views) w.trace.state.frames 0 (rest_of b w.trace.state)
   holds_rest = hold b maps fit w h
@@ -233,13 +233,13 @@ module _ (seen : SeesEarlier) (maps_turn : MapsInTurn) (hold : CommittersHoldRun
         u = r.v;
         run = r.run;
         through = s.done;
-        is = ap (λ (z : Replayed). maps_of z.tables) rp.state ∙ maps_turn p view rp.first y.held h.right.at.view_tables fits rp.long reads s.done rp.through
-            ∙ sym (after_same r.v (held_value y.held) (maps_of view) (take s.done p.sites) (same_take r.v (held_value y.held) s.done p.sites r.same));
+        is = ap (λ (z : Replayed). maps_of z.tables) rp.state ∙ maps_action p view rp.first y.held h.right.at.view_tables fits rp.long reads s.done rp.through
+            ∙ sym (after_same r.v (stage_value y.held) (maps_of view) (take s.done p.sites) (same_take r.v (stage_value y.held) s.done p.sites r.same));
         grows = λ i z tail has. more y r.v r.same i z tail (subst (λ (x : Option Packet). Contains (written_by (now_touched p (maps_of view) x s.done) i) z) um.here has);
       }
     where
-      more : (y : Packet) (u : ℕ → ℕ) → SameSites u (held_value y.held) b.program.sites → (i : ℕ) (z : Resource) (tail : List Touched) → Contains (written_by (touched (held_value y.held) (maps_of view) (take s.done b.program.sites) ∷ []) i) z → Contains (written_by (touched u (maps_of view) b.program.sites ∷ tail) i) z
-      more y u same zero z tail has = subst (λ (t : Touched). Contains t.writes z) (sym (touched_same u (held_value y.held) (maps_of view) p.sites same)) (take_whole (held_value y.held) s.done p.sites (maps_of view) z has)
+      more : (y : Packet) (u : ℕ → ℕ) → SameSites u (stage_value y.held) b.program.sites → (i : ℕ) (z : Resource) (tail : List Touched) → Contains (written_by (touched (stage_value y.held) (maps_of view) (take s.done b.program.sites) ∷ []) i) z → Contains (written_by (touched u (maps_of view) b.program.sites ∷ tail) i) z
+      more y u same zero z tail has = subst (λ (t : Touched). Contains t.writes z) (sym (touched_same u (stage_value y.held) (maps_of view) p.sites same)) (take_whole (stage_value y.held) s.done p.sites (maps_of view) z has)
       more y u same (suc i) z tail has = absurd (none_there z has)
 
   module _ (k : ℕ) (x : Packet) (at : place_at w.trace.state.places k ≡ Some x) (waits : Waits b w.trace.state.done k) where
@@ -292,7 +292,7 @@ module _ (seen : SeesEarlier) (maps_turn : MapsInTurn) (hold : CommittersHoldRun
         ∙ ap (λ zs. take L w.trace.came ++ zs) (append_assoc (take c fs) (front ++ (y ∷ drop (suc m) fs)) later ∙ ap (λ zs. take c fs ++ zs) (append_assoc front (y ∷ drop (suc m) fs) later))
         ∙ sym (append_assoc (take L w.trace.came) (take c fs) (front ++ (y ∷ rest)))
 
-    apart_here : (ts : List Touched) → AllRun b.program maps (before ++ (front ++ (y ∷ rest))) ts → AreApart (b.plan.last + 3) ts
+    apart_here : (ts : List Touched) → AllRun b.program maps (before ++ (front ++ (y ∷ rest))) ts → ConflictFree (b.plan.last + 3) ts
     apart_here ts run = apart ts (subst (λ cs. AllRun p maps cs ts) (sym split) run)
 
     -- where an operation is through another packet is before this one
@@ -353,16 +353,16 @@ module _ (seen : SeesEarlier) (maps_turn : MapsInTurn) (hold : CommittersHoldRun
           let u = mid.u in
           let t0 = touched u (maps_of view) p.sites in
           let count : suc (length btw) ≡ m - c = sym (ap length e) ∙ front_long in
-          let apart' : (ts : List Touched) → AllRun p maps (before ++ ((f ∷ btw) ++ (y ∷ rest))) ts → AreApart (b.plan.last + 3) ts = λ ts runs. apart_here ts (subst (λ fr. AllRun p maps (before ++ (fr ++ (y ∷ rest))) ts) (sym e) runs) in
+          let apart' : (ts : List Touched) → AllRun p maps (before ++ ((f ∷ btw) ++ (y ∷ rest))) ts → ConflictFree (b.plan.last + 3) ts = λ ts runs. apart_here ts (subst (λ fr. AllRun p maps (before ++ (fr ++ (y ∷ rest))) ts) (sym e) runs) in
           let q : RunsInTurnToo p (packet_of y) (after u (maps_of view) (take mid.through p.sites)) (after u (maps_of view) p.sites) btw v =
           too b maps fit.rows.reads fit.fits fit.sited sound (b.plan.last + 3) before f btw y rest apart' (omega (arith, count, most)) (gone ++ past) (maps_of view) lead_first u mid.run mid.through v (subst (λ mp. IsCellRun (packet_of y) mp p v) mid.is run) in
-          let t = touched v q.turn p.sites in
-          let led = led_by complete maps.decls p fit.rows.reads.planned.formed fit.sited (after v q.turn p.sites) rest in
-          let tail : AllRun p q.turn (y ∷ rest) (t ∷ led.ts) = (v, q.run, refl, runs_after complete maps.decls p fit.rows.reads.planned.formed fit.sited (after v q.turn p.sites) led.last rest led.ts led.leads) in
-          let mids : AllRun p (after u (maps_of view) p.sites) (btw ++ (y ∷ rest)) (q.ts ++ (t ∷ led.ts)) = leads_then p (after u (maps_of view) p.sites) q.turn btw (y ∷ rest) q.ts (t ∷ led.ts) q.leads tail in
+          let t = touched v q.action p.sites in
+          let led = led_by complete maps.decls p fit.rows.reads.planned.formed fit.sited (after v q.action p.sites) rest in
+          let tail : AllRun p q.action (y ∷ rest) (t ∷ led.ts) = (v, q.run, refl, runs_after complete maps.decls p fit.rows.reads.planned.formed fit.sited (after v q.action p.sites) led.last rest led.ts led.leads) in
+          let mids : AllRun p (after u (maps_of view) p.sites) (btw ++ (y ∷ rest)) (q.ts ++ (t ∷ led.ts)) = leads_then p (after u (maps_of view) p.sites) q.action btw (y ∷ rest) q.ts (t ∷ led.ts) q.leads tail in
           let runs = leads_then p maps (maps_of view) before (f ∷ (btw ++ (y ∷ rest))) (gone ++ past) (t0 ∷ (q.ts ++ (t ∷ led.ts))) lead_first (u, mid.run, refl, mids) in
           let joined : (gone ++ past) ++ (t0 ∷ (q.ts ++ (t ∷ led.ts))) ≡ ((gone ++ past) ++ (t0 ∷ q.ts)) ++ (t ∷ led.ts) = sym (append_assoc (gone ++ past) (t0 ∷ q.ts) (t ∷ led.ts)) in
-          let long_ts = leads_long p (after u (maps_of view) p.sites) q.turn btw q.ts q.leads in
+          let long_ts = leads_long p (after u (maps_of view) p.sites) q.action btw q.ts q.leads in
           clash ((gone ++ past) ++ (t0 ∷ q.ts)) led.ts t rest (subst (λ fr. AllRun p maps (before ++ (fr ++ (y ∷ rest))) (((gone ++ past) ++ (t0 ∷ q.ts)) ++ (t ∷ led.ts))) (sym e) (subst (AllRun p maps (before ++ ((f ∷ btw) ++ (y ∷ rest)))) joined runs))
           (omega (arith, length-append (gone ++ past) (t0 ∷ q.ts), first_long, long_ts, count, least)) (sym q.touches ∙ ap (λ mp. touched v mp p.sites) (sym mid.is))
           (λ i has'. subst (λ ts. Contains (written_by ts i) r) joined (subst (λ ts. Contains (written_by ts i) r) (sym (append_assoc gone past (t0 ∷ (q.ts ++ (t ∷ led.ts))))) (grows_front gone _ _ (grows_front past _ _ (λ n z has''. mid.grows n z (q.ts ++ (t ∷ led.ts)) has'')) i r has')))
@@ -381,5 +381,5 @@ module _ (seen : SeesEarlier) (maps_turn : MapsInTurn) (hold : CommittersHoldRun
                   head_is (suc n) a more e = cc
 
 pub reads_nothing_written : SeesEarlier → MapsInTurn → CommittersHoldRuns → RunsComplete → InTurnToo → ValuesKeep → ReadsNothingWritten
-reads_nothing_written seen maps_turn hold complete too keep b maps fit sound w o h later apart k x at waits v run r has wrote =
-    first_in seen maps_turn hold complete too keep b maps fit sound w o h later apart k x at waits v run r has wrote (take (inside (drop (suc k) w.trace.state.places) - inside (drop (suc b.plan.commit) w.trace.state.places)) (drop (inside (drop (suc b.plan.commit) w.trace.state.places)) w.trace.state.frames)) refl
+reads_nothing_written seen maps_action hold complete too keep b maps fit sound w o h later apart k x at waits v run r has wrote =
+    first_in seen maps_action hold complete too keep b maps fit sound w o h later apart k x at waits v run r has wrote (take (inside (drop (suc k) w.trace.state.places) - inside (drop (suc b.plan.commit) w.trace.state.places)) (drop (inside (drop (suc b.plan.commit) w.trace.state.places)) w.trace.state.frames)) refl

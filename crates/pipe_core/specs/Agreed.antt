@@ -3,15 +3,15 @@ use Rattle.std.specs.Prelude.{◌≡◌, ℕ, suc, ◌<◌, ◌≤◌, true, fal
 use Rattle.hazard_core.specs.cell_core.Cells.{cell_at, site_in}
 use Rattle.hazard_core.specs.cell_core.Sites.{site_at}
 use Rattle.hazard_core.specs.Tables.{TableState}
-use Rattle.hazard_core.specs.Held.{guard_on}
+use Rattle.hazard_core.specs.StageValues.{guard_on}
 use Rattle.hazard_core.specs.Changes.{IsRightCommit}
 use Rattle.hazard_core.specs.xdp_machine.State.{PacketIn}
-use Rattle.pipe_core.specs.Machine.{Packet, State, Input, Build, Turn, Commits, Writes, Moves, packet_of, marked_at}
+use Rattle.pipe_core.specs.Machine.{Packet, State, Input, Build, Action, Commits, Writes, Moves, packet_of, marked_at}
 use Rattle.pipe_core.specs.History.{IsInOrder}
 use Rattle.pipe_core.specs.Agreement.{UpdatesFind, IsMade, Agrees}
 use Rattle.pipe_core.specs.Pipeable.{IsPipeable}
 use Rattle.pipe_core.specs.Placed.{Placed}
-use Rattle.pipe_core.specs.Watched.{Watched, rest_of, turn_in, observed}
+use Rattle.pipe_core.specs.SeenChanges.{SeenChanges, rest_of, action_in, observed}
 use Rattle.pipe_core.specs.Marked.{AreMarked}
 
 -- past the commit place no mark stands
@@ -20,7 +20,7 @@ IsClean b k x = b.plan.commit < k → (j : ℕ) → j < length b.program.sites �
 
 -- Each packet agrees with the tables of its place in what is not marked and not off the path. Those are the tables of now before the commit
 -- place, and there too while the packet has committed nothing.
-pub record IsAgreed (b : Build) (w : Watched) : Type 0 where
+pub record IsAgreed (b : Build) (w : SeenChanges) : Type 0 where
   pub marked : AreMarked b w
   pub clean : Placed (λ k c x. IsClean b k x) w.trace.state.frames 0 w.trace.state.places
   pub agree : Placed (λ k c x. Agrees b (w.views k) (packet_of c) (suc k) x) w.trace.state.frames 0 w.trace.state.places
@@ -28,16 +28,16 @@ pub record IsAgreed (b : Build) (w : Watched) : Type 0 where
   pub begun : w.trace.state.done ≡ 0 → w.views b.plan.commit ≡ w.trace.state.tables
 
 -- a commit writes a slot that there is; a delete that of its key
-abbrev pub IsRightTurn : Build → State → Turn → Type 0
-IsRightTurn b s (Commits j x) = IsRightCommit b.program s.tables s.taken x.held j
-IsRightTurn b s (Writes a n) = ⊥
-IsRightTurn b s Moves = Unit {0}
+abbrev pub IsRightAction : Build → State → Action → Type 0
+IsRightAction b s (Commits j x) = IsRightCommit b.program s.tables s.taken x.held j
+IsRightAction b s (Writes a n) = ⊥
+IsRightAction b s Moves = Unit {0}
 
 -- A clock in which the host is silent keeps this, if what it commits is right.
 abbrev pub KeepsAgreed : Type 0
 KeepsAgreed =
-    (b : Build) → IsPipeable b → (i : Input) → i.host ≡ None → (w : Watched) → UpdatesFind w.trace.state.tables.decls b → IsInOrder b w.trace
-    → IsRightTurn b w.trace.state (turn_in b i w.trace.state) → IsAgreed b w → IsAgreed b (observed b i w)
+    (b : Build) → IsPipeable b → (i : Input) → i.host ≡ None → (w : SeenChanges) → UpdatesFind w.trace.state.tables.decls b → IsInOrder b w.trace
+    → IsRightAction b w.trace.state (action_in b i w.trace.state) → IsAgreed b w → IsAgreed b (observed b i w)
 
 -- every read of a site whose guard is on is as it would be made on these tables
 abbrev pub IsPathMade : Build → TableState → PacketIn → Packet → Type 0
@@ -47,5 +47,5 @@ IsPathMade b t packet x =
 -- So a packet that stays at the commit place, or is past it, has all its reads on the path from the tables of its place: it has no mark.
 abbrev pub PathsAreMade : Type 0
 PathsAreMade =
-    (b : Build) → IsPipeable b → (w : Watched) → IsAgreed b w
+    (b : Build) → IsPipeable b → (w : SeenChanges) → IsAgreed b w
     → Placed (λ k c x. b.plan.commit ≤ k → IsPathMade b (w.views k) (packet_of c) x) w.trace.state.frames 0 (rest_of b w.trace.state)

@@ -14,7 +14,7 @@ use Rattle.hazard_core.specs.cell_core.Formed.{AreFormed, AllFit, AreSited}
 use Rattle.realization.specs.beat_core.Ports.{Arrival}
 use Rattle.pipe_core.specs.Machine.{Build, packet_of}
 use Rattle.pipe_core.specs.Agreement.{ReadsArePlanned}
-use Rattle.pipe_core.specs.Pipeable.{IsSuited}
+use Rattle.pipe_core.specs.Pipeable.{IsPipelinable}
 use Rattle.pipe_core.specs.Drive.{Beside, drive, drive_start, clocks_of}
 use Rattle.pipe_core.specs.Forward.{GoesForward, commits_in}
 
@@ -36,9 +36,9 @@ ReadOthers (suc n) writes [] = Unit {0}
 ReadOthers (suc n) writes (t ∷ ts) = AreOthers t.reads writes × ReadOthers n writes ts
 
 -- no run reads what one of the n before it wrote
-abbrev pub AreApart : ℕ → List Touched → Type 0
-AreApart n [] = Unit {0}
-AreApart n (t ∷ ts) = ReadOthers n t.writes ts × AreApart n ts
+abbrev pub ConflictFree : ℕ → List Touched → Type 0
+ConflictFree n [] = Unit {0}
+ConflictFree n (t ∷ ts) = ReadOthers n t.writes ts × ConflictFree n ts
 
 -- how many operations of these runs wrote
 abbrev pub all_writing : List Touched → ℕ
@@ -50,7 +50,7 @@ all_writing (t ∷ ts) = t.writing + all_writing ts
 -- In a drive of which the frames are all answered in time if more clocks follow, no more operations are committed than the runs of these frames write.
 abbrev pub CommitsAreWrites : Type 0
 CommitsAreWrites =
-    (b : Build) (maps : MapState) → IsSuited maps.decls b → IsSound maps → b.slots ≡ b.plan.last + 4 → (frames : List (List ℕ)) → AllByRecursion IsFrame frames → (clocks more : List Beside) → clocks_of b frames ≤ length (clocks ++ more) + 1
+    (b : Build) (maps : MapState) → IsPipelinable maps.decls b → IsSound maps → b.slots ≡ b.plan.last + 4 → (frames : List (List ℕ)) → AllByRecursion IsFrame frames → (clocks more : List Beside) → clocks_of b frames ≤ length (clocks ++ more) + 1
     → (q : ℕ) → ((ts : List Touched) → AllRun b.program maps (drive b (clocks ++ more) (drive_start b maps frames)).trace.came ts → all_writing ts ≤ q)
     → commits_in b clocks (drive_start b maps frames) ≤ q
 
@@ -58,7 +58,7 @@ CommitsAreWrites =
 -- writes, and the places count once.
 abbrev pub EndsUnsent : Type 0
 EndsUnsent =
-    (b : Build) (maps : MapState) → IsSuited maps.decls b → IsSound maps → b.slots ≡ b.plan.last + 4 → (frames : List (List ℕ)) → AllByRecursion IsFrame frames → (clocks more : List Beside) → clocks_of b frames ≤ length (clocks ++ more) + 1
+    (b : Build) (maps : MapState) → IsPipelinable maps.decls b → IsSound maps → b.slots ≡ b.plan.last + 4 → (frames : List (List ℕ)) → AllByRecursion IsFrame frames → (clocks more : List Beside) → clocks_of b frames ≤ length (clocks ++ more) + 1
     → GoesForward b clocks (drive_start b maps frames)
     → (q : ℕ) → ((ts : List Touched) → AllRun b.program maps (drive b (clocks ++ more) (drive_start b maps frames)).trace.came ts → all_writing ts ≤ q)
     → 2 * length (flat_map beats_of frames) + length frames + b.plan.last + 1 + q ≤ length clocks
@@ -96,17 +96,17 @@ Leads p maps (c ∷ cs) (t ∷ ts) last = (v : ℕ → ℕ) × IsCellRun (packet
 -- Once the frames between have been run, this is a run in its turn too, and touches the same as it did in the midst.
 pub record RunsInTurnToo (p : ProgramView) (packet : PacketIn) (midst left : MapState) (between : List Arrival) (v : ℕ → ℕ) : Type 0 where
   pub ts : List Touched
-  pub turn : MapState
-  pub leads : Leads p left between ts turn
-  pub run : IsCellRun packet turn p v
-  pub touches : touched v midst p.sites ≡ touched v turn p.sites
+  pub action : MapState
+  pub leads : Leads p left between ts action
+  pub run : IsCellRun packet action p v
+  pub touches : touched v midst p.sites ≡ touched v action p.sites
 
 -- Where no runs of these frames conflict, a packet that runs ahead, on maps in the midst of the operations of one fewer than n before it, does so in its turn too.
 abbrev pub InTurnToo : Type 0
 InTurnToo =
     (b : Build) (maps : MapState) → ReadsArePlanned b → AllFit maps.decls b.program.sites → AreSited maps.decls b.program → IsSound maps
     → (n : ℕ) (before : List Arrival) (w : Arrival) (between : List Arrival) (y : Arrival) (later : List Arrival)
-    → ((ts : List Touched) → AllRun b.program maps (before ++ (w ∷ (between ++ (y ∷ later)))) ts → AreApart n ts) → length between < n
+    → ((ts : List Touched) → AllRun b.program maps (before ++ (w ∷ (between ++ (y ∷ later)))) ts → ConflictFree n ts) → length between < n
     → (first : List Touched) (m : MapState) → Leads b.program maps before first m → (u : ℕ → ℕ) → IsCellRun (packet_of w) m b.program u
     → (s : ℕ) (v : ℕ → ℕ) → IsCellRun (packet_of y) (after u m (take s b.program.sites)) b.program v
     → RunsInTurnToo b.program (packet_of y) (after u m (take s b.program.sites)) (after u m b.program.sites) between v

@@ -7,18 +7,18 @@ use Rattle.hazard_core.specs.xdp_machine.State.{PacketIn}
 use Rattle.hazard_core.specs.cell_core.Cells.{cell_at, is_read, value}
 use Rattle.hazard_core.specs.cell_core.Formed.{AreFormed}
 use Rattle.hazard_core.specs.cell_core.Rows.{AreRows}
-use Rattle.hazard_core.specs.Held.{Held, held_value}
+use Rattle.hazard_core.specs.StageValues.{StageValues, stage_value}
 use Rattle.realization.specs.beat_core.Ports.{Arrival}
 use Rattle.pipe_core.specs.Machine.{Packet, Input, Build, no_frame, packet_of, inside}
 use Rattle.pipe_core.specs.History.{Trace, next, run, begin, IsInOrder}
 
 -- the cells of the rows below r
-pub record Computes (b : Build) (packet : PacketIn) (r : ℕ) (h : Held) : Type 0 where
+pub record Computes (b : Build) (packet : PacketIn) (r : ℕ) (h : StageValues) : Type 0 where
   pub count : length h.values ≡ length b.program.cells
   pub each : (c : ℕ) → c < length b.program.cells → b.plan.row c < r → is_read (cell_at b.program.cells c).op ≡ false
-      → held_value h c ≡ value packet (held_value h) (cell_at b.program.cells c)
+      → stage_value h c ≡ value packet (stage_value h) (cell_at b.program.cells c)
 
--- A packet at place k holds the rows up to k. Its frame stands behind those of the older ones.
+-- A packet at place k holds the rows up to k. Its frame stands after those of the older ones.
 abbrev pub PlacesCompute : Build → List Arrival → ℕ → List (Option Packet) → Type 0
 PlacesCompute b frames k [] = Unit {0}
 PlacesCompute b frames k (None ∷ xs) = PlacesCompute b frames (suc k) xs
@@ -26,7 +26,7 @@ PlacesCompute b frames k (Some x ∷ xs) =
     Computes b (packet_of (get_or frames (inside xs) no_frame)) (suc k) x.held × PlacesCompute b frames (suc k) xs
 
 -- packets that left, and their frames
-abbrev pub LeftCompute : Build → List Held → List Arrival → Type 0
+abbrev pub LeftCompute : Build → List StageValues → List Arrival → Type 0
 LeftCompute b [] cs = Unit {0}
 LeftCompute b (h ∷ hs) [] = ⊥
 LeftCompute b (h ∷ hs) (c ∷ cs) = Computes b (packet_of c) (suc b.plan.last) h × LeftCompute b hs cs

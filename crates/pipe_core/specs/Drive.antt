@@ -1,15 +1,14 @@
 -- The full drive: in each clock the next beat is offered while one is left, a beat that is shown is taken, and the host is silent.
-use Rattle.std.specs.Prelude.{◌≡◌, ℕ, ◌+◌, ◌*◌, ◌≤◌, if◌then◌else◌, Option, Some, None, List, [], ◌∷◌, ◌++◌, length, drop, map, true}
+use Rattle.std.specs.Prelude.{◌≡◌, ℕ, ◌+◌, ◌*◌, ◌≤◌, if◌then◌else◌, Option, Some, None, List, [], ◌∷◌, ◌++◌, length, drop, true}
 use Rattle.std.specs.List.{flat_map, AllByRecursion}
 use Rattle.realization.specs.beat_core.declared.beat.Beat.{Beat}
 use Rattle.realization.specs.beat_core.Beats.{beats_of}
-use Rattle.realization.specs.beat_core.Filling.{filled_up}
 use Rattle.realization.specs.beat_core.Laws.{IsFrame}
 use Rattle.hazard_core.specs.xdp_maps.State.{MapState, IsSound}
 use Rattle.hazard_core.specs.cell_core.Rows.{record_count}
 use Rattle.pipe_core.specs.Machine.{State, Input, Build, new_state, is_ready, beat_over, clock}
 use Rattle.pipe_core.specs.History.{Trace, next, run, begin}
-use Rattle.pipe_core.specs.Pipeable.{IsSuited}
+use Rattle.pipe_core.specs.Pipeable.{IsPipelinable}
 
 -- the beats that are left, and the trace so far
 pub record Driven : Type 0 where
@@ -43,14 +42,6 @@ drive b (x ∷ xs) d = drive b xs (drive_clock b x.ifindex x.time d)
 abbrev pub drive_start : Build → MapState → List (List ℕ) → Driven
 drive_start b maps frames = record { left = flat_map beats_of frames; trace = begin b maps }
 
--- Of a program without operations on maps all frames are answered after so many clocks: each beat counts one in and one out, each frame
--- one more, and the places count once.
-abbrev pub EndsWithoutMaps : Type 0
-EndsWithoutMaps =
-    (b : Build) → b.program.sites ≡ [] → b.slots ≡ b.plan.last + 4 → (maps : MapState) (frames : List (List ℕ)) → AllByRecursion IsFrame frames
-    → (clocks : List Beside) → 2 * length (flat_map beats_of frames) + length frames + b.plan.last + 1 ≤ length clocks
-    → length (drive b clocks (drive_start b maps frames)).trace.gave ≡ length frames
-
 -- With operations on maps a frame may wait for the one before it: each beat counts a clock in and one out, and each frame counts the places, a clock
 -- for each site that may write, and three more.
 abbrev pub clocks_of : Build → List (List ℕ) → ℕ
@@ -59,7 +50,7 @@ clocks_of b frames = 2 * length (flat_map beats_of frames) + length frames * (b.
 -- All frames are answered a clock before that.
 abbrev pub EndsInTime : Type 0
 EndsInTime =
-    (b : Build) (maps : MapState) → IsSuited maps.decls b → IsSound maps → b.slots ≡ b.plan.last + 4 → (frames : List (List ℕ)) → AllByRecursion IsFrame frames
+    (b : Build) (maps : MapState) → IsPipelinable maps.decls b → IsSound maps → b.slots ≡ b.plan.last + 4 → (frames : List (List ℕ)) → AllByRecursion IsFrame frames
     → (clocks : List Beside) → clocks_of b frames ≤ length clocks + 1
     → length (drive b clocks (drive_start b maps frames)).trace.gave ≡ length frames
 
@@ -76,16 +67,7 @@ beats_in b (i ∷ is) s = ahead (beat_over b s i) (beats_in b is (clock b i s))
 -- clocks, and once more those of the places.
 abbrev pub EndsLate : Type 0
 EndsLate =
-    (b : Build) (maps : MapState) → IsSuited maps.decls b → IsSound maps → b.slots ≡ b.plan.last + 4 → (is : List Input) → AllByRecursion (λ i. i.host ≡ None) is
+    (b : Build) (maps : MapState) → IsPipelinable maps.decls b → IsSound maps → b.slots ≡ b.plan.last + 4 → (is : List Input) → AllByRecursion (λ i. i.host ≡ None) is
     → (frames : List (List ℕ)) → AllByRecursion IsFrame frames → (left : List Beat) → beats_in b is (new_state b maps) ++ left ≡ flat_map beats_of frames
     → (clocks : List Beside) → clocks_of b frames + b.plan.last + 2 ≤ length clocks + 1
-    → length (drive b clocks (record { left = left; trace = run b is (begin b maps) })).trace.gave ≡ length frames
-
--- Of a program without operations on maps a drive that begins late needs no more clocks than one from the first clock on. Of the beats that went
--- over before, the bytes that do not count are not asked.
-abbrev pub EndsLateWithoutMaps : Type 0
-EndsLateWithoutMaps =
-    (b : Build) → b.program.sites ≡ [] → b.slots ≡ b.plan.last + 4 → (maps : MapState) (is : List Input) (frames : List (List ℕ)) → AllByRecursion IsFrame frames
-    → (left : List Beat) → map filled_up (beats_in b is (new_state b maps)) ++ left ≡ flat_map beats_of frames
-    → (clocks : List Beside) → 2 * length (flat_map beats_of frames) + length frames + b.plan.last + 1 ≤ length clocks
     → length (drive b clocks (record { left = left; trace = run b is (begin b maps) })).trace.gave ≡ length frames

@@ -5,28 +5,28 @@ use Rattle.realization.specs.beat_core.declared.answer.Answer.{Answer}
 use Rattle.hazard_core.specs.xdp_maps.State.{MapState}
 use Rattle.hazard_core.specs.cell_core.Cells.{bit}
 use Rattle.hazard_core.specs.cell_core.Sites.{ProgramView}
-use Rattle.hazard_core.specs.Held.{Held}
+use Rattle.hazard_core.specs.StageValues.{StageValues}
 use Rattle.realization.specs.beat_core.Ports.{Arrival}
-use Rattle.pipe_core.specs.Machine.{Packet, State, Input, Build, Turn, Moves, new_state, place_at, inside, swept, turn_of, came_with, beat_over, taken_beat, first_answer, answer_of, clock}
+use Rattle.pipe_core.specs.Machine.{Packet, State, Input, Build, Action, Moves, new_state, place_at, inside, flushed, action_of, came_with, beat_over, taken_beat, first_answer, answer_of, clock}
 
 -- Of the clocks so far: the frames that came whole, what each packet held of the cells when it left the pipe, and the answers that
 -- were given whole.
 pub record Trace : Type 0 where
   pub state : State
   pub came : List Arrival
-  pub left : List Held
+  pub left : List StageValues
   pub gave : List Answer
 
 abbrev pub came_in : State → Input → Option Beat → List Arrival
 came_in s i None = []
 came_in s i (Some b) = if b.last then came_with s.part i b ∷ [] else []
 
-abbrev pub left_as : Turn → Option Packet → List Held
+abbrev pub left_as : Action → Option Packet → List StageValues
 left_as Moves (Some x) = x.held ∷ []
-left_as turn x = []
+left_as action x = []
 
-abbrev pub left_in : Build → Input → State → List Held
-left_in b i s = let rest = swept b 0 s.places in left_as (turn_of b i s rest) (place_at rest b.plan.last)
+abbrev pub left_in : Build → Input → State → List StageValues
+left_in b i s = let rest = flushed b 0 s.places in left_as (action_of b i s rest) (place_at rest b.plan.last)
 
 abbrev pub gave_in : List Answer → Option Beat → List Answer
 gave_in answers None = []
@@ -50,7 +50,7 @@ abbrev pub begin : Build → MapState → Trace
 begin b maps = record { state = new_state b maps; came = []; left = []; gave = [] }
 
 -- what packets answer that held this when they left, to these frames
-abbrev pub answers_of : ProgramView → List Held → List Arrival → List Answer
+abbrev pub answers_of : ProgramView → List StageValues → List Arrival → List Answer
 answers_of p [] cs = []
 answers_of p (h ∷ hs) [] = []
 answers_of p (h ∷ hs) (c ∷ cs) = answer_of p h c ∷ answers_of p hs cs

@@ -14,7 +14,7 @@ use Rattle.hazard_core.specs.cell_core.Cells.{bit}
 use Rattle.hazard_core.specs.cell_core.Sites.{ProgramView, site_at, with_bytes}
 use Rattle.hazard_core.specs.cell_core.Rows.{numbers}
 use Rattle.hazard_core.specs.Tables.{TableState, table_at, slot_at, tables_of}
-use Rattle.hazard_core.specs.Held.{Held, held_value, Plan, writes}
+use Rattle.hazard_core.specs.StageValues.{StageValues, stage_value, Plan, writes}
 use Rattle.hazard_core.specs.Rows.{with_row, nothing_held}
 use Rattle.hazard_core.specs.declared.change.Change.{Change}
 use Rattle.hazard_core.specs.Marks.{known_on, known_off, is_marked}
@@ -25,7 +25,7 @@ use Rattle.hazard_core.specs.Commits.{committed, taken_after, change_by, word_in
 
 -- a packet in a place: what it holds of the cells, and of each site whether what it read there may have changed since
 pub record Packet : Type 0 where
-  pub held : Held
+  pub held : StageValues
   pub marks : List Bool
 
 pub record State : Type 0 where
@@ -33,7 +33,7 @@ pub record State : Type 0 where
   -- the answers that are not given wholly, the oldest first, and how many beats of the first are given
   pub answers : List Answer
   pub pos : ℕ
-  -- the frames without an answer, the oldest first: those of the packets in the places, and behind them those that wait
+  -- the frames without an answer, the oldest first: those of the packets in the places, and after them those that wait
   pub frames : List Arrival
   -- the frame of which the last beat has not come
   pub part : Option Arrival
@@ -114,7 +114,7 @@ abbrev pub injected : ProgramView → Packet
 injected p = record { held = nothing_held p; marks = replicate (length p.sites) false }
 
 -- A packet enters place k: it takes in row k, and loses the marks whose guard is now known as 0.
-abbrev pub with_kept_marks : Build → ℕ → Held → Packet → Packet
+abbrev pub with_kept_marks : Build → ℕ → StageValues → Packet → Packet
 with_kept_marks b k h x = record {
   held = h;
   marks = map_list (λ j. marked_at x j && not (known_off b.plan.row k h (site_at b.program.sites j))) (site_numbers b.program);
@@ -124,20 +124,20 @@ unfoldable pub entered : Build → TableState → ℕ → Arrival → Packet →
 entered b t k c x = with_kept_marks b k (with_row b.program b.plan.row k t (packet_of c) x.held) x
 
 -- A change marks a packet at place k.
-unfoldable pub struck : Build → TableState → ℕ → Change → Packet → Packet
-struck b t k e x =
+unfoldable pub marked_by : Build → TableState → ℕ → Change → Packet → Packet
+marked_by b t k e x =
     record x { marks = map_list (λ j. marked_at x j || is_marked b.program b.plan.row t.decls k x.held e j) (site_numbers b.program) }
 
 -- A mark whose guard is known as 1 sends the packet back.
-unfoldable pub is_due : Build → ℕ → Packet → Bool
-is_due b k x = list_any (λ j. marked_at x j && known_on b.plan.row k x.held (site_at b.program.sites j)) (site_numbers b.program)
+unfoldable pub must_reload : Build → ℕ → Packet → Bool
+must_reload b k x = list_any (λ j. marked_at x j && known_on b.plan.row k x.held (site_at b.program.sites j)) (site_numbers b.program)
 
 -- ---- sending back
 
 -- place k sends back: no place past the commit place does
 abbrev pub sends : Build → ℕ → Option Packet → Bool
 sends b k None = false
-sends b k (Some x) = nat_le k b.plan.commit && is_due b k x
+sends b k (Some x) = nat_le k b.plan.commit && must_reload b k x
 
 -- one of these places, from place k on, sends back
 abbrev pub some_send : Build → ℕ → List (Option Packet) → Bool
@@ -145,9 +145,9 @@ some_send b k [] = false
 some_send b k (x ∷ xs) = sends b k x || some_send b (suc k) xs
 
 -- Where a place sends back, it and all younger ones are emptied.
-abbrev pub swept : Build → ℕ → List (Option Packet) → List (Option Packet)
-swept b k [] = []
-swept b k (x ∷ xs) = (if some_send b k (x ∷ xs) then None else x) ∷ swept b (suc k) xs
+abbrev pub flushed : Build → ℕ → List (Option Packet) → List (Option Packet)
+flushed b k [] = []
+flushed b k (x ∷ xs) = (if some_send b k (x ∷ xs) then None else x) ∷ flushed b (suc k) xs
 
 -- ---- moving on
 
@@ -155,7 +155,7 @@ abbrev pub enters : Build → TableState → ℕ → Arrival → Option Packet �
 enters b t k c None = None
 enters b t k c (Some x) = Some (entered b t k c x)
 
--- Each packet moves one place on, x into place k; its frame is that behind the frames of the older ones.
+-- Each packet moves one place on, x into place k; its frame is that after the frames of the older ones.
 abbrev pub moved : Build → TableState → List Arrival → ℕ → Option Packet → List (Option Packet) → List (Option Packet)
 moved b t frames k x [] = []
 moved b t frames k x (y ∷ ys) = enters b t k (get_or frames (inside (y ∷ ys)) no_frame) x ∷ moved b t frames (suc k) y ys
@@ -165,11 +165,11 @@ abbrev pub newcomer : Build → Bool → List Arrival → List (Option Packet) �
 newcomer b back frames rest = if not back && nat_lt (inside rest) (length frames) then Some (injected b.program) else None
 
 -- what a packet answers whose frame this is
-abbrev pub answer_of : ProgramView → Held → Arrival → Answer
+abbrev pub answer_of : ProgramView → StageValues → Arrival → Answer
 answer_of p h c = record {
-  verdict = held_value h p.verdict;
-  target = held_value h p.target;
-  frame = with_bytes (held_value h) c.frame p.frame;
+  verdict = stage_value h p.verdict;
+  target = stage_value h p.target;
+  frame = with_bytes (stage_value h) c.frame p.frame;
 }
 
 -- the packet that leaves the last place answers the oldest frame
@@ -180,9 +180,9 @@ answers_by p frames (Some x) = answer_of p x.held (get_or frames 0 no_frame) ∷
 -- ---- the commit place
 
 -- a change marks the packets below a place
-abbrev pub struck_below : ℕ → Build → TableState → Change → ℕ → List (Option Packet) → List (Option Packet)
-struck_below to b t e k [] = []
-struck_below to b t e k (x ∷ xs) = (if nat_lt k to then option_map (struck b t k e) x else x) ∷ struck_below to b t e (suc k) xs
+abbrev pub marked_below : ℕ → Build → TableState → Change → ℕ → List (Option Packet) → List (Option Packet)
+marked_below to b t e k [] = []
+marked_below to b t e k (x ∷ xs) = (if nat_lt k to then option_map (marked_by b t k e) x else x) ∷ marked_below to b t e (suc k) xs
 
 -- the least site that is not through whose operation writes
 abbrev pub chosen : Build → TableState → ℕ → Packet → Option ℕ
@@ -191,12 +191,12 @@ chosen b t done x = find (λ j. nat_le done j && writes b.program t.decls x.held
 -- ---- the host
 
 -- no frame is inside, or has begun
-abbrev pub is_calm : State → Bool
-is_calm s = not (is_some s.part) && nat_lt (length s.answers + length s.frames) 1
+abbrev pub is_idle : State → Bool
+is_idle s = not (is_some s.part) && nat_lt (length s.answers + length s.frames) 1
 
 -- The host has to wait while the packet at the commit place is amid its operations.
 abbrev pub host_ready : Build → State → Bool
-host_ready b s = is_calm s || not (is_some (place_at s.places b.plan.commit) && nat_lt 0 s.done)
+host_ready b s = is_idle s || not (is_some (place_at s.places b.plan.commit) && nat_lt 0 s.done)
 
 abbrev pub written_if : Bool → Access → Option ℕ → Option (Access × ℕ)
 written_if false a n = None
@@ -205,42 +205,42 @@ written_if true a (Some n) = Some (a, n)
 
 -- what the host is to write in this clock
 abbrev pub host_writes : Bool → Bool → TableState → Option Access → Option (Access × ℕ)
-host_writes ready calm t None = None
-host_writes ready calm t (Some a) = written_if (ready && may_write calm (slot_at (table_at t a.map) a.index) (word_in t a)) a a.write
+host_writes ready idle t None = None
+host_writes ready idle t (Some a) = written_if (ready && may_write idle (slot_at (table_at t a.map) a.index) (word_in t a)) a a.write
 
 -- ---- one clock
 
 -- what a clock does: it commits an operation of a packet, lets the host write, or moves the packets on
-pub data Turn : Type 0 where
-  Commits : (j : ℕ) (x : Packet) → Turn
-  Writes : (a : Access) (n : ℕ) → Turn
-  Moves : Turn
+pub data Action : Type 0 where
+  Commits : (j : ℕ) (x : Packet) → Action
+  Writes : (a : Access) (n : ℕ) → Action
+  Moves : Action
 
-abbrev pub commits_as : Packet → Option ℕ → Turn
+abbrev pub commits_as : Packet → Option ℕ → Action
 commits_as x None = Moves
 commits_as x (Some j) = Commits j x
 
-abbrev pub commits_or_moves : Build → State → Option Packet → Turn
+abbrev pub commits_or_moves : Build → State → Option Packet → Action
 commits_or_moves b s None = Moves
 commits_or_moves b s (Some x) = commits_as x (chosen b s.tables s.done x)
 
-abbrev pub turn_as : Build → State → List (Option Packet) → Option (Access × ℕ) → Turn
-turn_as b s rest (Some w) = Writes w.0 w.1
-turn_as b s rest None = commits_or_moves b s (place_at rest b.plan.commit)
+abbrev pub action_as : Build → State → List (Option Packet) → Option (Access × ℕ) → Action
+action_as b s rest (Some w) = Writes w.0 w.1
+action_as b s rest None = commits_or_moves b s (place_at rest b.plan.commit)
 
-abbrev pub turn_of : Build → Input → State → List (Option Packet) → Turn
-turn_of b i s rest = turn_as b s rest (host_writes (host_ready b s) (is_calm s) s.tables i.host)
+abbrev pub action_of : Build → Input → State → List (Option Packet) → Action
+action_of b i s rest = action_as b s rest (host_writes (host_ready b s) (is_idle s) s.tables i.host)
 
-abbrev pub worked : Build → State → Bool → List (Option Packet) → Turn → State
+abbrev pub worked : Build → State → Bool → List (Option Packet) → Action → State
 worked b s back rest (Commits j x) = record s {
   tables = committed b.program s.tables s.taken x.held j;
   taken = taken_after b.program s.tables s.taken x.held j;
   done = suc j;
-  places = struck_below b.plan.commit b s.tables (change_by b.program s.tables s.taken x.held j) 0 rest;
+  places = marked_below b.plan.commit b s.tables (change_by b.program s.tables s.taken x.held j) 0 rest;
 }
 worked b s back rest (Writes a n) = record s {
   tables = host_written s.tables a n;
-  places = struck_below (suc b.plan.commit) b s.tables (host_change s.tables a) 0 rest;
+  places = marked_below (suc b.plan.commit) b s.tables (host_change s.tables a) 0 rest;
 }
 worked b s back rest Moves = record s {
   answers = s.answers ++ answers_by b.program s.frames (place_at rest b.plan.last);
@@ -252,7 +252,7 @@ worked b s back rest Moves = record s {
 
 -- the places, maps and answers after a clock
 unfoldable pub work : Build → Input → State → State
-work b i s = let rest = swept b 0 s.places in worked b s (some_send b 0 s.places) rest (turn_of b i s rest)
+work b i s = let rest = flushed b 0 s.places in worked b s (some_send b 0 s.places) rest (action_of b i s rest)
 
 -- ---- beats
 
@@ -312,7 +312,7 @@ output b i s = record {
   beat = shown_beat s;
   verdict = (first_answer s.answers).verdict;
   target = (first_answer s.answers).target;
-  reloaded = inside s.places - inside (swept b 0 s.places);
+  reloaded = inside s.places - inside (flushed b 0 s.places);
   host_ready = host_ready b s;
   host_value = host_value (host_ready b s) s.tables i.host;
   host_passed = s.passed;

@@ -8,7 +8,7 @@ use Rattle.hazard_core.specs.Marks.{touches, known_off, has_read}
 use Rattle.pipe_core.specs.Machine.{Packet, Input, Build, marked_at}
 use Rattle.pipe_core.specs.History.{IsInOrder}
 use Rattle.pipe_core.specs.Placed.{Placed}
-use Rattle.pipe_core.specs.Watched.{Seen, Watched, observed, watch, watch_start}
+use Rattle.pipe_core.specs.SeenChanges.{Seen, SeenChanges, observed, watch, watch_start}
 
 -- whether a change touched the read of site j when the packet saw it: the packet had read there by then
 abbrev pub touched_then : Build → List MapDecl → ℕ → Seen → Bool
@@ -19,12 +19,12 @@ abbrev pub MarksAre : Build → List MapDecl → List Seen → ℕ → Packet �
 MarksAre b decls seen k x =
     (j : ℕ) → j < length b.program.sites → marked_at x j ≡ list_any (touched_then b decls j) seen && not (known_off b.plan.row k x.held (site_at b.program.sites j))
 
-abbrev pub AreMarked : Build → Watched → Type 0
+abbrev pub AreMarked : Build → SeenChanges → Type 0
 AreMarked b w = let s = w.trace.state in Placed (λ k c x. MarksAre b s.tables.decls (w.seen k) k x) s.frames 0 s.places
 
 -- A clock keeps this, whatever comes.
 abbrev pub KeepsMarked : Type 0
-KeepsMarked = (b : Build) (i : Input) (w : Watched) → IsInOrder b w.trace → AreMarked b w → AreMarked b (observed b i w)
+KeepsMarked = (b : Build) (i : Input) (w : SeenChanges) → IsInOrder b w.trace → AreMarked b w → AreMarked b (observed b i w)
 
 -- So it is over every list of clocks.
 abbrev pub AreAlwaysMarked : Type 0

@@ -4,7 +4,7 @@ use Rattle.std.proofs.Common.{get_or}
 use Rattle.realization.specs.beat_core.Ports.{Arrival}
 use Rattle.pipe_core.specs.Machine.{Packet, no_frame, inside}
 
--- Something holds of each packet, by its place and its frame, from place k on. The frame stands behind those of the older packets.
+-- Something holds of each packet, by its place and its frame, from place k on. The frame stands after those of the older packets.
 abbrev pub Placed : (ℕ → Arrival → Packet → Type 0) → List Arrival → ℕ → List (Option Packet) → Type 0
 Placed P frames k [] = Unit {0}
 Placed P frames k (None ∷ xs) = Placed P frames (suc k) xs

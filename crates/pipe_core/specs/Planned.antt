@@ -5,7 +5,7 @@ use Rattle.hazard_core.specs.cell_core.Cells.{cell_at, site_in}
 use Rattle.hazard_core.specs.cell_core.Sites.{ProgramView}
 use Rattle.hazard_core.specs.cell_core.Formed.{AreFormed}
 use Rattle.hazard_core.specs.cell_core.View.{program_of}
-use Rattle.hazard_core.specs.Held.{held_value}
+use Rattle.hazard_core.specs.StageValues.{stage_value}
 use Rattle.hazard_core.specs.declared.rows.Source.{Source}
 use Rattle.realization.specs.beat_core.Ports.{Arrival}
 use Rattle.pipe_core.specs.declared.planned.Planned.{Planned}
@@ -38,4 +38,4 @@ pub record IsPacketOf (p : ProgramView) (x : Packet) : Type 0 where
   pub values : length x.held.values ≡ length p.cells
   pub pointers : length x.held.pointers ≡ length p.cells
   pub marks : length x.marks ≡ length p.sites
-  pub widths : (c : ℕ) → held_value x.held c < 2 ^ (cell_at p.cells c).width
+  pub widths : (c : ℕ) → stage_value x.held c < 2 ^ (cell_at p.cells c).width

@@ -8,9 +8,9 @@ use Rattle.hazard_core.specs.Tabled.{AreTables}
 use Rattle.hazard_core.specs.Replay.{replayed}
 use Rattle.pipe_core.specs.Machine.{Packet, Input, Build, marked_at, place_at}
 use Rattle.pipe_core.specs.History.{IsInOrder}
-use Rattle.pipe_core.specs.Watched.{Watched, turn_in, observed, watch, watch_start}
-use Rattle.pipe_core.specs.Pipeable.{IsSuited}
-use Rattle.pipe_core.specs.Agreed.{IsAgreed, IsRightTurn}
+use Rattle.pipe_core.specs.SeenChanges.{SeenChanges, action_in, observed, watch, watch_start}
+use Rattle.pipe_core.specs.Pipeable.{IsPipelinable}
+use Rattle.pipe_core.specs.Agreed.{IsAgreed, IsRightAction}
 
 -- The tables are what the operations of a packet below one site made of others, one after another.
 pub record Replays (b : Build) (view tables : TableState) (taken : List ℕ) (done : ℕ) (x : Packet) : Type 0 where
@@ -36,19 +36,19 @@ pub record IsRightAt (b : Build) (decls : List MapDecl) (view tables : TableStat
   pub replays : (x : Packet) → place ≡ Some x → Replays b view tables taken done x
   pub amid : 0 < done → IsUnmarked b place
 
-pub record IsRight (b : Build) (decls : List MapDecl) (w : Watched) : Type 0 where
+pub record IsRight (b : Build) (decls : List MapDecl) (w : SeenChanges) : Type 0 where
   pub agreed : IsAgreed b w
   pub at : IsRightAt b decls (w.views b.plan.commit) w.trace.state.tables w.trace.state.taken w.trace.state.done (place_at w.trace.state.places b.plan.commit)
 
 -- In each clock what is committed is right, while the host is silent; and the clock keeps all this.
-abbrev pub TurnsAreRight : Type 0
-TurnsAreRight = (b : Build) (decls : List MapDecl) → IsSuited decls b → (i : Input) → i.host ≡ None → (w : Watched) → IsRight b decls w → IsRightTurn b w.trace.state (turn_in b i w.trace.state)
+abbrev pub ActionsAreRight : Type 0
+ActionsAreRight = (b : Build) (decls : List MapDecl) → IsPipelinable decls b → (i : Input) → i.host ≡ None → (w : SeenChanges) → IsRight b decls w → IsRightAction b w.trace.state (action_in b i w.trace.state)
 
 abbrev pub KeepsRight : Type 0
 KeepsRight =
-    (b : Build) (decls : List MapDecl) → IsSuited decls b → (i : Input) → i.host ≡ None → (w : Watched) → IsInOrder b w.trace → IsRight b decls w → IsRight b decls (observed b i w)
+    (b : Build) (decls : List MapDecl) → IsPipelinable decls b → (i : Input) → i.host ≡ None → (w : SeenChanges) → IsInOrder b w.trace → IsRight b decls w → IsRight b decls (observed b i w)
 
 -- So over every list of clocks: the tables are tables, each packet agrees with those of its place, and what is committed is right.
 abbrev pub IsAlwaysRight : Type 0
 IsAlwaysRight =
-    (b : Build) (maps : MapState) → IsSuited maps.decls b → IsSound maps → (is : List Input) → AllByRecursion (λ i. i.host ≡ None) is → IsRight b maps.decls (watch b is (watch_start b maps))
+    (b : Build) (maps : MapState) → IsPipelinable maps.decls b → IsSound maps → (is : List Input) → AllByRecursion (λ i. i.host ≡ None) is → IsRight b maps.decls (watch b is (watch_start b maps))

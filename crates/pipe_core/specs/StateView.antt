@@ -2,9 +2,9 @@
 use Rattle.std.specs.Prelude.{ℕ, Option, List}
 use Rattle.hazard_core.specs.Tables.{TableState}
 use Rattle.pipe_core.specs.Machine.{Packet, State}
-use Rattle.pipe_core.specs.Queued.{Queued}
+use Rattle.pipe_core.specs.FrameQueue.{FrameQueue}
 
-abbrev pub state_of : TableState → Queued → List (Option Packet) → ℕ → List ℕ → ℕ → State
+abbrev pub state_of : TableState → FrameQueue → List (Option Packet) → ℕ → List ℕ → ℕ → State
 state_of t q places done taken passed = record {
   tables = t;
   answers = q.answers;

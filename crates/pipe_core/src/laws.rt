@@ -2,19 +2,18 @@
 
 ghost use Rattle.pipe_core.specs.History.{KeepsOrder, IsAlwaysInOrder};
 ghost use Rattle.pipe_core.specs.Computed.{KeepsComputed, IsAlwaysComputed};
-ghost use Rattle.pipe_core.specs.Sequential.{RunsWithoutMaps, MapsStay};
-ghost use Rattle.pipe_core.specs.Drive.{EndsWithoutMaps, EndsLateWithoutMaps, EndsInTime, EndsLate};
+ghost use Rattle.pipe_core.specs.Drive.{EndsInTime, EndsLate};
 ghost use Rattle.pipe_core.specs.Forward.{EndsForward};
 ghost use Rattle.pipe_core.specs.Apart.{RunsElsewhere, RunsComplete, InTurnToo, CommitsAreWrites, EndsUnsent};
 ghost use Rattle.pipe_core.specs.Meeting.{TouchesWhatIsRead, ChangesAreWritten};
-ghost use Rattle.pipe_core.specs.Blamed.{KeepsBlamed, BeginsBlamed, ReadsNothingWritten};
+ghost use Rattle.pipe_core.specs.ChangeCauses.{KeepsChangeCauses, BeginsChangeCauses, ReadsNothingWritten};
 ghost use Rattle.pipe_core.specs.Found.{KeepsFound, BeginsFound};
-ghost use Rattle.pipe_core.specs.Unconflicting.{NothingIsDue, StaysForward, EndsWithoutConflicts};
+ghost use Rattle.pipe_core.specs.Unconflicting.{NothingMustReload, StaysForward, EndsWithoutConflicts};
 ghost use Rattle.pipe_core.specs.Sending.{AlwaysSendsBack};
-ghost use Rattle.pipe_core.specs.Agreement.{EnteringAgrees, StrikingAgrees};
+ghost use Rattle.pipe_core.specs.Agreement.{EnteringAgrees, MarkingAgrees};
 ghost use Rattle.pipe_core.specs.Agreed.{KeepsAgreed, PathsAreMade};
-ghost use Rattle.pipe_core.specs.Right.{TurnsAreRight, KeepsRight, IsAlwaysRight};
-ghost use Rattle.pipe_core.specs.InTurn.{KeepsSequential, RunsInTurn, FinalMaps};
+ghost use Rattle.pipe_core.specs.Right.{ActionsAreRight, KeepsRight, IsAlwaysRight};
+ghost use Rattle.pipe_core.specs.SequentialOrder.{KeepsSequential, RunsInTurn, FinalMaps};
 ghost use Rattle.pipe_core.specs.Prefix.{SequentialRunsAhead, IsAlwaysAhead, WholeWhereUnmarked, CommittersHoldRuns, GuardsRunAhead};
 ghost use Rattle.pipe_core.specs.Marked.{KeepsMarked, AreAlwaysMarked};
 
@@ -31,27 +30,6 @@ pub fn computed()
 {
     hazard_core::cell_core::laws::rows_rise();
 }
-
-/// Without operations on maps the packets that left are cell runs, one after another.
-pub fn runs_without_maps()
-    ensures { RunsWithoutMaps }
-{
-    hazard_core::cell_core::laws::rows_rise();
-}
-
-/// Without operations on maps, and with a silent host, the maps stay.
-pub fn maps_stay()
-    ensures { MapsStay }
-{
-    hazard_core::laws::tables_stand();
-}
-
-/// Without operations on maps the full drive of frames ends: each beat counts a clock in and one out, each frame one, and the
-/// places count once. One that begins late needs no more clocks.
-pub fn ends_without_maps()
-    ensures full { EndsWithoutMaps }
-    ensures late { EndsLateWithoutMaps }
-{}
 
 /// A full drive in which no packet is ever sent back ends so too, with one clock more for each operation that is committed.
 pub fn ends_forward()
@@ -70,7 +48,7 @@ pub fn runs_rest()
 /// a row, and where the tables change.
 pub fn agreement()
     ensures entering { EnteringAgrees }
-    ensures striking { StrikingAgrees }
+    ensures marking { MarkingAgrees }
 {
     hazard_core::cell_core::laws::rows_rise();
     hazard_core::laws::reads_keep();
@@ -102,7 +80,7 @@ pub fn agreed()
 /// Over every list of clocks with a silent host the tables are tables of their declarations, packets agree with those of their places, and
 /// what is committed is right.
 pub fn right()
-    ensures turn { TurnsAreRight }
+    ensures action { ActionsAreRight }
     ensures clock { KeepsRight }
     ensures always { IsAlwaysRight }
 {
@@ -190,9 +168,9 @@ pub fn meeting()
 }
 
 /// While nothing is sent back each change that a packet has seen was made by a packet shortly before it, which wrote what the change changed.
-pub fn blamed()
-    ensures clock { KeepsBlamed }
-    ensures begins { BeginsBlamed }
+pub fn change_causes()
+    ensures clock { KeepsChangeCauses }
+    ensures begins { BeginsChangeCauses }
 {
     meeting();
     hazard_core::laws::in_turn();
@@ -221,9 +199,9 @@ pub fn found()
     hazard_core::laws::reads_keep();
 }
 
-/// Where no runs of the frames conflict, and nothing was sent back so far, no packet is due: nothing is sent back.
-pub fn nothing_due()
-    ensures { NothingIsDue }
+/// Where no runs of the frames conflict, and nothing was sent back so far, no packet must reload: nothing is sent back.
+pub fn nothing_must_reload()
+    ensures { NothingMustReload }
 {
     meeting();
     unread();
@@ -241,9 +219,9 @@ pub fn ends_without_conflicts()
     runs_in_turn();
     right();
     computed();
-    blamed();
+    change_causes();
     found();
-    nothing_due();
+    nothing_must_reload();
     commits();
     hazard_core::laws::loads_tables();
     hazard_core::laws::tables_stand();

@@ -6,20 +6,20 @@ ghost use Rattle.std.proofs.Common.{get_or};
 ghost use Rattle.hazard_core.specs.cell_core.Formed.{AllFit};
 ghost use Rattle.hazard_core.specs.cell_core.Sites.{site_at, with_bytes};
 ghost use Rattle.hazard_core.specs.cell_core.View.{program_of};
-ghost use Rattle.hazard_core.specs.Held.{held_value, writes};
+ghost use Rattle.hazard_core.specs.StageValues.{stage_value, writes};
 ghost use Rattle.hazard_core.specs.Marks.{known_on, known_off, is_marked};
-ghost use Rattle.pipe_core.specs.Machine.{injected, entered, struck, is_due, chosen, marked_at, site_numbers};
+ghost use Rattle.pipe_core.specs.Machine.{injected, entered, marked_by, must_reload, chosen, marked_at, site_numbers};
 ghost use Rattle.pipe_core.specs.Planned.{build_of, arrival_of, IsUsable, IsPacketOf};
 
 use crate::arrived::Arrived;
 use crate::planned::Planned;
 use hazard_core::cell_core::program::{CellProgram, PacketIn};
 use hazard_core::change::Change;
-use hazard_core::held::Held;
 use hazard_core::marks::{is_marked, known_off, known_on};
 use hazard_core::pending::writes;
 use hazard_core::rows::{Source, take_row};
 use hazard_core::site::site_at;
+use hazard_core::stage_values::StageValues;
 use hazard_core::tables::Tables;
 use std::alloc::{AllocError, Global};
 use std::marker::Model;
@@ -27,7 +27,7 @@ use std::marker::Model;
 /// What a packet holds, and of each site whether what it read there may have changed since. Contracts see a `Packet` of the machine.
 #[derive(Drop)]
 pub struct Packet {
-    held: Held,
+    held: StageValues,
     marks: Vec<bool>,
 }
 
@@ -47,13 +47,13 @@ impl Packet {
     {
         let count = program.sites.len();
         Ok(Packet {
-            held: Held::new(alloc, program)?,
+            held: StageValues::new(alloc, program)?,
             marks: vec![in alloc; false; count]?,
         })
     }
 
     /// What it holds of the cells.
-    pub fn held(&self) -> &Held
+    pub fn held(&self) -> &StageValues
         ensures { result.now ≡ self.now.held }
     {
         &self.held
@@ -99,18 +99,18 @@ impl Packet {
     }
 
     /// A change marks it at place k.
-    #[tactic(auto, unfolding(crate::specs::Machine::struck))]
-    pub(crate) fn strike(&mut self, planned: &Planned, k: u32, tables: &Tables, change: &Change)
+    #[tactic(auto, unfolding(crate::specs::Machine::marked_by))]
+    pub(crate) fn mark_by(&mut self, planned: &Planned, k: u32, tables: &Tables, change: &Change)
         requires fits { AllFit tables.now.decls (program_of planned.now.program.now).sites }
         requires of { IsPacketOf (program_of planned.now.program.now) self.old }
-        ensures packet { self.new ≡ struck (build_of planned.now) tables.now k change.now self.old }
+        ensures packet { self.new ≡ marked_by (build_of planned.now) tables.now k change.now self.old }
         ensures of { IsPacketOf (program_of planned.now.program.now) self.new }
     {
-        strike_marks(planned, k, tables, &self.held, change, &mut self.marks);
+        mark_by_marks(planned, k, tables, &self.held, change, &mut self.marks);
     }
 
     /// Whether the mark of a site sends it back from place k.
-    fn is_due_at(&self, planned: &Planned, k: u32, j: usize) -> bool
+    fn must_reload_at(&self, planned: &Planned, k: u32, j: usize) -> bool
         requires site { j < length planned.now.program.now.sites.items }
         ensures { result ≡ (marked_at self.now j && known_on (slice_index planned.now.rows.items) k self.now.held (site_at (program_of planned.now.program.now).sites j)) }
     {
@@ -120,12 +120,12 @@ impl Packet {
     }
 
     /// Whether a mark whose guard is known as 1 sends it back from place k.
-    #[tactic(auto, using(crate::proofs::Numbered::any_on, crate::proofs::Numbered::any_here, crate::proofs::Numbered::any_past), unfolding(crate::specs::Machine::is_due))]
-    pub(crate) fn is_due(&self, planned: &Planned, k: u32) -> bool
-        ensures { result ≡ is_due (build_of planned.now) k self.now }
+    #[tactic(auto, using(crate::proofs::Numbered::any_on, crate::proofs::Numbered::any_here, crate::proofs::Numbered::any_past), unfolding(crate::specs::Machine::must_reload))]
+    pub(crate) fn must_reload(&self, planned: &Planned, k: u32) -> bool
+        ensures { result ≡ must_reload (build_of planned.now) k self.now }
     {
         for j in 0..planned.program.sites.len() {
-            if self.is_due_at(planned, k, j) {
+            if self.must_reload_at(planned, k, j) {
                 return true;
             }
         }
@@ -160,7 +160,7 @@ impl Packet {
     pub(crate) fn verdict(&self, program: &CellProgram) -> u32
         requires usable { IsUsable (program_of program.now) }
         requires of { IsPacketOf (program_of program.now) self.now }
-        ensures { result ≡ held_value self.now.held (program_of program.now).verdict }
+        ensures { result ≡ stage_value self.now.held (program_of program.now).verdict }
     {
         self.held.value(program.verdict as usize) as u32
     }
@@ -169,7 +169,7 @@ impl Packet {
     pub(crate) fn target(&self, program: &CellProgram) -> u32
         requires usable { IsUsable (program_of program.now) }
         requires of { IsPacketOf (program_of program.now) self.now }
-        ensures { result ≡ held_value self.now.held (program_of program.now).target }
+        ensures { result ≡ stage_value self.now.held (program_of program.now).target }
     {
         self.held.value(program.target as usize) as u32
     }
@@ -178,7 +178,7 @@ impl Packet {
     pub(crate) fn put_bytes(&self, program: &CellProgram, frame: &mut Arrived)
         requires usable { IsUsable (program_of program.now) }
         requires of { IsPacketOf (program_of program.now) self.now }
-        ensures { frame.new ≡ record frame.old { frame = with_bytes (held_value self.now.held) frame.old.frame (program_of program.now).frame } }
+        ensures { frame.new ≡ record frame.old { frame = with_bytes (stage_value self.now.held) frame.old.frame (program_of program.now).frame } }
     {
         for byte in &program.frame {
             frame.set(byte.at as usize, self.held.value(byte.cell as usize) as u8);
@@ -187,7 +187,7 @@ impl Packet {
 }
 
 /// The mark of a site where the rows up to one are there: none where its guard is known as 0.
-fn kept_mark(planned: &Planned, k: u32, held: &Held, j: usize, mark: bool) -> bool
+fn kept_mark(planned: &Planned, k: u32, held: &StageValues, j: usize, mark: bool) -> bool
     requires { j < length planned.now.program.now.sites.items }
     ensures { result ≡ (mark && not (known_off (slice_index planned.now.rows.items) k held.now (site_at (program_of planned.now.program.now).sites j))) }
 {
@@ -196,7 +196,7 @@ fn kept_mark(planned: &Planned, k: u32, held: &Held, j: usize, mark: bool) -> bo
 
 /// Drops the marks whose guard is known as 0.
 #[tactic(auto, using(crate::proofs::Numbered::made_none, crate::proofs::Numbered::made_more, crate::proofs::Numbered::made_all))]
-fn keep_marks(planned: &Planned, k: u32, held: &Held, marks: &mut Vec<bool>)
+fn keep_marks(planned: &Planned, k: u32, held: &StageValues, marks: &mut Vec<bool>)
     requires { length marks.old.items ≡ length planned.now.program.now.sites.items }
     ensures count { length marks.new.items ≡ length marks.old.items }
     ensures marks { let b = build_of planned.now in
@@ -208,11 +208,11 @@ fn keep_marks(planned: &Planned, k: u32, held: &Held, marks: &mut Vec<bool>)
 }
 
 /// The mark of a site after a change.
-fn struck_mark(
+fn marked_by_mark(
     planned: &Planned,
     k: u32,
     tables: &Tables,
-    held: &Held,
+    held: &StageValues,
     change: &Change,
     j: usize,
     mark: bool,
@@ -226,11 +226,11 @@ fn struck_mark(
 
 /// Marks the sites whose reads a change touches.
 #[tactic(auto, using(crate::proofs::Numbered::made_none, crate::proofs::Numbered::made_more, crate::proofs::Numbered::made_all))]
-fn strike_marks(
+fn mark_by_marks(
     planned: &Planned,
     k: u32,
     tables: &Tables,
-    held: &Held,
+    held: &StageValues,
     change: &Change,
     marks: &mut Vec<bool>,
 )
@@ -241,6 +241,6 @@ fn strike_marks(
         marks.new.items ≡ map_list (λ j. get_or marks.old.items j false || is_marked b.program b.plan.row tables.now.decls k held.now change.now j) (site_numbers b.program) }
 {
     for j in 0..planned.program.sites.len() {
-        marks[j] = struck_mark(planned, k, tables, held, change, j, marks[j]);
+        marks[j] = marked_by_mark(planned, k, tables, held, change, j, marks[j]);
     }
 }

@@ -8,10 +8,10 @@ ghost use Rattle.hazard_core.specs.cell_core.Formed.{AllFit};
 ghost use Rattle.hazard_core.specs.cell_core.View.{program_of};
 ghost use Rattle.hazard_core.specs.Tabled.{AreTables};
 ghost use Rattle.hazard_core.specs.Tables.{maps_of};
-ghost use Rattle.pipe_core.specs.Machine.{Packet, Commits, Writes, Moves, new_state, inside, place_at, swept, some_send, chosen, is_calm, is_ready, commits_or_moves, host_ready, host_writes, host_value, turn_as, worked, work, gathered, scattered, beat_over, shown_beat, taken_beat, clock, output};
+ghost use Rattle.pipe_core.specs.Machine.{Packet, Commits, Writes, Moves, new_state, inside, place_at, flushed, some_send, chosen, is_idle, is_ready, commits_or_moves, host_ready, host_writes, host_value, action_as, worked, work, gathered, scattered, beat_over, shown_beat, taken_beat, clock, output};
 ghost use Rattle.pipe_core.specs.Planned.{IsUsable};
 ghost use Rattle.pipe_core.specs.BuildView.{BuildView, build_in};
-ghost use Rattle.pipe_core.specs.Piped.{input_of, output_of, has_room};
+ghost use Rattle.pipe_core.specs.PipeView.{input_of, output_of, has_room};
 ghost use Rattle.pipe_core.specs.Points.{KeepsPoints};
 
 use crate::places::Places;
@@ -31,7 +31,7 @@ use row_plan::RowPlan;
 use std::alloc::{AllocError, Global};
 use std::marker::Model;
 
-/// A pipe: a program with its plan, the tables of its maps, the frames inside, and the packets in their places. Contracts see a `Piped`.
+/// A pipe: a program with its plan, the tables of its maps, the frames inside, and the packets in their places. Contracts see a `PipeView`.
 #[derive(Drop)]
 pub struct Pipe<'a> {
     tables: Tables,
@@ -43,11 +43,11 @@ pub struct Pipe<'a> {
 }
 
 impl<'a> Model for Pipe<'a> {
-    ghost use Rattle.pipe_core.specs.Piped.{Piped, IsSteady};
+    ghost use Rattle.pipe_core.specs.PipeView.{PipeView, IsSteady};
     ghost use Rattle.pipe_core.specs.StateView.{state_of};
     ghost use Rattle.pipe_core.specs.BuildView.{build_in};
 
-    ghost Value = { Piped };
+    ghost Value = { PipeView };
 
     ghost view = { λ p. record { build = p.places.build; state = state_of p.tables p.queue p.places.places p.done p.taken.items p.passed } };
 
@@ -55,25 +55,25 @@ impl<'a> Model for Pipe<'a> {
 }
 
 /// Whether the host need not wait, where there is a packet at the commit place or not.
-fn is_free(calm: bool, packet: bool, done: usize) -> bool
-    ensures { result ≡ (calm || not (packet && nat_lt 0 done)) }
+fn is_free(idle: bool, packet: bool, done: usize) -> bool
+    ensures { result ≡ (idle || not (packet && nat_lt 0 done)) }
 {
-    calm || !(packet && 0 < done)
+    idle || !(packet && 0 < done)
 }
 
 /// What the host is to write in a clock.
 fn host_writes(
     ready: bool,
-    calm: bool,
+    idle: bool,
     tables: &Tables,
     host: Option<Access>,
 ) -> Option<(Access, u64)>
-    ensures writes { result ≡ host_writes ready calm tables.now host }
+    ensures writes { result ≡ host_writes ready idle tables.now host }
     ensures map { IfSome result (λ w. w.0.map < length tables.now.decls) }
 {
     let access = host?;
     let number = access.write?;
-    if ready && may_write(tables, calm, access) {
+    if ready && may_write(tables, idle, access) {
         Some((access, number))
     } else {
         None
@@ -162,15 +162,15 @@ impl<'a> Pipe<'a> {
     }
 
     /// Whether no frame is inside, or has begun.
-    pub fn is_calm(&self) -> bool
-        ensures { result ≡ is_calm self.now.state }
+    pub fn is_idle(&self) -> bool
+        ensures { result ≡ is_idle self.now.state }
     {
-        self.queue.is_calm()
+        self.queue.is_idle()
     }
 
     /// Loads other maps while no frame is inside. An `Err` changes nothing.
     pub fn load(&mut self, alloc: Global, maps: &Maps) -> Result<(), AllocError>
-        requires calm { IsTrue (is_calm self.old.state) }
+        requires idle { IsTrue (is_idle self.old.state) }
         requires maps { length maps.now.decls < 2 ^ 32 }
         requires decls { maps.now.decls ≡ self.old.state.tables.decls }
         ensures ok { OnOk result (self.new ≡ record self.old { state = new_state (build_in self.old.build) maps.now }) }
@@ -216,16 +216,16 @@ impl<'a> Pipe<'a> {
     {
         let at = self.places.planned().commit as usize;
         let packet = has_packet(&self.places, at);
-        let calm = self.queue.is_calm();
-        is_free(calm, packet, self.done)
+        let idle = self.queue.is_idle();
+        is_free(idle, packet, self.done)
     }
 
     /// Empties each place that sends back, and all before it. The answer is whether one did.
-    fn sweep(&mut self) -> bool
-        ensures pipe { self.new ≡ record self.old { state = record self.old.state { places = swept (build_in self.old.build) 0 self.old.state.places } } }
+    fn flush(&mut self) -> bool
+        ensures pipe { self.new ≡ record self.old { state = record self.old.state { places = flushed (build_in self.old.build) 0 self.old.state.places } } }
         ensures some { result ≡ some_send (build_in self.old.build) 0 self.old.state.places }
     {
-        self.places.sweep()
+        self.places.flush()
     }
 
     /// The packet at the commit place does the operation of site j, and marks the packets before it.
@@ -241,7 +241,7 @@ impl<'a> Pipe<'a> {
             let change = change_by(planned.program, &self.tables, &self.taken, held, j);
             commit(planned.program, &mut self.tables, &mut self.taken, held, j);
             self.done = j + 1;
-            self.places.strike_below(at, &self.tables, &change);
+            self.places.mark_below(at, &self.tables, &change);
         }
     }
 
@@ -253,7 +253,7 @@ impl<'a> Pipe<'a> {
         let to = self.places.planned().commit as usize + 1;
         let change = host_change(&self.tables, access);
         write(&mut self.tables, access, number);
-        self.places.strike_below(to, &self.tables, &change);
+        self.places.mark_below(to, &self.tables, &change);
     }
 
     /// The packets move on: that of the last place answers the oldest frame, and the next frame that waits is injected.
@@ -282,9 +282,9 @@ impl<'a> Pipe<'a> {
     }
 
     /// The host writes, or that is done.
-    fn turn(&mut self, back: bool, writes: Option<(Access, u64)>)
+    fn action(&mut self, back: bool, writes: Option<(Access, u64)>)
         requires { IfSome writes (λ w. w.0.map < length self.old.state.tables.decls) }
-        ensures { self.new ≡ record self.old { state = worked (build_in self.old.build) self.old.state back self.old.state.places (turn_as (build_in self.old.build) self.old.state self.old.state.places writes) } }
+        ensures { self.new ≡ record self.old { state = worked (build_in self.old.build) self.old.state back self.old.state.places (action_as (build_in self.old.build) self.old.state self.old.state.places writes) } }
     {
         match writes {
             Some(write) => self.write(write.0, write.1),
@@ -296,14 +296,14 @@ impl<'a> Pipe<'a> {
     fn work(&mut self, input: &In) -> usize
         ensures pipe { self.new ≡ record self.old { state = work (build_in self.old.build) (input_of input.now) self.old.state } }
         ensures ready { is_ready (build_in self.old.build) self.new.state ≡ is_ready (build_in self.old.build) self.old.state }
-        ensures reloaded { result ≡ inside self.old.state.places - inside (swept (build_in self.old.build) 0 self.old.state.places) }
+        ensures reloaded { result ≡ inside self.old.state.places - inside (flushed (build_in self.old.build) 0 self.old.state.places) }
     {
         let ready = self.host_ready();
-        let writes = host_writes(ready, self.queue.is_calm(), &self.tables, input.host);
+        let writes = host_writes(ready, self.queue.is_idle(), &self.tables, input.host);
         let before = self.places.count();
-        let back = self.sweep();
+        let back = self.flush();
         let after = self.places.count();
-        self.turn(back, writes);
+        self.action(back, writes);
         before - after
     }
 

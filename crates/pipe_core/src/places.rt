@@ -5,10 +5,10 @@ ghost use Rattle.std.proofs.Common.{get_or};
 ghost use Rattle.std.specs.Option.{ForSome, option_map};
 ghost use Rattle.hazard_core.specs.cell_core.Formed.{AllFit};
 ghost use Rattle.hazard_core.specs.cell_core.View.{program_of};
-ghost use Rattle.pipe_core.specs.Machine.{injected, inside, place_at, no_frame, sends, some_send, swept, enters, moved, newcomer, struck, struck_below};
+ghost use Rattle.pipe_core.specs.Machine.{injected, inside, place_at, no_frame, sends, some_send, flushed, enters, moved, newcomer, marked_by, marked_below};
 ghost use Rattle.pipe_core.specs.BuildView.{build_in};
 ghost use Rattle.pipe_core.specs.Planned.{planned_view, build_of, arrival_of, IsUsable, IsPacketOf};
-ghost use Rattle.pipe_core.specs.Stocked.{in_place, AreStocked};
+ghost use Rattle.pipe_core.specs.StageMemory.{in_place, HaveStageMemory};
 
 use crate::arrived::{Arrived, source_at};
 use crate::packet::Packet;
@@ -24,7 +24,7 @@ use std::mem;
 
 /// A place with the memory of a packet, and whether there is one in it.
 #[derive(Drop)]
-pub(crate) struct Place {
+pub(crate) struct Stage {
     packet: Packet,
     used: bool,
 }
@@ -34,8 +34,8 @@ pub(crate) struct Place {
 #[derive(Drop)]
 pub struct Places<'a> {
     planned: Planned<'a>,
-    places: Vec<Place>,
-    next: Place,
+    places: Vec<Stage>,
+    next: Stage,
     /// Any packet, for the operators that look at none.
     other: PacketIn,
 }
@@ -45,13 +45,13 @@ impl<'a> Model for Places<'a> {
     ghost use Rattle.hazard_core.specs.cell_core.View.{program_of};
     ghost use Rattle.pipe_core.specs.PlacesView.{PlacesView};
     ghost use Rattle.pipe_core.specs.Planned.{planned_view, IsUsable, IsPacketOf};
-    ghost use Rattle.pipe_core.specs.Stocked.{in_place, AreStocked};
+    ghost use Rattle.pipe_core.specs.StageMemory.{in_place, HaveStageMemory};
 
     ghost Value = { PlacesView };
 
     ghost view = { λ p. record { build = planned_view p.planned; places = map_list in_place p.places.items } };
 
-    ghost invariant = { λ p. IsUsable (program_of p.planned.program.now) × (length p.places.items ≡ suc p.planned.last) × AreStocked (program_of p.planned.program.now) p.places.items × IsPacketOf (program_of p.planned.program.now) p.next.packet };
+    ghost invariant = { λ p. IsUsable (program_of p.planned.program.now) × (length p.places.items ≡ suc p.planned.last) × HaveStageMemory (program_of p.planned.program.now) p.places.items × IsPacketOf (program_of p.planned.program.now) p.next.packet };
 }
 
 impl<'a> Places<'a> {
@@ -85,11 +85,11 @@ impl<'a> Places<'a> {
     }
 
     /// Empties each place that sends back, and all before it. The answer is whether one did.
-    pub(crate) fn sweep(&mut self) -> bool
-        ensures places { self.new ≡ record self.old { places = swept (build_in self.old.build) 0 self.old.places } }
+    pub(crate) fn flush(&mut self) -> bool
+        ensures places { self.new ≡ record self.old { places = flushed (build_in self.old.build) 0 self.old.places } }
         ensures some { result ≡ some_send (build_in self.old.build) 0 self.old.places }
     {
-        sweep_places(&self.planned, &mut self.places)
+        flush_places(&self.planned, &mut self.places)
     }
 
     /// How many packets there are.
@@ -113,11 +113,11 @@ impl<'a> Places<'a> {
     }
 
     /// A change marks the packets below a place.
-    pub(crate) fn strike_below(&mut self, to: usize, tables: &Tables, change: &Change)
+    pub(crate) fn mark_below(&mut self, to: usize, tables: &Tables, change: &Change)
         requires { AllFit tables.now.decls self.old.build.program.sites }
-        ensures { self.new ≡ record self.old { places = struck_below to (build_in self.old.build) tables.now change.now 0 self.old.places } }
+        ensures { self.new ≡ record self.old { places = marked_below to (build_in self.old.build) tables.now change.now 0 self.old.places } }
     {
-        strike_places(&self.planned, to, tables, change, &mut self.places);
+        mark_places(&self.planned, to, tables, change, &mut self.places);
     }
 
     /// Each packet moves one place on, and the next frame that waits is injected, where nothing was sent back. The packet of the last place
@@ -141,20 +141,20 @@ impl<'a> Places<'a> {
 }
 
 /// A place without a packet.
-fn empty_place(alloc: Global, planned: &Planned) -> Result<Place, AllocError>
+fn empty_place(alloc: Global, planned: &Planned) -> Result<Stage, AllocError>
     ensures empty { IfOk result (λ p. in_place p ≡ None) }
     ensures of { IfOk result (λ p. IsPacketOf (program_of planned.now.program.now) p.packet) }
 {
-    Ok(Place {
+    Ok(Stage {
         packet: Packet::new(alloc, planned.program)?,
         used: false,
     })
 }
 
 /// As many as the plan has.
-fn empty_places(alloc: Global, planned: &Planned) -> Result<Vec<Place>, AllocError>
+fn empty_places(alloc: Global, planned: &Planned) -> Result<Vec<Stage>, AllocError>
     ensures places { IfOk result (λ ps. map_list in_place ps.items ≡ replicate (suc planned.now.last) None) }
-    ensures of { IfOk result (λ ps. AreStocked (program_of planned.now.program.now) ps.items) }
+    ensures of { IfOk result (λ ps. HaveStageMemory (program_of planned.now.program.now) ps.items) }
     ensures count { IfOk result (λ ps. length ps.items ≡ suc planned.now.last) }
 {
     let mut places = Vec::new(alloc);
@@ -167,7 +167,7 @@ fn empty_places(alloc: Global, planned: &Planned) -> Result<Vec<Place>, AllocErr
 
 /// How many places have a packet.
 #[tactic(auto, using(crate::proofs::Moving::count_step, crate::proofs::Moving::count_past))]
-fn count_used(places: &[Place]) -> usize
+fn count_used(places: &[Stage]) -> usize
     ensures count { result ≡ inside (map_list in_place places.now) }
     ensures few { result ≤ length places.now }
 {
@@ -181,15 +181,15 @@ fn count_used(places: &[Place]) -> usize
 }
 
 /// Whether place k sends back.
-fn sends(planned: &Planned, k: u32, place: &Place) -> bool
+fn sends(planned: &Planned, k: u32, place: &Stage) -> bool
     requires { IsPacketOf (program_of planned.now.program.now) place.now.packet }
     ensures { result ≡ sends (build_of planned.now) k (in_place place.now) }
 {
-    place.used && k <= planned.commit && place.packet.is_due(planned, k)
+    place.used && k <= planned.commit && place.packet.must_reload(planned, k)
 }
 
-/// Empties place k if it sends back, or one behind it did. The answer is whether it is so.
-fn sweep_place(planned: &Planned, k: u32, back: bool, place: &mut Place) -> bool
+/// Empties place k if it sends back, or one after it did. The answer is whether it is so.
+fn flush_place(planned: &Planned, k: u32, back: bool, place: &mut Stage) -> bool
     requires { IsPacketOf (program_of planned.now.program.now) place.old.packet }
     ensures back { result ≡ (back || sends (build_of planned.now) k (in_place place.old)) }
     ensures place { in_place place.new ≡ (if result then None else in_place place.old) }
@@ -201,12 +201,12 @@ fn sweep_place(planned: &Planned, k: u32, back: bool, place: &mut Place) -> bool
 }
 
 /// Empties each place that sends back, and all before it.
-#[tactic(auto, using(crate::proofs::Moving::sweep_none, crate::proofs::Moving::send_none))]
-fn sweep_places(planned: &Planned, places: &mut Vec<Place>) -> bool
+#[tactic(auto, using(crate::proofs::Moving::flush_none, crate::proofs::Moving::send_none))]
+fn flush_places(planned: &Planned, places: &mut Vec<Stage>) -> bool
     requires few { length places.old.items ≤ 2 ^ 32 }
-    requires of { AreStocked (program_of planned.now.program.now) places.old.items }
-    ensures places { map_list in_place places.new.items ≡ swept (build_of planned.now) 0 (map_list in_place places.old.items) }
-    ensures of { AreStocked (program_of planned.now.program.now) places.new.items }
+    requires of { HaveStageMemory (program_of planned.now.program.now) places.old.items }
+    ensures places { map_list in_place places.new.items ≡ flushed (build_of planned.now) 0 (map_list in_place places.old.items) }
+    ensures of { HaveStageMemory (program_of planned.now.program.now) places.new.items }
     ensures count { length places.new.items ≡ length places.old.items }
     ensures some { result ≡ some_send (build_of planned.now) 0 (map_list in_place places.old.items) }
 {
@@ -214,48 +214,48 @@ fn sweep_places(planned: &Planned, places: &mut Vec<Place>) -> bool
     let mut k = places.len();
     while k > 0 {
         k -= 1;
-        back = sweep_place(planned, k as u32, back, &mut places[k]);
+        back = flush_place(planned, k as u32, back, &mut places[k]);
     }
     back
 }
 
 /// A change marks the packet in place k, if there is one and the place is below another.
-fn strike_place(
+fn mark_place(
     planned: &Planned,
     to: usize,
     k: u32,
     tables: &Tables,
     change: &Change,
-    place: &mut Place,
+    place: &mut Stage,
 )
     requires fits { AllFit tables.now.decls (program_of planned.now.program.now).sites }
     requires of { IsPacketOf (program_of planned.now.program.now) place.old.packet }
-    ensures place { in_place place.new ≡ (if nat_lt k to then option_map (struck (build_of planned.now) tables.now k change.now) (in_place place.old) else in_place place.old) }
+    ensures place { in_place place.new ≡ (if nat_lt k to then option_map (marked_by (build_of planned.now) tables.now k change.now) (in_place place.old) else in_place place.old) }
     ensures of { IsPacketOf (program_of planned.now.program.now) place.new.packet }
 {
     if (k as usize) < to && place.used {
-        place.packet.strike(planned, k, tables, change);
+        place.packet.mark_by(planned, k, tables, change);
     }
 }
 
 /// A change marks the packets below a place.
-#[tactic(auto, using(crate::proofs::Moving::strike_step, crate::proofs::Moving::strike_all))]
-fn strike_places(
+#[tactic(auto, using(crate::proofs::Moving::mark_step, crate::proofs::Moving::mark_all))]
+fn mark_places(
     planned: &Planned,
     to: usize,
     tables: &Tables,
     change: &Change,
-    places: &mut Vec<Place>,
+    places: &mut Vec<Stage>,
 )
     requires few { length places.old.items ≤ 2 ^ 32 }
     requires fits { AllFit tables.now.decls (program_of planned.now.program.now).sites }
-    requires of { AreStocked (program_of planned.now.program.now) places.old.items }
-    ensures places { map_list in_place places.new.items ≡ struck_below to (build_of planned.now) tables.now change.now 0 (map_list in_place places.old.items) }
-    ensures of { AreStocked (program_of planned.now.program.now) places.new.items }
+    requires of { HaveStageMemory (program_of planned.now.program.now) places.old.items }
+    ensures places { map_list in_place places.new.items ≡ marked_below to (build_of planned.now) tables.now change.now 0 (map_list in_place places.old.items) }
+    ensures of { HaveStageMemory (program_of planned.now.program.now) places.new.items }
     ensures count { length places.new.items ≡ length places.old.items }
 {
     for k in 0..places.len() {
-        strike_place(planned, to, k as u32, tables, change, &mut places[k]);
+        mark_place(planned, to, k as u32, tables, change, &mut places[k]);
     }
 }
 
@@ -266,8 +266,8 @@ fn move_place(
     tables: &Tables,
     source: &Source,
     other: &PacketIn,
-    moving: &mut Place,
-    place: &mut Place,
+    moving: &mut Stage,
+    place: &mut Stage,
 )
     requires usable { IsUsable (program_of planned.now.program.now) }
     requires fits { AllFit tables.now.decls (program_of planned.now.program.now).sites }
@@ -289,17 +289,17 @@ fn move_places(
     tables: &Tables,
     frames: &[Arrived],
     other: &PacketIn,
-    moving: &mut Place,
-    places: &mut Vec<Place>,
+    moving: &mut Stage,
+    places: &mut Vec<Stage>,
 )
     requires few { length places.old.items ≤ 2 ^ 32 }
     requires usable { IsUsable (program_of planned.now.program.now) }
     requires fits { AllFit tables.now.decls (program_of planned.now.program.now).sites }
     requires moving { IsPacketOf (program_of planned.now.program.now) moving.old.packet }
-    requires of { AreStocked (program_of planned.now.program.now) places.old.items }
+    requires of { HaveStageMemory (program_of planned.now.program.now) places.old.items }
     ensures places { map_list in_place places.new.items ≡ moved (build_of planned.now) tables.now frames.now 0 (in_place moving.old) (map_list in_place places.old.items) }
     ensures moving { IsPacketOf (program_of planned.now.program.now) moving.new.packet }
-    ensures of { AreStocked (program_of planned.now.program.now) places.new.items }
+    ensures of { HaveStageMemory (program_of planned.now.program.now) places.new.items }
     ensures count { length places.new.items ≡ length places.old.items }
 {
     let mut older = count_used(places);

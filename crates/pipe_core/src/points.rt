@@ -15,6 +15,6 @@ pub fn points()
     laws::right();
     laws::runs_in_turn();
     laws::ahead();
-    laws::blamed();
+    laws::change_causes();
     laws::found();
 }

@@ -5,7 +5,7 @@ ghost use Rattle.std.specs.Option.{ForSome, option_map};
 ghost use Rattle.hazard_core.specs.cell_core.View.{program_of};
 ghost use Rattle.realization.specs.beat_core.Ports.{arrived, offered};
 ghost use Rattle.pipe_core.specs.Machine.{beat_at, first_answer};
-ghost use Rattle.pipe_core.specs.Queued.{nothing_queued, has_slot, came_bytes, gathered_as, given_as, left_frames, left_word, answered_as};
+ghost use Rattle.pipe_core.specs.FrameQueue.{empty_frame_queue, has_slot, came_bytes, gathered_as, given_as, left_frames, left_word, answered_as};
 ghost use Rattle.pipe_core.specs.Planned.{IsUsable, IsPacketOf};
 ghost use Rattle.pipe_core.specs.declared.arrived.TheConstants.{FRAME_ROOM};
 
@@ -18,7 +18,7 @@ use std::alloc::{AllocError, Global};
 use std::marker::Model;
 
 /// The frames without an answer and the answers that are not given wholly, each the oldest first, and the frame of which the last beat has
-/// not come. Each has a buffer of its own. Contracts see a `Queued`.
+/// not come. Each has a buffer of its own. Contracts see a `FrameQueue`.
 #[derive(Drop)]
 pub struct Queue {
     answers: Vec<Answered>,
@@ -32,9 +32,9 @@ pub struct Queue {
 impl Model for Queue {
     ghost use Rattle.std.specs.Prelude.{is_some, length, vec_capacity};
     ghost use Rattle.hazard_core.specs.cell_core.Cells.{bit};
-    ghost use Rattle.pipe_core.specs.Queued.{Queued, AreHoused};
+    ghost use Rattle.pipe_core.specs.FrameQueue.{FrameQueue, AreHoused};
 
-    ghost Value = { Queued };
+    ghost Value = { FrameQueue };
 
     ghost view = { λ q. record { answers = q.answers.items; pos = q.pos; frames = q.frames.items; part = q.part; slots = q.slots } };
 
@@ -56,7 +56,7 @@ fn buffers(alloc: Global, count: usize) -> Result<Vec<Arrived>, AllocError>
 impl Queue {
     /// Nothing is inside.
     pub fn new(alloc: Global, slots: usize) -> Result<Queue, AllocError>
-        ensures { IfOk result (λ q. q ≡ nothing_queued slots) }
+        ensures { IfOk result (λ q. q ≡ empty_frame_queue slots) }
     {
         Ok(Queue {
             answers: Vec::with_capacity(alloc, slots)?,
@@ -76,7 +76,7 @@ impl Queue {
     }
 
     /// Whether no frame is inside, or has begun.
-    pub fn is_calm(&self) -> bool
+    pub fn is_idle(&self) -> bool
         ensures { result ≡ (not (is_some self.now.part) && nat_lt (length self.now.answers + length self.now.frames) 1) }
     {
         self.part.is_none() && self.answers.is_empty() && self.frames.is_empty()

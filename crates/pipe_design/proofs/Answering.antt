@@ -1,6 +1,6 @@
 -- What stands for the answer of a program.
 use Rattle.std.specs.Prelude.{◌==◌, ◌/◌, Contains}
-use Rattle.std.proofs.Common.{◌≡◌, ◌∙◌, ℕ, zero, suc, ◌+◌, ◌<◌, true, Option, All, List, [], ◌∷◌, ◌++◌, length, map, take, get_or, sym, ap, subst, arith}
+use Rattle.std.proofs.Common.{◌≡◌, ◌∙◌, ℕ, ◌+◌, ◌<◌, true, Option, All, List, [], ◌∷◌, ◌++◌, length, map, take, get_or, sym, ap, subst, arith}
 use Rattle.std.proofs.lemmas.Bool.{eq-eqb}
 use Rattle.std.proofs.lemmas.List.{get_or-map, length-map, map_push, take_more}
 use Rattle.std.proofs.lemmas.List.Folds.{list_any_at}
@@ -14,11 +14,6 @@ use Rattle.row_net.specs.PlaceNet.Exit.{byte_number}
 use Rattle.pipe_net.specs.declared.parts.Part.{Part}
 use Rattle.pipe_design.specs.Answer.{IsByteIn, has_byte, changed_words}
 use Rattle.pipe_design.proofs.Listing.{kept_there}
-
-pub stands_inside : {N : Type 0} (table : List (Option (Operand N))) (k : ℕ) (a : Operand N) → Stands table k a → k < length table
-stands_inside [] k a s = cc
-stands_inside (x ∷ table) zero a s = omega arith
-stands_inside (x ∷ table) (suc k) a s = omega (arith, stands_inside table k a s)
 
 pub mapped_in : {X Y : Type 0} (f : X → Y) (xs : List X) (x : X) → Contains xs x → Contains (map f xs) (f x)
 mapped_in f xs x (i, lt, e) = (i, omega (arith, lt, length-map xs f), get_or-map f xs i x (f x) lt ∙ ap f e)

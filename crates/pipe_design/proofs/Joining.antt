@@ -1,6 +1,6 @@
 -- Lists one after another, and all elements of an iterator.
 use Rattle.std.proofs.Common.{◌≡◌, ◌∙◌, ◌⊎◌, inl, inr, ℕ, zero, suc, ◌+◌, ◌*◌, ◌<◌, List, [], ◌∷◌, ◌++◌, length, map as map_list, get_or, append_assoc, append-nil, length-append, refl, sym, ap, subst, arith}
-use Rattle.std.proofs.lemmas.List.{map-append, get_or_append_left, get_or-append-add, get_or_push, length_push}
+use Rattle.std.proofs.lemmas.List.{map-append, get_or_append_left, get_or-append-add, get_or_push}
 use Rattle.std.proofs.lemmas.Bool.{cases_lt}
 use Rattle.std.specs.List.{remove}
 use Rattle.block_core.specs.Blocks.{Among}
@@ -29,20 +29,11 @@ number_at from zero k d lt = absurd (omega arith)
 number_at from (suc n) zero d lt = omega arith
 number_at from (suc n) (suc k) d lt = omega (arith, number_at (suc from) n k d (omega arith))
 
-pub numbers_long : (from n : ℕ) → length (numbers from n) ≡ n
-numbers_long from zero = refl
-numbers_long from (suc n) = omega (arith, numbers_long (suc from) n)
-
 -- ---- where an element stands
 pub among_at : {X : Type 0} (xs : List X) (x : X) → Among x xs → (k : ℕ) × (k < length xs) × ((e : X) → get_or xs k e ≡ x)
 among_at [] x h = absurd h
 among_at (y ∷ ys) x (inl e) = (0, omega arith, λ d. sym e)
 among_at (y ∷ ys) x (inr h) = let c = among_at ys x h in (suc c.0, omega (arith, c.1), c.2)
-
--- a list that has an element is not empty
-pub some_of : {X : Type 0} (xs : List X) (n : ℕ) → n < length xs → X
-some_of [] n lt = absurd (omega (arith, lt))
-some_of (x ∷ xs) n lt = x
 
 -- ---- where the elements of one of several lists stand among all
 abbrev pub before : {X : Type 0} → List (List X) → ℕ → ℕ
@@ -86,17 +77,6 @@ module _ {X Y Z : Type 0} (f : X → Y → List Z) (six : (x : X) (y : Y) → le
       ap (λ n. get_or (f a b ++ pairwise f xs ys) n d) is ∙ get_or-append-add (f a b) (pairwise f xs ys) (6 * m + j) d ∙ six_at xs ys m j x y d (omega (arith, e)) (omega (arith, lt)) few
 
 -- ---- one element more at the end
-pub each_more : {X : Type 0} (P : ℕ → X → Type 0) (xs : List X) (n : ℕ) (x : X) → length xs ≡ n → ((k : ℕ) (d : X) → k < n → P k (get_or xs k d)) → P n x → (k : ℕ) (d : X) → k < n + 1 → P k (get_or (xs ++ x ∷ []) k d)
-each_more P xs n x count each last k d lt = elim (cases_lt k n) [
-  | inl l ↦ subst (P k) (sym (get_or_append_left xs (x ∷ []) d k (omega (arith, l, count)))) (each k d l)
-  | inr g ↦
-      let e : k ≡ n = omega (arith, g, lt) in
-      let is : get_or (xs ++ x ∷ []) k d ≡ x = get_or_push xs x d k (count ∙ sym e) in
-      subst (P k) (sym is) (subst (λ m. P m x) (sym e) last)
-]
-
-pub one_more : {X : Type 0} (xs : List X) (n : ℕ) (x : X) → length xs ≡ n → length (xs ++ x ∷ []) ≡ n + 1
-one_more xs n x count = length_push xs x ∙ ap (λ m. m + 1) count
 
 -- of two lists side by side
 pub both_more : {X Y : Type 0} (P : ℕ → X → Y → Type 0) (xs : List X) (ys : List Y) (n : ℕ) (x : X) (y : Y) → length xs ≡ n → length ys ≡ n → ((k : ℕ) (a : X) (b : Y) → k < n → P k (get_or xs k a) (get_or ys k b)) → P n x y

@@ -4,9 +4,9 @@ mod Listing
 mod Answering
 mod Reached
 mod Placing
-mod Drafted
+mod PipelinePlanned
 mod Marking
-mod Turning
+mod Acting
 mod Naming
 mod Whole
 mod Made

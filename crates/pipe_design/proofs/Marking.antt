@@ -1,4 +1,4 @@
--- What marks are made for, of a draft.
+-- What marks are made for, of a pipeline plan.
 use Rattle.std.specs.Prelude.{◌^◌}
 use Rattle.std.proofs.Common.{◌≡◌, ◌∙◌, ℕ, ◌+◌, ◌<◌, ◌≤◌, All, List, length, get_or, sym, ap, subst, arith}
 use Rattle.std.proofs.lemmas.List.{length-map, get_or_default}
@@ -13,16 +13,16 @@ use Rattle.stage_net.specs.SiteTable.Sites.{operand_at}
 use Rattle.pipe_net.specs.declared.parts.Part.{Part}
 use Rattle.pipe_net.specs.declared.parts.Sizes.{Sizes}
 use Rattle.pipe_net.specs.Parts.{IsSmall}
-use Rattle.pipe_parts.specs.declared.pipe_draft.draft.Draft.{Draft}
-use Rattle.pipe_parts.specs.declared.pipe_draft.places.Behind.{Behind}
-use Rattle.pipe_parts.specs.PipeDraft.Draft.{program_in, plan_in, IsDraft}
+use Rattle.pipe_parts.specs.declared.pipe_draft.pipeline_plan.PipelinePlan.{PipelinePlan}
+use Rattle.pipe_parts.specs.declared.pipe_draft.places.StageSources.{StageSources}
+use Rattle.pipe_parts.specs.PipeDraft.PipelinePlan.{program_in, plan_in, IsPipelinePlan}
 use Rattle.pipe_parts.specs.PipeDraft.Places.{ArePlaces}
 use Rattle.place_parts.specs.declared.mark_parts.layout.MarkLayout.{MarkLayout}
 use Rattle.place_parts.specs.MarkParts.Places as marks
 use Rattle.place_parts.specs.MarkParts.Places.{IsMarkLayout, HaveOperands}
 use Rattle.pipe_design.specs.Marks.{IsMarkLayoutOf}
 
-module _ (d : Draft) (is : IsDraft d) (f : MarkLayout) (of : IsMarkLayoutOf d f) where
+module _ (d : PipelinePlan) (is : IsPipelinePlan d) (f : MarkLayout) (of : IsMarkLayoutOf d f) where
   program : marks.program_in f ≡ program_in d
   program = ap program_of of.program
 
@@ -37,8 +37,8 @@ module _ (d : Draft) (is : IsDraft d) (f : MarkLayout) (of : IsMarkLayoutOf d f)
   pub up : (k : ℕ) → k < d.sizes.commit + 1 → k ≤ (plan_in d).last
   up k lt = omega (arith, lt, ap (λ (z : Sizes). z.commit) is.sizes, is.ready.commit)
 
-  module _ (places : List Behind) (stand : ArePlaces d places) (k : ℕ) (b : Behind) (le : k ≤ (plan_in d).last) where
-    abbrev here : Behind
+  module _ (places : List StageSources) (stand : ArePlaces d places) (k : ℕ) (b : StageSources) (le : k ≤ (plan_in d).last) where
+    abbrev here : StageSources
     here = get_or places k b
 
     has : (j : ℕ) (s : SiteNets (Name Part)) → j < length here.sites.items → j < length (program_in d).sites
@@ -57,5 +57,5 @@ module _ (d : Draft) (is : IsDraft d) (f : MarkLayout) (of : IsMarkLayoutOf d f)
         }
 
 -- ---- the operands that are read are those of the place
-pub sites_at : (places : List Behind) (k : ℕ) (x b : Behind) (sites : List (SiteNets (Name Part))) → k < length places → sites ≡ (get_or places k x).sites.items → sites ≡ (get_or places k b).sites.items
-sites_at places k x b sites lt h = h ∙ ap (λ (y : Behind). y.sites.items) (get_or_default places k x b lt)
+pub sites_at : (places : List StageSources) (k : ℕ) (x b : StageSources) (sites : List (SiteNets (Name Part))) → k < length places → sites ≡ (get_or places k x).sites.items → sites ≡ (get_or places k b).sites.items
+sites_at places k x b sites lt h = h ∙ ap (λ (y : StageSources). y.sites.items) (get_or_default places k x b lt)

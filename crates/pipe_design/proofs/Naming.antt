@@ -10,7 +10,7 @@ use Rattle.net_core.specs.declared.design.Design.{Design}
 use Rattle.net_core.specs.declared.design.Port.{Port}
 use Rattle.net_core.specs.View.{netlist_of}
 use Rattle.net_core.specs.Ports.{port_list, port_names}
-use Rattle.net_core.specs.ProductRules.Products.{products_apart}
+use Rattle.net_core.specs.ProductRules.Products.{no_product_chains}
 use Rattle.block_core.specs.design_rules.Formed.{IsWellFormed}
 use Rattle.block_core.specs.declared.name.Name.{Name}
 use Rattle.block_core.specs.declared.block.Placed.{Placed}
@@ -26,7 +26,7 @@ use Rattle.pipe_net.specs.declared.parts.Sizes.{Sizes}
 use Rattle.pipe_net.specs.Parts.{part_place}
 use Rattle.pipe_net.specs.Layout.{Layout}
 use Rattle.pipe_net.specs.PipeForms.Parts.{outputs_of, design, names_of}
-use Rattle.pipe_net.specs.PipeForms.Forming.{PipelinesAreFormed, ProductsAreApart}
+use Rattle.pipe_net.specs.PipeForms.Forming.{PipelinesAreFormed, HaveNoProductChains}
 use Rattle.pipe_design.specs.Linking.{IsLinked, shown_outputs}
 
 -- ---- what the outputs show is what those of the pipeline do
@@ -88,8 +88,8 @@ module _ (r : Result Design LinkError) (z : Sizes) (words : ℕ) (parts : List (
   pub linked_design : IfOk r IsDesign
   linked_design = IfOk-weaker r _ _ is_design linked
 
-  pub linked_apart : ProductsAreApart → IfOk r (λ n. (l : Layout) (d : Whole Part) → IsOf l d → IsTrue (products_apart (netlist_of n)))
-  linked_apart law = IfOk-weaker r _ _ (λ n is l d h. ap products_apart (is l d h) ∙ law l d h.parts (names_of d)) linked_design
+  pub linked_apart : HaveNoProductChains → IfOk r (λ n. (l : Layout) (d : Whole Part) → IsOf l d → IsTrue (no_product_chains (netlist_of n)))
+  linked_apart law = IfOk-weaker r _ _ (λ n is l d h. ap no_product_chains (is l d h) ∙ law l d h.parts (names_of d)) linked_design
 
   well_formed : PipelinesAreFormed → LinkedIsWellFormed Part → NumbersAreNames Part → (l : Layout) (d : Whole Part) → IsOf l d → ((IsTrue (design_in_range d (outputs_of l)) → ⊥) → ⊥) → IsWellFormed (design l d (names_of d))
   well_formed law forms numbers l d h fits =

@@ -7,12 +7,12 @@ use Rattle.block_core.specs.declared.block.Placed.{Placed}
 use Rattle.block_core.specs.Blocks.{BlockTree, Among}
 use Rattle.block_core.specs.View.{block_of, Makes}
 use Rattle.hazard_core.specs.cell_core.Rows.{numbers}
-use Rattle.hazard_core.proofs.cell_core_laws.NumberLaws.{numbers_more}
+use Rattle.hazard_core.proofs.cell_core_laws.NumberLaws.{numbers_more, numbers_long}
 use Rattle.pipe_net.specs.declared.parts.Part.{Part}
 use Rattle.pipe_net.specs.declared.parts.Sizes.{Sizes}
 use Rattle.pipe_net.specs.Parts.{part, part_place, part_count}
 use Rattle.pipe_design.specs.Order.{Lists, all_of, no_block, whole_of, AreNumbered}
-use Rattle.pipe_design.proofs.Joining.{number_at, numbers_long, among_at}
+use Rattle.pipe_design.proofs.Joining.{number_at, among_at}
 
 abbrev part_in : Placed Part → Part
 part_in m = m.part

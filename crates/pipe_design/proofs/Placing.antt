@@ -23,7 +23,7 @@ use Rattle.pipe_design.proofs.Joining.{before, in_list, all_long, six_long, six_
 
 -- there are as many of each sort as there are parts
 pub record AreCounted (z : Sizes) (slots : List SlotsPart) (o : Others) : Type 0 where
-  pub dues : length o.dues.items ≡ suc z.commit
+  pub reloads : length o.reloads.items ≡ suc z.commit
   pub shown : length slots ≡ z.maps
   pub words : length o.places.words.items ≡ z.loads
   pub targets : length o.targets.items ≡ z.maps
@@ -43,8 +43,8 @@ module _ (z : Sizes) (slots : List SlotsPart) (o : Others) (counts : AreCounted 
   whole = whole_of z lists
 
   -- ---- how many there are in each list
-  many_dues : length (map_list block_of o.dues.items) ≡ suc z.commit
-  many_dues = length-map o.dues.items block_of ∙ counts.dues
+  many_reloads : length (map_list block_of o.reloads.items) ≡ suc z.commit
+  many_reloads = length-map o.reloads.items block_of ∙ counts.reloads
 
   many_slots : length (map_list (λ (x : SlotsPart). block_of x.block) slots) ≡ z.maps
   many_slots = length-map slots (λ (x : SlotsPart). block_of x.block) ∙ counts.shown
@@ -66,41 +66,41 @@ module _ (z : Sizes) (slots : List SlotsPart) (o : Others) (counts : AreCounted 
 
   -- ---- where each list begins
   from_slots : before lists 3 ≡ 4 + z.commit
-  from_slots = omega (arith, many_dues)
+  from_slots = omega (arith, many_reloads)
 
   from_words : before lists 4 ≡ 4 + z.commit + z.maps
-  from_words = omega (arith, from_slots, many_dues, many_slots)
+  from_words = omega (arith, from_slots, many_reloads, many_slots)
 
   from_targets : before lists 5 ≡ behind_words z
-  from_targets = omega (arith, many_dues, many_slots, many_words)
+  from_targets = omega (arith, many_reloads, many_slots, many_words)
 
-  from_turns : before lists 6 ≡ behind_words z + z.maps
-  from_turns = omega (arith, many_dues, many_slots, many_words, many_targets)
+  from_actions : before lists 6 ≡ behind_words z + z.maps
+  from_actions = omega (arith, many_reloads, many_slots, many_words, many_targets)
 
   from_maps : before lists 7 ≡ behind_words z + z.maps + 3
-  from_maps = omega (arith, many_dues, many_slots, many_words, many_targets)
+  from_maps = omega (arith, many_reloads, many_slots, many_words, many_targets)
 
   from_control : before lists 8 ≡ behind_maps z
-  from_control = omega (arith, many_dues, many_slots, many_words, many_targets, many_maps)
+  from_control = omega (arith, many_reloads, many_slots, many_words, many_targets, many_maps)
 
   from_marks : before lists 9 ≡ behind_maps z + 1
-  from_marks = omega (arith, many_dues, many_slots, many_words, many_targets, many_maps)
+  from_marks = omega (arith, many_reloads, many_slots, many_words, many_targets, many_maps)
 
   from_answers : before lists 10 ≡ behind_maps z + z.commit + 2
-  from_answers = omega (arith, many_dues, many_slots, many_words, many_targets, many_maps, many_marks)
+  from_answers = omega (arith, many_reloads, many_slots, many_words, many_targets, many_maps, many_marks)
 
   from_places : before lists 11 ≡ behind_maps z + z.commit + 5
-  from_places = omega (arith, many_dues, many_slots, many_words, many_targets, many_maps, many_marks)
+  from_places = omega (arith, many_reloads, many_slots, many_words, many_targets, many_maps, many_marks)
 
   pub all_counted : length (all_of lists) ≡ part_count z
-  all_counted = all_long lists ∙ omega (arith, many_dues, many_slots, many_words, many_targets, many_maps, many_marks, many_places)
+  all_counted = all_long lists ∙ omega (arith, many_reloads, many_slots, many_words, many_targets, many_maps, many_marks, many_places)
 
   -- ---- the blocks of parts by their numbers
   at : (i j n : ℕ) → j < length (get_or lists i []) → n ≡ before lists i + j → whole.block (part.part n) ≡ get_or (get_or lists i []) j no_block
   at i j n lt e = ap (λ k. get_or (all_of lists) k no_block) e ∙ in_list lists i j no_block lt
 
-  pub due_at : (k : ℕ) (x : Block (Name Part)) → k ≤ z.commit → whole.block (part.due k) ≡ block_of (get_or o.dues.items k x)
-  due_at k x le = at 1 k (1 + k) (omega (arith, many_dues, le)) (omega arith) ∙ get_or-map block_of o.dues.items k x no_block (omega (arith, counts.dues, le))
+  pub reload_at : (k : ℕ) (x : Block (Name Part)) → k ≤ z.commit → whole.block (part.reload k) ≡ block_of (get_or o.reloads.items k x)
+  reload_at k x le = at 1 k (1 + k) (omega (arith, many_reloads, le)) (omega arith) ∙ get_or-map block_of o.reloads.items k x no_block (omega (arith, counts.reloads, le))
 
   pub slots_at : (m : ℕ) (x : SlotsPart) → m < z.maps → whole.block (part.slots z m) ≡ block_of (get_or slots m x).block
   slots_at m x lt =
@@ -117,13 +117,13 @@ module _ (z : Sizes) (slots : List SlotsPart) (o : Others) (counts : AreCounted 
       ∙ get_or-map (λ (y : TargetPart Part). block_of y.block) o.targets.items m x no_block (omega (arith, counts.targets, lt))
 
   pub host_at : whole.block (part.host z) ≡ block_of o.host
-  host_at = at 6 0 (behind_words z + z.maps) (omega arith) (omega (arith, from_turns))
+  host_at = at 6 0 (behind_words z + z.maps) (omega arith) (omega (arith, from_actions))
 
-  pub turn_at : whole.block (part.turn z) ≡ block_of o.turn
-  turn_at = at 6 1 (behind_words z + z.maps + 1) (omega arith) (omega (arith, from_turns))
+  pub action_at : whole.block (part.action z) ≡ block_of o.action
+  action_at = at 6 1 (behind_words z + z.maps + 1) (omega arith) (omega (arith, from_actions))
 
   pub commits_at : whole.block (part.commits z) ≡ block_of o.commits
-  commits_at = at 6 2 (behind_words z + z.maps + 2) (omega arith) (omega (arith, from_turns))
+  commits_at = at 6 2 (behind_words z + z.maps + 2) (omega arith) (omega (arith, from_actions))
 
   map_at : (m j : ℕ) (x : PartsOfMap) (y : ChangePart (Name Part)) → m < z.maps → j < 6 → whole.block (part.of_map z m j) ≡ get_or (blocks_of_map (get_or o.maps.maps.items m x) (get_or o.maps.changes.items m y)) j no_block
   map_at m j x y lt few =
@@ -143,8 +143,8 @@ module _ (z : Sizes) (slots : List SlotsPart) (o : Others) (counts : AreCounted 
   pub frames_at : frames.HasBlocks whole z o.frames
   frames_at = record {
     scatter = at 0 0 0 (omega arith) (omega arith);
-    returns = at 2 0 (2 + z.commit) (omega arith) (omega (arith, many_dues));
-    sources = at 2 1 (3 + z.commit) (omega arith) (omega (arith, many_dues));
+    returns = at 2 0 (2 + z.commit) (omega arith) (omega (arith, many_reloads));
+    sources = at 2 1 (3 + z.commit) (omega arith) (omega (arith, many_reloads));
     control = at 8 0 (behind_maps z) (omega arith) (omega (arith, from_control));
     gather = at 10 1 (behind_maps z + z.commit + 3) (omega arith) (omega (arith, from_answers));
     exit = at 10 2 (behind_maps z + z.commit + 4) (omega arith) (omega (arith, from_answers));

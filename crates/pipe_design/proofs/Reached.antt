@@ -1,4 +1,4 @@
--- The answer of a program stands in the table behind the last place.
+-- The answer of a program stands in the table after the last place.
 use Rattle.std.specs.Prelude.{Contains}
 use Rattle.std.proofs.Common.{◌≡◌, ◌∙◌, ◌⊎◌, inl, inr, ℕ, suc, ◌<◌, ◌≤◌, true, All, List, ◌∷◌, length, map as map_list, get_or, refl, sym, ap, arith, slice_index}
 use Rattle.std.proofs.lemmas.List.{get_or_default}
@@ -18,18 +18,18 @@ use Rattle.stage_net.specs.SiteTable.Tables.{StandBehind}
 use Rattle.pipe_net.specs.declared.parts.Part.{Part}
 use Rattle.pipe_net.specs.Parts as part
 use Rattle.pipe_net.specs.Layout.{Table, IsBy}
-use Rattle.pipe_parts.specs.declared.pipe_draft.draft.Draft.{Draft}
-use Rattle.pipe_parts.specs.declared.pipe_draft.places.Behind.{Behind}
+use Rattle.pipe_parts.specs.declared.pipe_draft.pipeline_plan.PipelinePlan.{PipelinePlan}
+use Rattle.pipe_parts.specs.declared.pipe_draft.places.StageSources.{StageSources}
 use Rattle.pipe_parts.specs.PipeDraft.Program.{build_of}
-use Rattle.pipe_parts.specs.PipeDraft.Draft.{program_in, plan_in, IsDraft}
+use Rattle.pipe_parts.specs.PipeDraft.PipelinePlan.{program_in, plan_in, IsPipelinePlan}
 use Rattle.pipe_parts.specs.PipeDraft.Places.{ArePlaces}
 use Rattle.pipe_design.specs.Answer.{IsByteIn, AreOutputs}
 use Rattle.pipe_design.proofs.Answering.{mapped_in}
 
-pub in_window : (d : Draft) → IsDraft d → All (λ x. x.at < 256) (program_in d).frame
+pub in_window : (d : PipelinePlan) → IsPipelinePlan d → All (λ x. x.at < 256) (program_in d).frame
 in_window d is i e lt = is.ready.changed (get_or (program_in d).frame i e) (Contains-get_or (program_in d).frame i e lt)
 
-module _ (d : Draft) (is : IsDraft d) (places : List Behind) (stand : ArePlaces d places) (staged : AreStaged (program_in d) (plan_in d) d.needed.items d.parts.items d.points.items) (b : Behind) where
+module _ (d : PipelinePlan) (is : IsPipelinePlan d) (places : List StageSources) (stand : ArePlaces d places) (staged : AreStaged (program_in d) (plan_in d) d.needed.items d.parts.items d.points.items) (b : StageSources) where
   abbrev p : ProgramView
   p = program_in d
 
@@ -76,6 +76,6 @@ module _ (d : Draft) (is : IsDraft d) (places : List Behind) (stand : ArePlaces 
       (All-map IsOperand byte_operand o.bytes.items (All-weaker (IsByteIn table p.frame) (λ x. IsOperand (byte_operand x)) (λ x c. ok.operand c.byte.cell x.operand c.stands) o.bytes.items h.bytes)))
 
 -- ---- the table that is read is that of the last place
-pub last_table : (d : Draft) (places : List Behind) → ArePlaces d places → (n : ℕ) (x b : Behind) (t : Table) → n ≡ (plan_in d).last → x ≡ get_or places n x → t ≡ x.tables.table.items → (get_or places (plan_in d).last b).tables.table.items ≡ t
+pub last_table : (d : PipelinePlan) (places : List StageSources) → ArePlaces d places → (n : ℕ) (x b : StageSources) (t : Table) → n ≡ (plan_in d).last → x ≡ get_or places n x → t ≡ x.tables.table.items → (get_or places (plan_in d).last b).tables.table.items ≡ t
 last_table d places stand n x b t e is h =
-    ap (λ (y : Behind). y.tables.table.items) (get_or_default places (plan_in d).last b x (omega (arith, stand.count)) ∙ ap (λ k. get_or places k x) (sym e) ∙ sym is) ∙ sym h
+    ap (λ (y : StageSources). y.tables.table.items) (get_or_default places (plan_in d).last b x (omega (arith, stand.count)) ∙ ap (λ k. get_or places k x) (sym e) ∙ sym is) ∙ sym h

@@ -1,4 +1,4 @@
--- What stands for the answer of a program behind the last place, and the words of a frame that it may change.
+-- What stands for the answer of a program after the last place, and the words of a frame that it may change.
 use Rattle.std.specs.Prelude.{◌≡◌, ◌==◌, ◌/◌, ℕ, Bool, Option, List, All, Contains, map as map_list}
 use Rattle.std.specs.List.{filter, list_any}
 use Rattle.block_core.specs.declared.name.Name.{Name}

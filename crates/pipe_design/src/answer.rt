@@ -1,4 +1,4 @@
-//! What stands for the answer of a program, behind the last place.
+//! What stands for the answer of a program, after the last place.
 
 ghost use Rattle.std.specs.Prelude.{ℕ, ◌≡◌, ◌<◌, ◌≤◌, All, IfOk, length, map as map_list};
 ghost use Rattle.std.proofs.Common.{get_or};
@@ -7,8 +7,8 @@ ghost use Rattle.hazard_core.specs.cell_core.View.{program_of};
 ghost use Rattle.overlay_net.specs.cell_nets.Operands.{IsOperand};
 ghost use Rattle.row_net.specs.PlaceNet.Exit.{byte_number, output_operands};
 ghost use Rattle.row_net.specs.Table.{IsIn, Stands};
-ghost use Rattle.pipe_parts.specs.declared.pipe_draft.places.Behind.{Behind};
-ghost use Rattle.pipe_parts.specs.PipeDraft.Draft.{program_in, plan_in, IsDraft};
+ghost use Rattle.pipe_parts.specs.declared.pipe_draft.places.StageSources.{StageSources};
+ghost use Rattle.pipe_parts.specs.PipeDraft.PipelinePlan.{program_in, plan_in, IsPipelinePlan};
 ghost use Rattle.pipe_parts.specs.PipeDraft.Places.{ArePlaces};
 ghost use Rattle.pipe_design.specs.Answer.{IsByteIn, AreOutputs, has_byte, changed_words};
 
@@ -16,7 +16,7 @@ use block_core::name::Name;
 use hazard_core::cell_core::program::{CellProgram, FrameByte};
 use overlay_net::cell_nets::operand::Operand;
 use pipe_net::parts::Part;
-use pipe_parts::pipe_draft::{Behind, Draft};
+use pipe_parts::pipe_draft::{PipelinePlan, StageSources};
 use row_net::place_net::{AnswerByte, Outputs};
 use stage_net::site_table::laws::stages_are_placed;
 use std::alloc::{AllocError, Global};
@@ -74,20 +74,20 @@ fn outputs(
     })
 }
 
-/// What stands for the answer behind the last place.
+/// What stands for the answer after the last place.
 pub(crate) fn answer(
     alloc: Global,
-    draft: &Draft<'_>,
-    places: &[Behind],
+    pipeline_plan: &PipelinePlan<'_>,
+    places: &[StageSources],
 ) -> Result<Outputs<Name<Part>>, AllocError>
-    requires draft { IsDraft draft.now }
-    requires places { ArePlaces draft.now places.now }
-    ensures stands { IfOk result (λ o. (b : Behind) → AreOutputs (program_in draft.now) (get_or places.now (plan_in draft.now).last b).tables.table.items o) }
+    requires pipeline_plan { IsPipelinePlan pipeline_plan.now }
+    requires places { ArePlaces pipeline_plan.now places.now }
+    ensures stands { IfOk result (λ o. (b : StageSources) → AreOutputs (program_in pipeline_plan.now) (get_or places.now (plan_in pipeline_plan.now).last b).tables.table.items o) }
     ensures operands { IfOk result (λ o. All IsOperand (output_operands o)) }
 {
     stages_are_placed();
-    let last = &places[draft.plan.rows() as usize];
-    let outputs = outputs(alloc, draft.program, &last.tables.table)?;
+    let last = &places[pipeline_plan.plan.rows() as usize];
+    let outputs = outputs(alloc, pipeline_plan.program, &last.tables.table)?;
     Ok(outputs)
 }
 

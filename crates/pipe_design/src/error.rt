@@ -2,10 +2,10 @@
 
 ghost use Rattle.std.specs.Prelude.{◌≡◌};
 ghost use Rattle.pipe_design.specs.declared.error.PipelineError.TheVariants.{NoMemory};
-ghost use Rattle.pipe_design.specs.Errors.{of_draft, of_link};
+ghost use Rattle.pipe_design.specs.Errors.{of_pipeline_plan, of_link};
 
 use block_core::LinkError;
-use pipe_parts::pipe_draft::DraftError;
+use pipe_parts::pipe_draft::PipelinePlanError;
 use std::alloc::{AllocError, AllocFailed};
 use thiserror::Error;
 
@@ -42,14 +42,14 @@ impl<T: Drop> From<AllocFailed<T>> for PipelineError {
     }
 }
 
-impl From<DraftError> for PipelineError {
-    ghost from_gives = { λ d e. e ≡ of_draft d };
+impl From<PipelinePlanError> for PipelineError {
+    ghost from_gives = { λ d e. e ≡ of_pipeline_plan d };
 
-    fn from(error: DraftError) -> PipelineError {
+    fn from(error: PipelinePlanError) -> PipelineError {
         match error {
-            DraftError::TooManySites => PipelineError::TooManySites,
-            DraftError::LateNumber => PipelineError::LateNumber,
-            DraftError::NoMemory => PipelineError::NoMemory,
+            PipelinePlanError::TooManySites => PipelineError::TooManySites,
+            PipelinePlanError::LateNumber => PipelineError::LateNumber,
+            PipelinePlanError::NoMemory => PipelineError::NoMemory,
         }
     }
 }

@@ -4,7 +4,7 @@ ghost use Rattle.std.specs.Prelude.{◌≡◌, ◌≤◌, IfOk, IsErrOf, IsTrue,
 ghost use Rattle.net_core.specs.Nets.{TRead};
 ghost use Rattle.net_core.specs.Ports.{port_list};
 ghost use Rattle.net_core.specs.View.{netlist_of};
-ghost use Rattle.net_core.specs.ProductRules.Products.{products_apart};
+ghost use Rattle.net_core.specs.ProductRules.Products.{no_product_chains};
 ghost use Rattle.block_core.specs.design_rules.Formed.{IsWellFormed};
 ghost use Rattle.block_core.specs.declared.error.LinkError.TheVariants as error;
 ghost use Rattle.block_core.specs.declared.name.Name.TheVariants as name;
@@ -108,7 +108,7 @@ pub(crate) fn link_pipeline(
     requires few { words ≤ 255 }
     ensures netlist { IfOk result (λ n. (l : Layout) (d : Whole Part) → IsLinked sizes.now words parts.now l d → netlist_of n ≡ design l d (names_of d)) }
     ensures formed { IfOk result (λ n. (l : Layout) (d : Whole Part) → IsLinked sizes.now words parts.now l d → IsWellFormed (netlist_of n)) }
-    ensures apart { IfOk result (λ n. (l : Layout) (d : Whole Part) → IsLinked sizes.now words parts.now l d → IsTrue (products_apart (netlist_of n))) }
+    ensures apart { IfOk result (λ n. (l : Layout) (d : Whole Part) → IsLinked sizes.now words parts.now l d → IsTrue (no_product_chains (netlist_of n))) }
     ensures large { IsErrOf result error.TooMany → (l : Layout) (d : Whole Part) → IsLinked sizes.now words parts.now l d → ¬ IsTrue (design_in_range d (outputs_of l)) }
 {
     pipelines_are_formed();

@@ -90,10 +90,10 @@ pub(crate) fn in_lists(
 {
     let Others {
         frames,
-        dues,
+        reloads,
         targets,
         host,
-        turn,
+        action,
         commits,
         maps,
         marks,
@@ -112,18 +112,18 @@ pub(crate) fn in_lists(
     let slots = slot_blocks(alloc, slots)?;
     let words = word_blocks(alloc, places.words)?;
     let targets = target_blocks(alloc, targets)?;
-    let turns = vec![in alloc; host, turn, commits]?;
+    let actions = vec![in alloc; host, action, commits]?;
     let operations = map_blocks(alloc, maps.maps, maps.changes)?;
     let control = vec![in alloc; control.block]?;
     let answers = vec![in alloc; maps.value, gather.block, exit.block]?;
     let all = vec![in alloc;
         first,
-        dues,
+        reloads,
         sources,
         slots,
         words,
         targets,
-        turns,
+        actions,
         operations,
         control,
         marks,

@@ -8,6 +8,7 @@ pub mod Clock
 pub mod Going
 pub mod Showing
 pub mod Clocks
-pub mod Turns
+pub mod Actions
 pub mod Standing
+pub mod SilentLaws
 pub mod RightClocks

@@ -2,13 +2,13 @@ pub mod SortLaws
 pub mod EarlierLemmas
 pub mod HeldLemmas
 pub mod MapLemmas
-pub mod TurnLemmas
+pub mod ActionLemmas
 pub mod ChangeLemmas
 pub mod MarkLemmas
 pub mod DeclaredLemmas
 pub mod GoodLemmas
 pub mod FrameForms
 pub mod MapForms
-pub mod TurnForms
+pub mod ActionForms
 pub mod PlaceForms
 pub mod FormedLemmas

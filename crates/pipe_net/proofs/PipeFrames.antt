@@ -1,9 +1,9 @@
-pub mod Due
+pub mod Reload
 pub mod Sending
 pub mod Parts
 pub mod Returning
 pub mod Cases
-pub mod Sweeping
+pub mod Flushing
 pub mod Clocking
 pub mod Seeing
 pub mod Tests

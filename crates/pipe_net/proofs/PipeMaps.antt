@@ -1,6 +1,6 @@
 pub mod ListLemmas
 pub mod AmongLemmas
-pub mod TurnLemmas
+pub mod ActionLemmas
 pub mod OperationLemmas
 pub mod ClockLemmas
 pub mod SeenLemmas

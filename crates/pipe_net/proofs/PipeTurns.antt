@@ -1,7 +1,7 @@
 pub mod Places
 pub mod Machine
 pub mod HostShown
-pub mod TurnShown
+pub mod ActionShown
 pub mod TargetLemmas
 pub mod TargetShown
 pub mod Followed

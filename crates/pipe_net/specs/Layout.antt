@@ -12,7 +12,7 @@ use Rattle.control_net.specs.declared.ring_net.shape.ControlShape.{ControlShape}
 use Rattle.commit_net.specs.frame_net.declared.held.Kept.{Kept}
 use Rattle.stage_net.specs.row_net.declared.place_net.outputs.Outputs.{Outputs}
 use Rattle.turn_net.specs.declared.nets.RecordNets.{RecordNets}
-use Rattle.turn_net.specs.declared.nets.TurnShape.{TurnShape}
+use Rattle.turn_net.specs.declared.nets.ActionShape.{ActionShape}
 use Rattle.pipe_net.specs.declared.parts.Part.{Part}
 use Rattle.pipe_net.specs.declared.parts.Sizes.{Sizes}
 use Rattle.pipe_net.specs.Parts.{IsSmall}
@@ -31,15 +31,15 @@ pub record ChangeView : Type 0 where
 
 -- A program with its rows and the declarations of its maps; how many parts of each sort there are; the sizes of control and of what says which operation commits; how many bits the numbers of
 -- pointers have, and those of the slots of each map. Which cells may have pointers, what is kept of frames, and which cells come with them. Of each place the cells that are made there, those that it holds, the pointers that
--- it makes and holds, and what stands for cells and for their pointers before it. What stands for the answer behind the last place, and the words of a frame that it may change.
--- Of each place up to the commit place the net that says whether its packet is due; what stands for the operations that may write; whether packets stay where they are; and of each map
+-- it makes and holds, and what stands for cells and for their pointers before it. What stands for the answer after the last place, and the words of a frame that it may change.
+-- Of each place up to the commit place the net that says whether its packet must reload; what stands for the operations that may write; whether packets stay where they are; and of each map
 -- what stands for its change.
 pub record Layout : Type 0 where
   pub build : Build
   pub decls : List MapDecl
   pub sizes : Sizes
   pub shape : ControlShape
-  pub turn_shape : TurnShape
+  pub action_shape : ActionShape
   pub bits : ℕ
   pub slot_bits : ℕ → ℕ
   pub flags : List Bool
@@ -54,7 +54,7 @@ pub record Layout : Type 0 where
   pub pointers : ℕ → Table
   pub answer : Outputs (Name Part)
   pub words : List ℕ
-  pub due : List (Name Part)
+  pub reload : List (Name Part)
   pub records : List (RecordNets (Name Part))
   pub stays : Name Part
   pub changes : ℕ → ChangeView

@@ -1,13 +1,13 @@
 -- What stands at the ports, for the machine of the pipe.
 use Rattle.std.specs.Prelude.{◌≡◌, ℕ, ◌<◌, nat_lt, Some, is_some}
-use Rattle.block_core.specs.beat_core.declared.beat.Beat.{Beat}
-use Rattle.block_core.specs.beat_core.declared.frame.TheConstants.{BEAT_LIMIT}
-use Rattle.block_core.specs.beat_core.Beats.{IsOffer}
+use Rattle.beat_core.specs.declared.beat.Beat.{Beat}
+use Rattle.beat_core.specs.declared.frame.TheConstants.{BEAT_LIMIT}
+use Rattle.beat_core.specs.Beats.{IsOffer}
 use Rattle.block_core.specs.net_core.declared.tree.Word.{Word}
 use Rattle.block_core.specs.net_core.declared.ports.Inputs.{Inputs}
 use Rattle.block_core.specs.net_core.declared.ports.TheConstants.{IN_READY, OUT_VALID, OUT_DATA, OUT_BYTES, OUT_LAST, OUT_VERDICT, OUT_TARGET, OUT_RELOAD, HOST_VALUE, HOST_READY, HOST_PASSED}
 use Rattle.block_core.specs.net_core.Value.{word, bit}
-use Rattle.block_core.specs.net_core.History.{IsInput}
+use Rattle.block_core.specs.net_core.Trace.{IsInput}
 use Rattle.commit_net.specs.frame_net.Frames.{position_of}
 use Rattle.pipe_core.specs.Machine.{State, Output, Build, beat_over}
 pub use Rattle.pipe_core.specs.HostRuns.Inputs.{beat_in, access_in, input_of}

@@ -17,12 +17,12 @@ pub record IsSmall (z : Sizes) : Type 0 where
   pub maps : z.maps ≤ 16
   pub loads : z.loads < 2 ^ 20
 
--- ---- what is read of frames, of packets that are due, of slots and of words under pointers
+-- ---- what is read of frames, of packets that must reload, of slots and of words under pointers
 abbrev pub scatter : Part
 scatter = part 0
 
-abbrev pub due : ℕ → Part
-due k = part (1 + k)
+abbrev pub reload : ℕ → Part
+reload k = part (1 + k)
 
 abbrev pub returns : Sizes → Part
 returns z = part (2 + z.commit)
@@ -46,8 +46,8 @@ targets z m = part (behind_words z + m)
 abbrev pub host : Sizes → Part
 host z = part (behind_words z + z.maps)
 
-abbrev pub turn : Sizes → Part
-turn z = part (behind_words z + z.maps + 1)
+abbrev pub action : Sizes → Part
+action z = part (behind_words z + z.maps + 1)
 
 abbrev pub commits : Sizes → Part
 commits z = part (behind_words z + z.maps + 2)
@@ -77,7 +77,7 @@ change z m = of_map z m 5
 abbrev pub behind_maps : Sizes → ℕ
 behind_maps z = behind_words z + 3 + 7 * z.maps
 
--- ---- behind them
+-- ---- after them
 abbrev pub control : Sizes → Part
 control z = part (behind_maps z)
 

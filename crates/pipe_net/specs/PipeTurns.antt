@@ -1,5 +1,5 @@
 pub mod Maps
 pub mod Parts
 pub mod Hosting
-pub mod Turning
+pub mod Acting
 pub mod Following

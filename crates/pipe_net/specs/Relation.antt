@@ -1,9 +1,9 @@
 -- What the parts of a pipeline store for a state of the machine.
 use Rattle.std.specs.Prelude.{◌≡◌, ℕ, suc, ◌+◌, ◌^◌, ◌<◌, ◌≤◌, Bool, true, false, Option, Some, is_some, List, [], ◌∷◌, length, map, filter, slice_index}
 use Rattle.std.proofs.Common.{get_or}
-use Rattle.block_core.specs.beat_core.declared.answer.Answer.{Answer}
-use Rattle.block_core.specs.beat_core.Beats.{beat_count}
-use Rattle.block_core.specs.beat_core.Ports.{Arrival}
+use Rattle.beat_core.specs.declared.answer.Answer.{Answer}
+use Rattle.beat_core.specs.Beats.{beat_count}
+use Rattle.beat_core.specs.Ports.{Arrival}
 use Rattle.block_core.specs.net_core.declared.tree.Word.{Word}
 use Rattle.block_core.specs.net_core.Suits.{IsOfWidth}
 use Rattle.block_core.specs.net_core.Value.{word, bit, nothing}
@@ -13,7 +13,7 @@ use Rattle.block_core.specs.Formed.{block_registers, block_memories}
 use Rattle.hazard_core.specs.cell_core.Rows.{numbers}
 use Rattle.hazard_core.specs.cell_core.Sites.{site_at}
 use Rattle.hazard_core.specs.Tables.{TableState, decl_of, table_at}
-use Rattle.hazard_core.specs.Held.{held_value, pointer_in}
+use Rattle.hazard_core.specs.StageValues.{stage_value, pointer_in}
 use Rattle.hazard_core.specs.Marks.{known_off, has_read}
 use Rattle.pipe_core.specs.Machine.{Packet, State, inside, place_at, no_frame, marked_at}
 use Rattle.control_net.specs.Control as control
@@ -26,7 +26,7 @@ use Rattle.commit_net.specs.frame_net.Answers.{HoldsAnswer, Changes}
 use Rattle.stage_net.specs.row_net.PlaceNet.Exit.{byte_numbers}
 use Rattle.stage_net.specs.row_net.SitePlace.SitePlace.{site_words}
 use Rattle.hazard_core.specs.HeldRows.Fits.{FitsRows}
-use Rattle.turn_net.specs.Turn.{StoresTurn}
+use Rattle.turn_net.specs.Action.{StoresAction}
 use Rattle.commit_net.specs.MapBlock.Stored.{StoresMap}
 use Rattle.pipe_net.specs.declared.parts.Part.{Part}
 use Rattle.pipe_net.specs.Parts as part
@@ -97,7 +97,7 @@ pub record HoldFrames (l : Layout) (given : ℕ) (ns : List ℕ) (s : State) (ss
 
 -- the registers of a place hold the cells of its packet, and the pointers that go with them
 abbrev pub HoldsPacket : Layout → ℕ → Option Packet → Stored → Type 0
-HoldsPacket l k x s = (y : Packet) → x ≡ Some y → s.registers ≡ site_words (cells_of l) l.bits (held_value y.held) (pointer_in y.held) (l.held k) (l.held_pointers k)
+HoldsPacket l k x s = (y : Packet) → x ≡ Some y → s.registers ≡ site_words (cells_of l) l.bits (stage_value y.held) (pointer_in y.held) (l.held k) (l.held_pointers k)
 
 -- how many slots the greatest map has at most
 abbrev pub most_slots : ℕ
@@ -129,7 +129,7 @@ HoldMarks l s ss = (k : ℕ) (x : Packet) → k ≤ commit_of l → place_at s.p
 pub record HoldMaps (l : Layout) (s : State) (ss : Part → Stored) : Type 0 where
   pub decls : s.tables.decls ≡ l.decls
   pub long : length s.taken ≡ length (program_of l).sites
-  pub turn : StoresTurn l.turn_shape l.records s.done s.taken (ss (part.turn l.sizes))
+  pub action : StoresAction l.action_shape l.records s.done s.taken (ss (part.action l.sizes))
   pub tables : (m : ℕ) → m < length l.decls → StoresMap (decl_of l.decls m) (l.slot_bits m) (table_at s.tables m) (ss (part.own l.sizes m))
 
 -- ---- all parts

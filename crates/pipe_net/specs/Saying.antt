@@ -9,13 +9,13 @@ use Rattle.hazard_core.specs.cell_core.Sites.{bytes_of}
 use Rattle.turn_net.specs.cell_nets.Operands.{number_in, AreFit}
 use Rattle.hazard_core.specs.declared.change.Change.{Change}
 use Rattle.hazard_core.specs.Tables.{decl_of}
-use Rattle.hazard_core.specs.Held.{held_value}
+use Rattle.hazard_core.specs.StageValues.{stage_value}
 use Rattle.hazard_core.specs.Commits.{change_by, host_change}
-use Rattle.pipe_core.specs.Machine.{Packet, State, Input, Build, Turn, Commits, Writes, Moves, turn_of, swept, place_at, is_due, some_send}
+use Rattle.pipe_core.specs.Machine.{Packet, State, Input, Build, Action, Commits, Writes, Moves, action_of, flushed, place_at, must_reload, some_send}
 use Rattle.control_net.specs.declared.ring_net.names.Register.TheVariants.{Holds}
 use Rattle.control_net.specs.RingNet.Names.{register_name}
 use Rattle.control_net.specs.Names.{back_name}
-use Rattle.control_net.specs.Returns.{due_name}
+use Rattle.control_net.specs.Returns.{reload_name}
 use Rattle.stage_net.specs.row_net.declared.place_net.outputs.AnswerByte.{AnswerByte}
 use Rattle.stage_net.specs.row_net.PlaceNet.Exit.{output_operands}
 use Rattle.pipe_net.specs.declared.parts.Part.{Part}
@@ -25,14 +25,14 @@ use Rattle.pipe_net.specs.Layout.{Layout, program_of, last_of, commit_of}
 
 -- ---- who is sent back
 
--- a place's net says whether its packet is due; of no packet it may say what it likes
-pub record ShowsDue (l : Layout) (s : State) (v : Env (Name Part)) (k : ℕ) : Type 0 where
+-- a place's net says whether its packet must reload; of no packet it may say what it likes
+pub record ShowsReload (l : Layout) (s : State) (v : Env (Name Part)) (k : ℕ) : Type 0 where
   pub says : Bool
-  pub net : v.net (due_name l.due k) ≡ bit says
-  pub is : (x : Packet) → place_at s.places k ≡ Some x → says ≡ is_due l.build k x
+  pub net : v.net (reload_name l.reload k) ≡ bit says
+  pub is : (x : Packet) → place_at s.places k ≡ Some x → says ≡ must_reload l.build k x
 
-abbrev pub ShowDues : Layout → State → Env (Name Part) → Type 0
-ShowDues l s v = (k : ℕ) → k ≤ commit_of l → ShowsDue l s v k
+abbrev pub ShowReloads : Layout → State → Env (Name Part) → Type 0
+ShowReloads l s v = (k : ℕ) → k ≤ commit_of l → ShowsReload l s v k
 
 -- a place up to the commit place, or an older one, sends back; and control says which places hold packets
 pub record ShowReturns (l : Layout) (s : State) (v : Env (Name Part)) : Type 0 where
@@ -40,28 +40,28 @@ pub record ShowReturns (l : Layout) (s : State) (v : Env (Name Part)) : Type 0 w
   pub holds : (k : ℕ) → k ≤ last_of l → v.net (register_name (part.control l.sizes) (Holds k)) ≡ bit (is_some (place_at s.places k))
 
 -- ---- what the clock does
-abbrev pub moves : Turn → Bool
+abbrev pub moves : Action → Bool
 moves Moves = true
-moves turn = false
+moves action = false
 
-abbrev pub turn_in : Build → Input → State → Turn
-turn_in b i s = turn_of b i s (swept b 0 s.places)
+abbrev pub action_in : Build → Input → State → Action
+action_in b i s = action_of b i s (flushed b 0 s.places)
 
 -- whether packets move on
 abbrev pub moves_in : Build → Input → State → Bool
-moves_in b i s = moves (turn_in b i s)
+moves_in b i s = moves (action_in b i s)
 
 -- ---- what it changes
 
 -- the change of a map, and whether the host makes it
-abbrev pub change_of : Build → State → Turn → Option Change
+abbrev pub change_of : Build → State → Action → Option Change
 change_of b s (Commits j x) = Some (change_by b.program s.tables s.taken x.held j)
 change_of b s (Writes a n) = Some (host_change s.tables a)
 change_of b s Moves = None
 
-abbrev pub is_host : Turn → Bool
+abbrev pub is_host : Action → Bool
 is_host (Writes a n) = true
-is_host turn = false
+is_host action = false
 
 abbrev pub is_on : ℕ → Option Change → Bool
 is_on m None = false
@@ -69,11 +69,11 @@ is_on m (Some e) = e.map == m
 
 -- of map m
 pub record ShowsChangeOf (l : Layout) (i : Input) (s : State) (v : Env (Name Part)) (m : ℕ) : Type 0 where
-  pub any : v.net (l.changes m).any ≡ bit (is_on m (change_of l.build s (turn_in l.build i s)))
-  pub by_host : v.net (l.changes m).by_host ≡ bit (is_host (turn_in l.build i s) && is_on m (change_of l.build s (turn_in l.build i s)))
-  pub slot : (e : Change) → change_of l.build s (turn_in l.build i s) ≡ Some e → e.map ≡ m → number_in v (l.changes m).slot ≡ e.slot
-  pub key : (e : Change) → change_of l.build s (turn_in l.build i s) ≡ Some e → e.map ≡ m → bytes_of (decl_of l.decls m).key (map_list (number_in v) (l.changes m).key) ≡ e.key
-  pub presence : (e : Change) → change_of l.build s (turn_in l.build i s) ≡ Some e → e.map ≡ m → number_in v (l.changes m).presence ≡ number_of_bit e.presence
+  pub any : v.net (l.changes m).any ≡ bit (is_on m (change_of l.build s (action_in l.build i s)))
+  pub by_host : v.net (l.changes m).by_host ≡ bit (is_host (action_in l.build i s) && is_on m (change_of l.build s (action_in l.build i s)))
+  pub slot : (e : Change) → change_of l.build s (action_in l.build i s) ≡ Some e → e.map ≡ m → number_in v (l.changes m).slot ≡ e.slot
+  pub key : (e : Change) → change_of l.build s (action_in l.build i s) ≡ Some e → e.map ≡ m → bytes_of (decl_of l.decls m).key (map_list (number_in v) (l.changes m).key) ≡ e.key
+  pub presence : (e : Change) → change_of l.build s (action_in l.build i s) ≡ Some e → e.map ≡ m → number_in v (l.changes m).presence ≡ number_of_bit e.presence
 
 abbrev pub ShowChanges : Layout → Input → State → Env (Name Part) → Type 0
 ShowChanges l i s v = (m : ℕ) → m < length l.decls → ShowsChangeOf l i s v m
@@ -85,14 +85,14 @@ pub record ShowsByte (l : Layout) (v : Env (Name Part)) (x : Packet) (a : Answer
   pub byte : FrameByte
   pub changed : Contains (program_of l).frame byte
   pub at : byte.at ≡ a.at
-  pub value : number_in v a.operand ≡ held_value x.held byte.cell
-  pub small : held_value x.held byte.cell < 256
+  pub value : number_in v a.operand ≡ stage_value x.held byte.cell
+  pub small : stage_value x.held byte.cell < 256
 
 pub record ShowsAnswer (l : Layout) (v : Env (Name Part)) (x : Packet) : Type 0 where
-  pub verdict : number_in v l.answer.verdict ≡ held_value x.held (program_of l).verdict
-  pub verdict_small : held_value x.held (program_of l).verdict < 2 ^ 32
-  pub target : number_in v l.answer.target ≡ held_value x.held (program_of l).target
-  pub target_small : held_value x.held (program_of l).target < 2 ^ 32
+  pub verdict : number_in v l.answer.verdict ≡ stage_value x.held (program_of l).verdict
+  pub verdict_small : stage_value x.held (program_of l).verdict < 2 ^ 32
+  pub target : number_in v l.answer.target ≡ stage_value x.held (program_of l).target
+  pub target_small : stage_value x.held (program_of l).target < 2 ^ 32
   pub bytes : (a : AnswerByte (Name Part)) → Contains l.answer.bytes.items a → ShowsByte l v x a
 
 pub record ShowAnswers (l : Layout) (s : State) (v : Env (Name Part)) : Type 0 where

@@ -36,7 +36,7 @@ pub fn scatter() -> Part
 }
 
 impl Sizes {
-    // The number of the first part behind those of words.
+    // The number of the first part after those of words.
     fn behind_words(&self) -> u32
         requires { IsSmall self.now }
         ensures value { result ≡ parts.behind_words self.now }
@@ -46,10 +46,10 @@ impl Sizes {
     }
 
     /// Says whether the packet at a place is to be sent back, up to the commit place.
-    pub fn due(&self, k: u32) -> Part
+    pub fn reload(&self, k: u32) -> Part
         requires small { IsSmall self.now }
         requires place { k ≤ self.now.commit }
-        ensures { result ≡ parts.due k }
+        ensures { result ≡ parts.reload k }
     {
         Part { number: 1 + k }
     }
@@ -118,9 +118,9 @@ impl Sizes {
     }
 
     /// Says which operation commits.
-    pub fn turn(&self) -> Part
+    pub fn action(&self) -> Part
         requires { IsSmall self.now }
-        ensures { result ≡ parts.turn self.now }
+        ensures { result ≡ parts.action self.now }
     {
         Part {
             number: self.behind_words() + self.maps + 1,
@@ -203,7 +203,7 @@ impl Sizes {
         self.of_map(m, 5)
     }
 
-    // The number of the first part behind those of the maps.
+    // The number of the first part after those of the maps.
     fn behind_maps(&self) -> u32
         requires { IsSmall self.now }
         ensures value { result ≡ parts.behind_maps self.now }
@@ -263,7 +263,7 @@ impl Sizes {
         }
     }
 
-    /// Holds the cells of a packet behind a row of the program.
+    /// Holds the cells of a packet after a row of the program.
     pub fn place(&self, k: u32) -> Part
         requires small { IsSmall self.now }
         requires place { k ≤ self.now.last }

@@ -1,8 +1,8 @@
-pub mod Pushing
 pub mod Listing
 pub mod Keeps
+pub mod SourceLaws
 pub mod Sourcing
 pub mod Forming
 pub mod Laying
-pub mod Drafting
+pub mod PipelinePlanning
 pub mod Behinds

@@ -1,6 +1,7 @@
 pub mod Listing
+pub mod SiteLaws
 pub mod Siting
 pub mod Taking
 pub mod Aiming
-pub mod Turning
+pub mod Acting
 pub mod Laying

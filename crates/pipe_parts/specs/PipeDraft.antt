@@ -1,6 +1,6 @@
 pub mod Program
 pub mod Sources
 pub mod Keeping
-pub mod Draft
+pub mod PipelinePlan
 pub mod Places
 pub mod Laid

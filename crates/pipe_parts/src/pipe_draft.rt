@@ -1,15 +1,15 @@
-//! What is worked out of a program before the parts of its pipeline are made: [`draft_of`] makes a draft, and [`behind_places`] says what stands behind each
+//! What is worked out of a program before the parts of its pipeline are made: [`pipeline_plan_of`] makes a pipeline plan, and [`stage_sources`] says what stands after each
 //! place.
 
-mod draft;
 mod error;
 mod forms;
 mod kept;
 pub mod laws;
+mod pipeline_plan;
 mod places;
 mod sites;
 mod sources;
 
-pub use draft::{Draft, draft_of};
-pub use error::DraftError;
-pub use places::{Behind, behind_places, sites_of};
+pub use error::PipelinePlanError;
+pub use pipeline_plan::{PipelinePlan, pipeline_plan_of};
+pub use places::{StageSources, sites_of, stage_sources};

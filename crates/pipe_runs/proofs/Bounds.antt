@@ -18,7 +18,7 @@ use Rattle.pipe_core.specs.Machine.{Build}
 use Rattle.pipe_core.specs.Drive.{clocks_of}
 use Rattle.pipe_core.specs.Apart as pipe
 use Rattle.pipe_core.specs.Apart.{AllRun, all_writing}
-use Rattle.pipe_core.specs.realization.Bounds.{most_beats, clock_bound, packet_clocks, ReadOthers, AreApart}
+use Rattle.pipe_core.specs.realization.Bounds.{most_beats, clock_bound, packet_clocks, ReadOthers, ConflictFree}
 use Rattle.pipe_core.specs.realization.Realizes.{IsPacket, IsBeside, offers_from, all_offers, beats_offered}
 use Rattle.pipe_runs.proofs.Histories.{all_append}
 use Rattle.pipe_runs.proofs.Drives.{Fits}
@@ -70,9 +70,9 @@ read_others zero writes ts h = tt
 read_others (suc n) writes [] h = tt
 read_others (suc n) writes (t ∷ ts) h = (h.0, read_others n writes ts h.1)
 
-pub are_apart : (n : ℕ) (ts : List Touched) → AreApart n ts → pipe.AreApart n ts
-are_apart n [] h = tt
-are_apart n (t ∷ ts) h = (read_others n t.writes ts h.0, are_apart n ts h.1)
+pub conflict_free : (n : ℕ) (ts : List Touched) → ConflictFree n ts → pipe.ConflictFree n ts
+conflict_free n [] h = tt
+conflict_free n (t ∷ ts) h = (read_others n t.writes ts h.0, conflict_free n ts h.1)
 
 -- ---- the beats of frames fit their ports
 pub all_filled : (frames : List (List ℕ)) → AllByRecursion IsFrame frames → AllByRecursion IsFilledUp (flat_map beats_of frames)

@@ -13,9 +13,9 @@ use Rattle.cell_core.specs.Rows.{record_count}
 use Rattle.pipe_core.specs.Machine.{Build, new_state}
 use Rattle.pipe_core.specs.History.{Trace, run, begin}
 use Rattle.pipe_core.specs.Drive.{Driven, Beside, drive, drive_start, beats_in, EndsInTime, EndsLate}
-use Rattle.pipe_core.specs.Apart.{AllRun, AreApart, all_writing}
+use Rattle.pipe_core.specs.Apart.{AllRun, ConflictFree, all_writing}
 use Rattle.pipe_core.specs.Unconflicting.{EndsWithoutConflicts}
-use Rattle.pipe_core.specs.Pipeable.{IsSuited}
+use Rattle.pipe_core.specs.Pipeable.{IsPipelinable}
 use Rattle.pipe_core.specs.HostRuns.Inputs.{input_of}
 use Rattle.pipe_core.specs.HostRuns.Silent.{silent, ReadsAreSilent, RunsAreSilent}
 use Rattle.pipe_core.specs.realization.Bounds.{most_beats, clock_bound, clock_bound_apart}
@@ -25,7 +25,7 @@ use Rattle.pipe_runs.specs.Apart.{DoNotConflict}
 use Rattle.pipe_runs.proofs.Histories.{beats_of_all, frames_of_packets}
 use Rattle.pipe_runs.proofs.Filled.{quiet_filled, all_silent, run_quiet, beats_quiet}
 use Rattle.pipe_runs.proofs.Drives.{behind, left_behind, besides, length_besides, drive_from, same_drive, besides_more}
-use Rattle.pipe_runs.proofs.Bounds.{bound_enough, late_enough, written, apart_enough, all_written, are_apart}
+use Rattle.pipe_runs.proofs.Bounds.{bound_enough, late_enough, written, apart_enough, all_written, conflict_free}
 
 pub record ClockLaws : Type 0 where
   pub reads : ReadsAreSilent
@@ -38,7 +38,7 @@ pub as_many_frames : (packets : List Arrival) → length (frames_in packets) ≡
 as_many_frames [] = refl
 as_many_frames (a ∷ rest) = ap suc (as_many_frames rest)
 
-module _ (laws : ClockLaws) (b : Build) (maps : MapState) (suited : IsSuited maps.decls b) (sound : IsSound maps) (slots : b.slots ≡ b.plan.last + 4) (packets : List Arrival) (are : AllByRecursion IsPacket packets) where
+module _ (laws : ClockLaws) (b : Build) (maps : MapState) (pipelinable : IsPipelinable maps.decls b) (sound : IsSound maps) (slots : b.slots ≡ b.plan.last + 4) (packets : List Arrival) (are : AllByRecursion IsPacket packets) where
   abbrev frames : List (List ℕ)
   frames = frames_in packets
 
@@ -62,9 +62,9 @@ module _ (laws : ClockLaws) (b : Build) (maps : MapState) (suited : IsSuited map
       let many = subst (λ n. clock_bound n b.plan.last (most_beats frames) (record_count b.program.sites) ≤ limit) (sym (as_many_frames packets)) long in
       given_by (begin b maps) (all_offers packets) limit
       (ap (λ (d : Driven). length (drive b clocks d).trace.gave) (sym starts)
-      ∙ laws.in_time b maps suited sound slots frames (frames_of_packets packets are) clocks (omega (arith, bound_enough b frames, many, length_besides b limit (begin b maps) (all_offers packets))))
+      ∙ laws.in_time b maps pipelinable sound slots frames (frames_of_packets packets are) clocks (omega (arith, bound_enough b frames, many, length_besides b limit (begin b maps) (all_offers packets))))
 
-  -- ---- behind some clocks
+  -- ---- after some clocks
   pub gives_late : (is : List Inputs) → WriteNothing is → (left : List Offered)
       → map filled_up (beats_in b (map (λ (i : Inputs). silent (input_of i)) is) (new_state b maps)) ++ beats_offered left ≡ flat_map beats_of frames
       → (limit : ℕ) → clock_bound (length packets + 1) b.plan.last (most_beats frames) (record_count b.program.sites) ≤ limit → Gives (ran b maps is) left limit
@@ -75,7 +75,7 @@ module _ (laws : ClockLaws) (b : Build) (maps : MapState) (suited : IsSuited map
       let many = subst (λ n. clock_bound (n + 1) b.plan.last (most_beats frames) (record_count b.program.sites) ≤ limit) (sym (as_many_frames packets)) long in
       given_by t left limit
       (ap (λ (u : Trace). length (drive b clocks (drive_from u left)).trace.gave) (sym same)
-      ∙ laws.late b maps suited sound slots (quiet_filled is) (all_silent is) frames (frames_of_packets packets are) (beats_offered left) (ap (λ bs. bs ++ beats_offered left) (beats_quiet b is (new_state b maps)) ∙ over)
+      ∙ laws.late b maps pipelinable sound slots (quiet_filled is) (all_silent is) frames (frames_of_packets packets are) (beats_offered left) (ap (λ bs. bs ++ beats_offered left) (beats_quiet b is (new_state b maps)) ∙ over)
       clocks (omega (arith, late_enough b frames, many, length_besides b limit t left)))
 
   -- ---- packets that do not conflict: in as many clocks as needed all of them have come
@@ -101,9 +101,9 @@ module _ (laws : ClockLaws) (b : Build) (maps : MapState) (suited : IsSuited map
       let count = length_besides b limit t left in
       given_by t left limit
       (ap (λ (d : Driven). length (drive b clocks d).trace.gave) (sym starts)
-      ∙ laws.apart b maps suited sound slots frames (frames_of_packets packets are) clocks later
+      ∙ laws.apart b maps pipelinable sound slots frames (frames_of_packets packets are) clocks later
       (omega (arith, long_enough, many, ap length all, length_besides b (limit + more) t left))
-      (λ us run. subst (AreApart (b.plan.last + 3)) (sym (touch us run)) (are_apart (b.plan.last + 3) ts apart.apart))
+      (λ us run. subst (ConflictFree (b.plan.last + 3)) (sym (touch us run)) (conflict_free (b.plan.last + 3) ts apart.apart))
       (written frames ts)
       (λ us run. subst (λ vs. all_writing us ≤ written frames vs) (touch us run) (all_written b.program maps packets us frames (subst (λ (cs : List Arrival). AllRun b.program maps cs us) driven run) (as_many_frames packets)))
       (omega (arith, apart_enough frames ts, long, count)))

@@ -1,4 +1,4 @@
--- A full drive may come, and what has come behind it.
+-- A full drive may come, and what has come after it.
 use Rattle.std.specs.Prelude.{◌≡◌, ℕ, zero, suc, ◌<◌, min, if◌then◌else◌, is_some, not, Bool, true, false, Option, Some, None, List, [], ◌∷◌, ◌++◌, drop}
 use Rattle.std.specs.List.{AllByRecursion}
 use Rattle.std.proofs.Common.{refl, sym, ap, ◌∙◌, subst, arith, length-append}
@@ -10,28 +10,21 @@ use Rattle.cell_core.specs.beat_core.Ports.{Arrival, Offered}
 use Rattle.cell_core.proofs.beat_core_laws.BeatLaws.{IsOffer-eight}
 use Rattle.cell_core.proofs.beat_core_laws.WordLaws.{length-low_bytes}
 use Rattle.pipe_core.specs.net_core.declared.ports.Inputs.{Inputs}
-use Rattle.pipe_core.specs.net_core.History.{drive_inputs}
 use Rattle.pipe_net.specs.frame_net.Frames.{position_of}
-use Rattle.pipe_core.specs.Machine.{Packet, State, Input, Build, Turn, Commits, Writes, Moves, swept, some_send, turn_of, worked, work, is_ready, beat_over, came_with, gathered, taken_beat, scattered, clock}
+use Rattle.pipe_core.specs.Machine.{State, Input, Build, flushed, some_send, action_of, work, is_ready, beat_over, came_with, gathered, taken_beat, scattered, clock}
 use Rattle.pipe_core.specs.History.{Trace, next, run}
 use Rattle.pipe_core.specs.Drive.{ahead, beats_in}
 use Rattle.pipe_core.specs.HostRuns.Inputs.{input_of}
 use Rattle.pipe_runs.specs.PipeAnswers.Coming.{AllMayCome}
+use Rattle.pipe_core.specs.realization.History.{drive_inputs}
 use Rattle.pipe_core.specs.realization.Realizes.{beats_offered}
+use Rattle.pipe_core.proofs.ClockLaws.{worked_part, part_after}
 use Rattle.pipe_runs.proofs.Histories.{is_open}
 use Rattle.pipe_runs.proofs.Drives.{Fits, fit_inputs, left_by, driven}
 
 -- ---- what has come of a frame after a clock
-abbrev part_by : Option Arrival → Input → Option Beat → Option Arrival
-part_by part i None = part
-part_by part i (Some x) = if x.last then None else Some (came_with part i x)
 
-turn_part : (b : Build) (s : State) (back : Bool) (rest : List (Option Packet)) (u : Turn) → (worked b s back rest u).part ≡ s.part
-turn_part b s back rest (Commits j x) = refl
-turn_part b s back rest (Writes a n) = refl
-turn_part b s back rest Moves = refl
-
-gathered_part : (w : State) (i : Input) (o : Option Beat) → (gathered w i o).part ≡ part_by w.part i o
+gathered_part : (w : State) (i : Input) (o : Option Beat) → (gathered w i o).part ≡ part_after w.part i o
 gathered_part w i None = refl
 gathered_part w i (Some x) = by x.last
   where
@@ -49,15 +42,15 @@ scattered_part g (Some x) = by x.last
     by true = refl
     by false = refl
 
-part_then : (b : Build) (i : Input) (s : State) → (clock b i s).part ≡ part_by s.part i (beat_over b s i)
+part_then : (b : Build) (i : Input) (s : State) → (clock b i s).part ≡ part_after s.part i (beat_over b s i)
 unfolding clock work
 part_then b i s =
-    let rest = swept b 0 s.places in
+    let rest = flushed b 0 s.places in
     let over = beat_over b s i in
     scattered_part (gathered (work b i s) i over) (taken_beat s i) ∙ gathered_part (work b i s) i over
-    ∙ ap (λ p. part_by p i over) (turn_part b s (some_send b 0 s.places) rest (turn_of b i s rest))
+    ∙ ap (λ p. part_after p i over) (worked_part b s (some_send b 0 s.places) rest (action_of b i s rest))
 
-next_part : (b : Build) (i : Input) (t : Trace) → (next b i t).state.part ≡ part_by t.state.part i (beat_over b t.state i)
+next_part : (b : Build) (i : Input) (t : Trace) → (next b i t).state.part ≡ part_after t.state.part i (beat_over b t.state i)
 unfolding next
 next_part b i t = part_then b i t.state
 
@@ -73,7 +66,7 @@ one_more : (part : Option Arrival) (i : Input) (x : Beat) → x.bytes ≡ 8 → 
 one_more None i x e = let n = length-low_bytes (min x.bytes 8) x.word in omega (arith, n, e)
 one_more (Some a) i x e = let n = length-low_bytes (min x.bytes 8) x.word in omega (arith, n, e, length-append a.frame (bytes_of_beat x))
 
-offers_then : (part : Option Arrival) (i : Input) (o : Option Beat) (bs : List Beat) → AreOffers (position_of part) (ahead o bs) → AreOffers (position_of (part_by part i o)) bs
+offers_then : (part : Option Arrival) (i : Input) (o : Option Beat) (bs : List Beat) → AreOffers (position_of part) (ahead o bs) → AreOffers (position_of (part_after part i o)) bs
 offers_then part i None bs h = h
 offers_then part i (Some x) bs h = by x.last refl h.2
   where
@@ -110,7 +103,7 @@ drives_come b (suc n) t left fits offers =
     )
 
 -- ---- whether a frame has begun
-open_by : (part : Option Arrival) (i : Input) (o : Option Beat) (bs : List Beat) → is_open (is_some (part_by part i o)) bs ≡ is_open (is_some part) (ahead o bs)
+open_by : (part : Option Arrival) (i : Input) (o : Option Beat) (bs : List Beat) → is_open (is_some (part_after part i o)) bs ≡ is_open (is_some part) (ahead o bs)
 open_by part i None bs = refl
 open_by part i (Some x) bs = ap (λ c. is_open c bs) (by x.last)
   where

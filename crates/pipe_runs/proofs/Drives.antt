@@ -4,12 +4,13 @@ use Rattle.std.specs.List.{AllByRecursion}
 use Rattle.std.proofs.Common.{refl, sym, ap, ◌∙◌, arith}
 use Rattle.cell_core.specs.beat_core.Ports.{Offered}
 use Rattle.pipe_core.specs.net_core.declared.ports.Inputs.{Inputs}
-use Rattle.pipe_core.specs.net_core.History.{IsInput, drive_inputs}
+use Rattle.pipe_core.specs.net_core.Trace.{IsInput}
 use Rattle.pipe_core.specs.Machine.{Build, is_ready}
 use Rattle.pipe_core.specs.History.{Trace, next, run}
 use Rattle.pipe_core.specs.Drive.{Driven, driving, drive_clock, Beside, drive}
 use Rattle.pipe_core.specs.HostRuns.Inputs.{access_in, input_of}
 use Rattle.pipe_core.specs.HostRuns.Silent.{silent, ReadsAreSilent}
+use Rattle.pipe_core.specs.realization.History.{drive_inputs}
 use Rattle.pipe_core.specs.realization.Realizes.{IsBeside, beats_offered}
 use Rattle.pipe_runs.specs.PipePorts.Followed.{WriteNothing}
 
@@ -32,7 +33,7 @@ abbrev pub left_by : Bool → List Offered → List Offered
 left_by ready [] = []
 left_by ready (o ∷ os) = if ready then os else o ∷ os
 
--- what stands at the ports in so many clocks of a drive, by what the machine takes, and what is left behind them
+-- what stands at the ports in so many clocks of a drive, by what the machine takes, and what is left after them
 abbrev pub driven : Build → ℕ → Trace → List Offered → List Inputs
 driven b zero t left = []
 driven b (suc n) t left = drive_inputs left ∷ driven b n (next b (input_of (drive_inputs left)) t) (left_by (is_ready b t.state) left)
@@ -79,7 +80,7 @@ left_beats false [] = refl
 left_beats true (o ∷ os) = refl
 left_beats false (o ∷ os) = refl
 
--- the machine's drive behind these clocks
+-- the machine's drive after these clocks
 abbrev pub drive_from : Trace → List Offered → Driven
 drive_from t left = record { left = beats_offered left; trace = t }
 
@@ -103,7 +104,7 @@ module _ (reads : ReadsAreSilent) (b : Build) where
       let left' = left_by (is_ready b t.state) left in
       ap (drive b (besides b n t' left')) (clock_is t left) ∙ same_drive n t' left'
 
--- ---- more clocks behind these
+-- ---- more clocks after these
 pub besides_more : (b : Build) (n m k : ℕ) → k ≡ n + m → (t : Trace) (left : List Offered) → besides b k t left ≡ besides b n t left ++ besides b m (behind b n t left) (left_behind b n t left)
 besides_more b zero m k e t left = let same : k ≡ m = omega (arith, e) in ap (λ j. besides b j t left) same
 besides_more b (suc n) m zero e t left = absurd (omega (arith, e))

@@ -8,10 +8,11 @@ use Rattle.pipe_core.specs.net_core.declared.ports.TheConstants.{IN_READY}
 use Rattle.pipe_core.specs.net_core.Nets.{Netlist}
 use Rattle.pipe_core.specs.net_core.Clock.{Stored, after, shown, stopping}
 use Rattle.pipe_core.specs.net_core.Ports.{words_of}
-use Rattle.pipe_core.specs.net_core.History.{Cycle, cycle_of, trace, offers_in, drive_inputs, Drive, Answered, Stopped, and_then, left_after, owed_after, drive}
+use Rattle.pipe_core.specs.net_core.Trace.{Cycle, cycle_of, trace}
 use Rattle.pipe_core.specs.Machine.{Input, Build, is_ready, beat_over, taken_beat}
 use Rattle.pipe_core.specs.History.{Trace, gave_in, next}
 use Rattle.pipe_core.specs.HostRuns.Inputs.{input_of}
+use Rattle.pipe_core.specs.realization.History.{offers_in, drive_inputs, Drive, Answered, Stopped, and_then, left_after, owed_after, drive}
 use Rattle.pipe_core.specs.realization.Realizes.{inputs_in}
 use Rattle.pipe_runs.specs.PipeAnswers.Following.{FollowsAlways}
 use Rattle.pipe_runs.specs.PipePorts.Ports.{cycle, offers_by, ShowsClock, PortsShowClocks}

@@ -1,16 +1,9 @@
--- Behind the last answer no frame is inside.
-use Rattle.std.specs.Prelude.{◌≡◌, suc, ◌+◌, ◌≤◌, nat_lt, not, ◌&&◌, is_some, true, false, List, [], ◌∷◌, ◌++◌, length}
+-- After the last answer no frame is inside.
+use Rattle.std.specs.Prelude.{◌≡◌, ◌+◌, ◌≤◌, nat_lt, not, ◌&&◌, is_some, true, false, List, [], ◌∷◌, ◌++◌, length}
 use Rattle.std.proofs.Common.{refl, sym, ap, ap₂, ◌∙◌, arith, length-append, length-drop, append-nil}
-use Rattle.cell_core.specs.beat_core.Ports.{Arrival}
-use Rattle.cell_core.specs.Sites.{ProgramView}
-use Rattle.pipe_core.specs.hazard_core.Held.{Held}
-use Rattle.pipe_core.specs.Machine.{Build, is_calm, inside}
+use Rattle.pipe_core.specs.Machine.{Build, is_idle, inside}
 use Rattle.pipe_core.specs.History.{Trace, answers_of, IsInOrder}
-
-answers_length : (p : ProgramView) (hs : List Held) (cs : List Arrival) → length hs ≤ length cs → length (answers_of p hs cs) ≡ length hs
-answers_length p [] cs le = refl
-answers_length p (h ∷ hs) [] le = absurd (omega (arith, le))
-answers_length p (h ∷ hs) (c ∷ cs) le = ap suc (answers_length p hs cs (omega (arith, le)))
+use Rattle.pipe_core.proofs.HistoryLaws.{answers_length}
 
 nothing : {A : Type 0} (xs : List A) → length xs ≡ 0 → xs ≡ []
 nothing [] z = refl
@@ -28,7 +21,7 @@ pub record IsEnded (b : Build) (t : Trace) : Type 0 where
   pub left : length t.left ≡ length t.came
   pub gave : t.gave ≡ answers_of b.program t.left t.came
   pub none : inside t.state.places ≡ 0
-  pub calm : is_calm t.state ≡ true
+  pub idle : is_idle t.state ≡ true
 
 pub ended : (b : Build) (t : Trace) → IsInOrder b t → length t.gave ≡ length t.came → is_some t.state.part ≡ false → IsEnded b t
 ended b t h all closed =
@@ -39,5 +32,5 @@ ended b t h all closed =
       left = omega (arith, count, all, h.begun);
       gave = sym (append-nil t.gave) ∙ ap (λ rs. t.gave ++ rs) (sym answers) ∙ h.answers;
       none = omega (arith, h.packets, frames);
-      calm = ap₂ (λ part n. not part && nat_lt n 1) closed (ap₂ (λ m n. m + n) (ap length answers) frames);
+      idle = ap₂ (λ part n. not part && nat_lt n 1) closed (ap₂ (λ m n. m + n) (ap length answers) frames);
     }

@@ -1,4 +1,4 @@
--- Lists of clocks one behind the other, and what goes over in them.
+-- Lists of clocks one after the other, and what goes over in them.
 use Rattle.std.specs.Prelude.{◌≡◌, ℕ, ◌≤◌, if◌then◌else◌, Bool, true, false, not, Option, Some, None, List, [], ◌∷◌, ◌++◌, length, map}
 use Rattle.std.specs.List.{AllByRecursion, flat_map}
 use Rattle.std.proofs.Common.{refl, sym, ap, ◌∙◌, arith, append-nil, length-append}
@@ -9,12 +9,13 @@ use Rattle.cell_core.specs.beat_core.Laws.{IsFrame}
 use Rattle.cell_core.specs.beat_core.Ports.{Arrival, arrived, Offered, offered, arrivals_among}
 use Rattle.cell_core.specs.beat_core.declared.frame.Timed.{Timed}
 use Rattle.cell_core.proofs.beat_core_laws.BeatLaws.{IsWhole-beats_of}
-use Rattle.cell_core.proofs.beat_core_laws.PortLemmas.{frames-arrive}
+use Rattle.cell_core.proofs.beat_core_laws.PortLaws.{frames-arrive}
 use Rattle.pipe_core.specs.net_core.declared.ports.Inputs.{Inputs}
 use Rattle.pipe_core.specs.net_core.Nets.{Netlist}
 use Rattle.pipe_core.specs.net_core.Clock.{Stored, after}
 use Rattle.pipe_core.specs.net_core.Ports.{words_of}
-use Rattle.pipe_core.specs.net_core.History.{Cycle, cycle_of, trace, stored_after, goes_in, offered_beat, beats_in, offers_in}
+use Rattle.pipe_core.specs.net_core.Trace.{Cycle, cycle_of, trace, stored_after}
+use Rattle.pipe_core.specs.realization.History.{goes_in, offered_beat, beats_in, offers_in}
 use Rattle.pipe_core.specs.realization.Realizes.{IsPacket, frames_in, offers_from, all_offers, beats_offered}
 
 pub trace_append : (d : Netlist) (s : Stored) (is js : List Inputs) → trace d s (is ++ js) ≡ trace d s is ++ trace d (stored_after d s is) js
@@ -54,7 +55,7 @@ pub offered_append : (os ps : List Offered) → beats_offered (os ++ ps) ≡ bea
 offered_append [] ps = refl
 offered_append (o ∷ os) ps = ap (λ bs. o.beat ∷ bs) (offered_append os ps)
 
--- what has come of a frame behind these offers
+-- what has come of a frame after these offers
 abbrev part_after : Option Arrival → List Offered → Option Arrival
 part_after part [] = part
 part_after part (o ∷ os) = if o.beat.last then part_after None os else part_after (Some (arrived part o)) os
@@ -90,7 +91,7 @@ same_arrive os ps packets e l =
     by [] q z = sym (append-nil (arrivals_among None os)) ∙ sym q ∙ e
     by (c ∷ cs) q z = absurd (omega (arith, z))
 
--- ---- whether a frame has begun, behind these beats
+-- ---- whether a frame has begun, after these beats
 abbrev pub is_open : Bool → List Beat → Bool
 is_open begun [] = begun
 is_open begun (b ∷ bs) = is_open (not b.last) bs
@@ -123,7 +124,7 @@ stays_open part (o ∷ os) begun e h = by o.beat.last (stays_open (Some (arrived
     by true later f k = absurd cc
     by false later f k = absurd (let never = later f k in cc)
 
--- where all frames have arrived, and behind all offers none has begun, none has begun
+-- where all frames have arrived, and after all offers none has begun, none has begun
 pub all_closed : (os ps : List Offered) (packets : List Arrival) (begun : Bool) → arrivals_among None (os ++ ps) ≡ packets → arrivals_among None os ≡ packets → is_open begun (beats_offered ps) ≡ false → begun ≡ false
 all_closed os ps packets begun all few h = stays_open (part_after None os) ps begun (nothing (arrivals_among (part_after None os) ps) (omega (arith, length-append (arrivals_among None os) (arrivals_among (part_after None os) ps), ap length (sym all ∙ more_arrive None os ps), ap length few))) h
   where

@@ -15,14 +15,15 @@ use Rattle.cell_core.specs.xdp_machine.Touched.{Touched}
 use Rattle.pipe_core.specs.net_core.declared.ports.Inputs.{Inputs}
 use Rattle.pipe_core.specs.net_core.Nets.{Netlist}
 use Rattle.pipe_core.specs.net_core.Clock.{Stored}
-use Rattle.pipe_core.specs.net_core.History.{Cycle, trace, stored_after, beats_in, offers_in, arrivals, answers_given, Drive, drive}
+use Rattle.pipe_core.specs.net_core.Trace.{Cycle, trace, stored_after}
+use Rattle.pipe_core.specs.realization.History.{beats_in, offers_in, arrivals, answers_given, Drive, drive}
 use Rattle.pipe_core.specs.realization.HostHistory.Host.{dump, ShowsMaps}
 use Rattle.pipe_net.specs.frame_net.Frames.{position_of}
 use Rattle.cell_core.specs.Rows.{record_count}
 use Rattle.pipe_core.specs.Machine.{Build}
 use Rattle.pipe_core.specs.History.{Trace, next, run, begin, IsInOrder, IsAlwaysInOrder}
-use Rattle.pipe_core.specs.InTurn.{left_maps}
-use Rattle.pipe_core.specs.Pipeable.{IsSuited}
+use Rattle.pipe_core.specs.SequentialOrder.{left_maps}
+use Rattle.pipe_core.specs.Pipeable.{IsPipelinable}
 use Rattle.pipe_core.specs.HostRuns.Inputs.{input_of}
 use Rattle.pipe_core.specs.HostRuns.Fits.{LoadsFit, IsHostClock}
 use Rattle.pipe_net.specs.Layout.{Layout, last_of}
@@ -63,7 +64,7 @@ pub record AllLaws : Type 0 where
   pub answers : RunsAreAnswers
   pub safe : PatternsAnswerInTurn
 
--- ---- clocks one behind the other
+-- ---- clocks one after the other
 run_append : (b : Build) (xs ys : List Inputs) (t : Trace) → run b (map input_of (xs ++ ys)) t ≡ run b (map input_of ys) (run b (map input_of xs) t)
 run_append b [] ys t = refl
 run_append b (x ∷ xs) ys t = run_append b xs ys (next b (input_of x) t)
@@ -90,25 +91,25 @@ module _ (laws : AllLaws) (l : Layout) (maps : MapState) (n : Netlist) (st : Sto
   order_of : (is : List Inputs) → IsInOrder b (ran b maps is)
   order_of is = laws.order b maps (map input_of is)
 
-  -- ---- behind the last answer
+  -- ---- after the last answer
   all_answered : (is : List Inputs) → WriteNothing is → IsEnded b (ran b maps is) → wanted (ran b maps is).came (ran b maps is).gave (left_maps b.program maps (ran b maps is).left)
   all_answered is quiet end =
       let t = ran b maps is in
       let last = left_maps b.program maps t.left in
-      subst (λ (rs : List Answer). wanted t.came rs last) (sym end.gave) (laws.answers b.program maps t.left t.came last (laws.in_turn b maps followed.suited followed.sound is quiet).runs end.left)
+      subst (λ (rs : List Answer). wanted t.came rs last) (sym end.gave) (laws.answers b.program maps t.left t.came last (laws.in_turn b maps followed.pipelinable followed.sound is quiet).runs end.left)
 
   shows_maps : (is : List Inputs) → WriteNothing is → AllMayCome b is (begin b maps) → IsEnded b (ran b maps is) → ShowsMaps n (stored_after n st is) (left_maps b.program maps (ran b maps is).left)
   shows_maps is quiet come end =
       let t = ran b maps is in
       let reads = dump maps.decls in
-      let going = laws.go_on l (subst (λ (ds : List MapDecl). IsSuited ds b) declared followed.suited) maps declared followed.sound is quiet in
+      let going = laws.go_on l (subst (λ (ds : List MapDecl). IsPipelinable ds b) declared followed.pipelinable) maps declared followed.sound is quiet in
       let same : t.state.tables.decls ≡ maps.decls = going.right.at.decls_are ∙ sym declared in
       let both = followed.follows.clocks (is ++ reads) (silent_append is reads quiet (dumps_write_nothing maps.decls)) (come_append b is reads (begin b maps) come (host_comes laws.host b reads (laws.fit maps followed.sound few).dump t)) in
       let follow : FollowsAlways b n reads t (stored_after n st is) = follow_behind b n is reads (begin b maps) st both in
-      subst (ShowsMaps n (stored_after n st is)) ((laws.in_turn b maps followed.suited followed.sound is quiet).last end.none)
-      (laws.dumps l t going end.calm n (stored_after n st is) (subst (λ (ds : List MapDecl). FollowsAlways b n (dump ds) t (stored_after n st is)) (sym same) follow))
+      subst (ShowsMaps n (stored_after n st is)) ((laws.in_turn b maps followed.pipelinable followed.sound is quiet).last end.none)
+      (laws.dumps l t going end.idle n (stored_after n st is) (subst (λ (ds : List MapDecl). FollowsAlways b n (dump ds) t (stored_after n st is)) (sym same) follow))
 
-  -- ---- a drive behind some clocks
+  -- ---- a drive after some clocks
   module _ (is : List Inputs) (pattern : IsInPattern b maps n st is) (packets : List Arrival) (are : AllByRecursion IsPacket packets) (left : List Offered) (beside : AllByRecursion IsBeside left)
       (over : map filled_up (beats_in (trace n st is)) ++ beats_offered left ≡ flat_map beats_of (frames_in packets)) (come : arrivals_among None (offers_in (trace n st is) ++ left) ≡ packets) where
     abbrev frames : List (List ℕ)
@@ -255,7 +256,7 @@ module _ (laws : AllLaws) (l : Layout) (maps : MapState) (n : Netlist) (st : Sto
 
   in_time : (packets : List Arrival) → AllByRecursion IsPacket packets → (limit : ℕ) → clock_bound (length packets) (last_of l) (most_beats (frames_in packets)) (record_count b.program.sites) ≤ limit →
       length (behind b limit (begin b maps) (all_offers packets)).gave ≡ length packets
-  in_time packets are limit long = gives_in_time laws.clocks b maps followed.suited followed.sound slots packets are limit long
+  in_time packets are limit long = gives_in_time laws.clocks b maps followed.pipelinable followed.sound slots packets are limit long
 
   -- in as many clocks all packets have come
   come_in : (packets : List Arrival) (are : AllByRecursion IsPacket packets) (limit : ℕ) → clock_bound (length packets) (last_of l) (most_beats (frames_in packets)) (record_count b.program.sites) ≤ limit →
@@ -265,7 +266,7 @@ module _ (laws : AllLaws) (l : Layout) (maps : MapState) (n : Netlist) (st : Sto
   without_conflicts : (packets : List Arrival) → AllByRecursion IsPacket packets → (limit : ℕ) (ts : List Touched) → DoNotConflict b maps packets ts → clock_bound_apart (last_of l) (frames_in packets) ts ≤ limit →
       length (behind b limit (begin b maps) (all_offers packets)).gave ≡ length packets
   without_conflicts packets are limit ts apart long =
-      gives_apart laws.clocks b maps followed.suited followed.sound slots packets are limit ts apart long
+      gives_apart laws.clocks b maps followed.pipelinable followed.sound slots packets are limit ts apart long
       (come_in packets are (limit + clock_bound (length packets) (last_of l) (most_beats (frames_in packets)) (record_count b.program.sites)) (omega arith))
 
   late_from : (is : List Inputs) (packets : List Arrival) (left : List Offered) (limit : ℕ) → IsPattern n st is → AllByRecursion IsPacket packets → AllByRecursion IsBeside left →
@@ -275,7 +276,7 @@ module _ (laws : AllLaws) (l : Layout) (maps : MapState) (n : Netlist) (st : Sto
   late_from is packets left limit p are beside over come long =
       let pattern = laws.patterns b maps n st followed is p in
       whole_of is pattern packets are left beside over come limit
-      (gives_late laws.clocks b maps followed.suited followed.sound slots packets are is pattern.silent left (ap (λ bs. map filled_up bs ++ beats_offered left) (sym pattern.history.beats) ∙ over) limit long)
+      (gives_late laws.clocks b maps followed.pipelinable followed.sound slots packets are is pattern.silent left (ap (λ bs. map filled_up bs ++ beats_offered left) (sym pattern.history.beats) ∙ over) limit long)
 
   pub meets : Meets n st wanted (DoNotConflict b maps) (last_of l) (record_count b.program.sites)
   meets = record {

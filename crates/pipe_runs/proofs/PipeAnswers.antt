@@ -1,4 +1,3 @@
-pub mod Silence
 pub mod Going
 pub mod Loading
 pub mod Coming

@@ -3,12 +3,12 @@ use Rattle.std.specs.Prelude.{◌≡◌, ℕ, ◌+◌, ◌≤◌, List, length}
 use Rattle.cell_core.specs.xdp_maps.State.{MapState, IsSound}
 use Rattle.pipe_core.specs.net_core.Nets.{Netlist}
 use Rattle.pipe_core.specs.net_core.Clock.{Stored, first_stored}
-use Rattle.pipe_core.specs.net_core.History.{NeverStops, stored_after}
+use Rattle.pipe_core.specs.net_core.Trace.{NeverStops, stored_after}
 use Rattle.pipe_net.specs.block_core.Blocks.{Whole}
 use Rattle.pipe_core.specs.realization.HostHistory.Host.{load}
 use Rattle.pipe_core.specs.realization.Realizes.{Meets}
 use Rattle.cell_core.specs.Rows.{record_count}
-use Rattle.pipe_core.specs.Pipeable.{IsSuited}
+use Rattle.pipe_core.specs.Pipeable.{IsPipelinable}
 use Rattle.pipe_net.specs.declared.parts.Part.{Part}
 use Rattle.pipe_net.specs.Layout.{Layout, last_of}
 use Rattle.pipe_net.specs.PipePlaces.Entries.{AccessesLead}
@@ -36,5 +36,5 @@ pub record MeetsLoaded (l : Layout) (maps : MapState) (n : Netlist) : Type 0 whe
 -- Whatever blocks of these contracts are linked, and whatever maps are loaded.
 abbrev pub PipelinesMeet : Type 0
 PipelinesMeet =
-    (l : Layout) (d : Whole Part) (names : List (List ℕ)) → IsPipeline l d → AccessesLead l.build → IsSuited l.decls l.build → l.build.slots ≡ last_of l + 4
+    (l : Layout) (d : Whole Part) (names : List (List ℕ)) → IsPipeline l d → AccessesLead l.build → IsPipelinable l.decls l.build → l.build.slots ≡ last_of l + 4
     → (maps : MapState) → maps.decls ≡ l.decls → IsSound maps → length maps.decls ≤ 16 → MeetsLoaded l maps (design l d names)

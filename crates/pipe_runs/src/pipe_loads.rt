@@ -1,3 +1,3 @@
-//! Designs of pipelines through a load and behind it. There is no code but for the law.
+//! Designs of pipelines through a load and after it. There is no code but for the law.
 
 pub mod laws;

@@ -1,7 +1,8 @@
--- What the parts of places of a layout by a draft read of others, and that they are such.
+-- What the parts of places of a layout by a pipeline plan read of others, and that they are such.
 use Rattle.std.proofs.Common.{◌≡◌, ◌∙◌, ℕ, ◌<◌, All, List, [], ◌∷◌, ◌++◌, length, get_or, inl, inr, refl, sym, ap, subst, arith}
 use Rattle.std.proofs.lemmas.List.{get_or-map}
 use Rattle.std.proofs.lemmas.List.Elements.{All-nil, All-cons, All-append, Contains-get_or}
+use Rattle.block_core.proofs.list_laws_laws.PlaceLaws.{some_of}
 use Rattle.hazard_core.specs.xdp_maps.declared.decl.MapDecl.{MapDecl}
 use Rattle.hazard_core.specs.xdp_maps.declared.decl.MapKind.{MapKind}
 use Rattle.hazard_core.specs.xdp_maps.declared.decl.MapKind.TheVariants.{Hash, Array}
@@ -12,6 +13,7 @@ use Rattle.overlay_net.specs.cell_nets.declared.operand.Operand.{Operand}
 use Rattle.overlay_net.specs.cell_nets.declared.operand.Operand.TheVariants.{Known, Net}
 use Rattle.overlay_net.specs.cell_nets.Operands.{IsAvailable}
 use Rattle.hazard_core.specs.Tables.{decl_of}
+use Rattle.overlay_net.proofs.cell_nets_laws.AvailableLaws.{available}
 use Rattle.hash_net.specs.SlotNet.Slots.{slots_of, operands_of as slot_operands}
 use Rattle.commit_net.specs.declared.map_block.form.MapForm.{MapForm}
 use Rattle.stage_net.specs.SiteTable.Staged.{StagesArePlaced}
@@ -22,28 +24,27 @@ use Rattle.pipe_net.specs.Layout.{Layout, program_of}
 use Rattle.pipe_net.specs.PipePlaces.Layout.{load_sites}
 use Rattle.pipe_net.specs.PipePlaces.Parts.{AreWords}
 use Rattle.pipe_net.specs.PipeForms.Reading.{map_shown_as, map_shown, IsReadAt, Advance, Before, OfMap, OfWord}
-use Rattle.pipe_parts.specs.declared.pipe_draft.draft.Draft.{Draft}
-use Rattle.pipe_parts.specs.declared.pipe_draft.places.Behind.{Behind}
-use Rattle.pipe_parts.specs.PipeDraft.Draft.{program_in, plan_in}
-use Rattle.pipe_parts.specs.PipeDraft.Laid.{IsDrafted, DraftedAreLaid}
+use Rattle.pipe_parts.specs.declared.pipe_draft.pipeline_plan.PipelinePlan.{PipelinePlan}
+use Rattle.pipe_parts.specs.declared.pipe_draft.places.StageSources.{StageSources}
+use Rattle.pipe_parts.specs.PipeDraft.PipelinePlan.{program_in, plan_in}
+use Rattle.pipe_parts.specs.PipeDraft.Laid.{IsPipelinePlanned, PipelinePlannedAreLaid}
 use Rattle.place_parts.specs.declared.parts.PlaceParts.{PlaceParts}
 use Rattle.place_parts.specs.Words.{load_at, word_row, IsWordNet}
 use Rattle.place_parts.specs.Places.{advances_by}
 use Rattle.place_parts.specs.Laws.{ArePlacesOf}
-use Rattle.place_parts.proofs.Available.{some_of, available}
 use Rattle.place_parts.proofs.Standing.{before_in}
 use Rattle.place_parts.proofs.Taking.{slot_nets, slots_all}
 use Rattle.place_parts.proofs.Places.{place_outside}
-use Rattle.place_parts.proofs.Drafted.{AreGiven, sizes_same, many_forms, all_before, loads_same}
-use Rattle.place_parts.proofs.DraftedWords.{load_there, row_low, is_word, words_of}
-use Rattle.place_parts.proofs.DraftedPlaces.{is_place, place_alone, enters}
+use Rattle.place_parts.proofs.PipelinePlanned.{AreGiven, sizes_same, many_forms, all_before, loads_same}
+use Rattle.place_parts.proofs.PipelinePlannedWords.{load_there, row_low, is_word, words_of}
+use Rattle.place_parts.proofs.PipelinePlannedPlaces.{is_place, place_alone, enters}
 
 no_form : MapForm
 no_form = record { number = 0; bits = 0; decl = no_decl }
 
-module _ (d : Draft) (places : List Behind) (maps : List (MapNets (Name Part))) (r : PlaceParts) (l : Layout) (w : Whole Part) (g : AreGiven d places maps r l w) where
-  abbrev from : IsDrafted d places l
-  from = g.for.drafted
+module _ (d : PipelinePlan) (places : List StageSources) (maps : List (MapNets (Name Part))) (r : PlaceParts) (l : Layout) (w : Whole Part) (g : AreGiven d places maps r l w) where
+  abbrev from : IsPipelinePlanned d places l
+  from = g.for.pipeline_planned
 
   abbrev words : AreWords l w
   words = words_of d places maps r l w g
@@ -89,7 +90,7 @@ module _ (d : Draft) (places : List Behind) (maps : List (MapNets (Name Part))) 
         All-cons Reads (Net (advances_by d.sizes) 1) (before_in d k ++ (slot_nets maps ++ g.are.nets)) (Advance advances)
         (All-append Reads (before_in d k) (slot_nets maps ++ g.are.nets) (λ i a lt. Before (all_before d places l from k i a lt)) (All-append Reads (slot_nets maps) g.are.nets of_maps of_words))
 
-  pub are_places : StagesArePlaced → DraftedAreLaid → ArePlacesOf l w
+  pub are_places : StagesArePlaced → PipelinePlannedAreLaid → ArePlacesOf l w
   unfolding is_word is_place
   are_places placed laid =
       let staged = placed (program_in d) (plan_in d) d.needed.items d.parts.items d.points.items g.is.ready.formed g.is.ready.planned g.is.needed g.is.parts g.is.points in

@@ -8,8 +8,8 @@ mod WordParts
 mod Taking
 mod Places
 mod Making
-mod Drafted
-mod DraftedWords
-mod DraftedPlaces
+mod PipelinePlanned
+mod PipelinePlannedWords
+mod PipelinePlannedPlaces
 mod Laid
 pub mod MarkParts

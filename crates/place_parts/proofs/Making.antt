@@ -27,9 +27,9 @@ use Rattle.stage_net.proofs.ListLaws.{can_make, can_point, pointers_of_row}
 use Rattle.stage_net.proofs.NetLaws.{sites_are}
 use Rattle.pipe_net.specs.declared.parts.Part.{Part}
 use Rattle.pipe_net.specs.Parts as part
-use Rattle.pipe_parts.specs.declared.pipe_draft.draft.Draft.{Draft}
-use Rattle.pipe_parts.specs.declared.pipe_draft.places.Behind.{Behind}
-use Rattle.pipe_parts.specs.PipeDraft.Draft.{program_in, plan_in, decls_in, IsDraft}
+use Rattle.pipe_parts.specs.declared.pipe_draft.pipeline_plan.PipelinePlan.{PipelinePlan}
+use Rattle.pipe_parts.specs.declared.pipe_draft.places.StageSources.{StageSources}
+use Rattle.pipe_parts.specs.PipeDraft.PipelinePlan.{program_in, plan_in, decls_in, IsPipelinePlan}
 use Rattle.place_parts.specs.Maps.{AreMapsFor}
 use Rattle.place_parts.specs.Places.{advances_by, row_in, made_in, held_in, made_pointers_in, held_pointers_in, table_in, pointers_in, StandsBefore, IsStageOf}
 use Rattle.place_parts.proofs.Taking.{maps_are, maps_decls}
@@ -38,7 +38,7 @@ abbrev Table : Type 0
 Table = List (Option (Operand (Name Part)))
 
 -- lists and tables of a place
-pub record AreInputs (d : Draft) (k : ℕ) (before : Behind) (rows made held those held_those : List ℕ) (table pointers : Table) : Type 0 where
+pub record AreInputs (d : PipelinePlan) (k : ℕ) (before : StageSources) (rows made held those held_those : List ℕ) (table pointers : Table) : Type 0 where
   pub rows_are : rows ≡ (plan_in d).rows
   pub made_are : made ≡ made_in d k
   pub held_are : held ≡ held_in d k
@@ -47,7 +47,7 @@ pub record AreInputs (d : Draft) (k : ℕ) (before : Behind) (rows made held tho
   pub table_is : table ≡ table_in before
   pub pointers_are : pointers ≡ pointers_in before
 
-module _ (d : Draft) (is : IsDraft d) where
+module _ (d : PipelinePlan) (is : IsPipelinePlan d) where
   abbrev p : ProgramView
   p = program_in d
 
@@ -65,7 +65,7 @@ module _ (d : Draft) (is : IsDraft d) where
   pub staged_over : (maps : List (MapNets (Name Part))) (rows : List ℕ) → AreMapsFor d maps → rows ≡ (plan_in d).rows → IsStaged p (slice_index rows) (decls_of maps) d.bits
   staged_over maps rows fit same = coe 1 0 (i. IsStaged p (slice_index (same i)) (maps_decls d maps fit i) d.bits) staged_in
 
-  module _ (k : ℕ) (before : Behind) (stands : StandsBefore d k before) where
+  module _ (k : ℕ) (before : StageSources) (stands : StandsBefore d k before) where
     pub nets_are :
         (nets : StageNets (Name Part)) (maps : List (MapNets (Name Part))) (words : List (Operand (Name Part))) → nets.bits ≡ d.bits → nets.sites.now ≡ before.sites.items → nets.maps.now ≡ maps → nets.words.now ≡ words → AreMapsFor d maps
         → length words ≡ length p.sites → All IsOperand words → AreNets p nets

@@ -1,4 +1,3 @@
-pub mod Reading
 pub mod Listing
 pub mod Forming
 pub mod Owning

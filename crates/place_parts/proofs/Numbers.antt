@@ -6,6 +6,7 @@ use Rattle.std.proofs.lemmas.Bool.{cases_eq, cases_lt}
 use Rattle.std.proofs.lemmas.List.Elements.{All-nil, All-cons, All-filter}
 use Rattle.std.proofs.lemmas.List.Kept.{AllPairs-cons, AllPairs-filter}
 use Rattle.hazard_core.specs.cell_core.Rows.{numbers}
+use Rattle.hazard_core.proofs.cell_core_laws.NumberLaws.{in_numbers}
 
 numbers_from : (n from least : ℕ) → least ≤ from → All (λ k. least ≤ k) (numbers from n)
 numbers_from zero from least h = All-nil (λ k. least ≤ k)
@@ -18,13 +19,6 @@ numbers_below (suc n) from most h = All-cons (λ k. k < most) from (numbers (suc
 numbers_rise : (n from : ℕ) → AllPairs (λ a b. a < b) (numbers from n)
 numbers_rise zero from = λ i j d lt within. absurd (omega (arith, within))
 numbers_rise (suc n) from = AllPairs-cons (λ a b. a < b) from (numbers (suc from) n) (λ i d lt. numbers_from n (suc from) (suc from) (omega arith) i d lt) (numbers_rise n (suc from))
-
-in_numbers : (n from k : ℕ) → from ≤ k → k < from + n → Contains (numbers from n) k
-in_numbers zero from k low high = absurd (omega (arith, low, high))
-in_numbers (suc n) from k low high = elim (cases_eq from k) [
-  | inl e ↦ (0, omega arith, e)
-  | inr o ↦ let c = in_numbers n (suc from) k (omega (arith, low, o)) (omega (arith, high)) in (suc c.0, omega (arith, c.1), c.2)
-]
 
 -- ---- those that pass
 differ : (t : Bool) → t ≡ false → t ≡ true → ⊥

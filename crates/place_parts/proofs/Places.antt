@@ -10,7 +10,7 @@ use Rattle.overlay_net.specs.cell_nets.declared.operand.Operand.TheVariants.{Net
 use Rattle.overlay_net.specs.cell_nets.Operands.{IsAvailable}
 use Rattle.overlay_net.specs.cell_nets.Wires.{behind, own}
 use Rattle.row_net.specs.Lists.{is_early}
-use Rattle.row_net.proofs.ApartLemmas.{free_keep}
+use Rattle.row_net.proofs.ApartLaws.{free_keep}
 use Rattle.row_net.specs.Table.{AreThere}
 use Rattle.row_net.specs.PlaceNet.Sources.{source_operands}
 use Rattle.row_net.specs.SitePlace.PointerNets.{BothThere}
@@ -27,29 +27,29 @@ use Rattle.stage_net.proofs.ApartLaws.{reads_late, behind_apart}
 use Rattle.stage_net.proofs.NetLaws.{sites_there}
 use Rattle.pipe_net.specs.declared.parts.Part.{Part}
 use Rattle.pipe_net.specs.Parts as part
-use Rattle.pipe_parts.specs.declared.pipe_draft.draft.Draft.{Draft}
-use Rattle.pipe_parts.specs.declared.pipe_draft.places.Behind.{Behind}
-use Rattle.pipe_parts.specs.PipeDraft.Draft.{program_in, plan_in, IsDraft}
-use Rattle.pipe_parts.specs.PipeDraft.Places.{AreSitesOf, IsBehind}
+use Rattle.pipe_parts.specs.declared.pipe_draft.pipeline_plan.PipelinePlan.{PipelinePlan}
+use Rattle.pipe_parts.specs.declared.pipe_draft.places.StageSources.{StageSources}
+use Rattle.pipe_parts.specs.PipeDraft.PipelinePlan.{program_in, plan_in, IsPipelinePlan}
+use Rattle.pipe_parts.specs.PipeDraft.Places.{AreSitesOf, AreStageSources}
 use Rattle.place_parts.specs.Places.{advances_by, row_in, made_in, held_in, made_pointers_in, held_pointers_in, table_in, pointers_in, IsStageOf, IsFirstPlace}
 use Rattle.place_parts.proofs.Available.{IsIn, all_available, in_left, in_right, in_rest}
 use Rattle.place_parts.proofs.Standing.{before_in, cells_there, pointers_there}
 use Rattle.place_parts.proofs.Taking.{slot_nets, slots_in}
 
 -- ---- all that a place reads
-abbrev pub place_outside : Draft → List (MapNets (Name Part)) → List (Operand (Name Part)) → ℕ → List (Operand (Name Part))
+abbrev pub place_outside : PipelinePlan → List (MapNets (Name Part)) → List (Operand (Name Part)) → ℕ → List (Operand (Name Part))
 place_outside d maps words k = Net (advances_by d.sizes) 1 ∷ (before_in d k ++ (slot_nets maps ++ words))
 
 -- The place of a row over what stands before it: this is there, whatever else comes from outside.
-pub record IsPlaceOver (d : Draft) (maps : List (MapNets (Name Part))) (words : List (Operand (Name Part))) (k : ℕ) (before : Behind) (b : BlockTree (Name Part)) : Type 0 where
+pub record IsPlaceOver (d : PipelinePlan) (maps : List (MapNets (Name Part))) (words : List (Operand (Name Part))) (k : ℕ) (before : StageSources) (b : BlockTree (Name Part)) : Type 0 where
   pub wires : List (BlockWireTree (Name Part))
   pub sites : AreSitesOf d before.tables before.sites.items
   pub stage : IsStageOf d before maps words wires k b
   pub both : (outside : List (Operand (Name Part))) → IsIn (before_in d k) outside → BothThere (part.place d.sizes k) outside wires (table_in before) (pointers_in before)
   pub alone : IsApartAlone (part.place d.sizes k) b
 
-module _ (d : Draft) (is : IsDraft d) (maps : List (MapNets (Name Part))) (words : List (Operand (Name Part))) where
-  module _ (k : ℕ) (before : Behind) (b : BlockTree (Name Part)) (over : IsPlaceOver d maps words k before b) where
+module _ (d : PipelinePlan) (is : IsPipelinePlan d) (maps : List (MapNets (Name Part))) (words : List (Operand (Name Part))) where
+  module _ (k : ℕ) (before : StageSources) (b : BlockTree (Name Part)) (over : IsPlaceOver d maps words k before b) where
     abbrev here : Part
     here = part.place d.sizes k
 
@@ -107,7 +107,7 @@ module _ (d : Draft) (is : IsDraft d) (maps : List (MapNets (Name Part))) (words
         }
 
     -- ---- a later place
-    pub later_over : (k : ℕ) (before : Behind) (b : BlockTree (Name Part)) → IsBehind d k before → IsStageOf d before maps words [] (suc k) b → IsPlaceOver d maps words (suc k) before b
+    pub later_over : (k : ℕ) (before : StageSources) (b : BlockTree (Name Part)) → AreStageSources d k before → IsStageOf d before maps words [] (suc k) b → IsPlaceOver d maps words (suc k) before b
     later_over k before b stand stage =
         let part_here = part.place d.sizes (suc k) in
         record {

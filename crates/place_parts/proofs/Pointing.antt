@@ -5,6 +5,7 @@ use Rattle.std.proofs.lemmas.Bool.{cases_lt}
 use Rattle.std.proofs.lemmas.List.{get_or_past}
 use Rattle.std.proofs.lemmas.List.Elements.{filter_passes}
 use Rattle.std.proofs.Common.{inl, inr}
+use Rattle.block_core.proofs.list_laws_laws.PlaceLaws.{some_of}
 use Rattle.block_core.specs.declared.name.Name.{Name}
 use Rattle.hazard_core.specs.cell_core.declared.operator.Operator.{Operator}
 use Rattle.hazard_core.specs.cell_core.declared.operator.Operator.TheVariants.{Found, Answer}
@@ -17,7 +18,7 @@ use Rattle.hazard_core.specs.cell_core.Sites.{ProgramView, site_at}
 use Rattle.overlay_net.specs.cell_nets.declared.operand.Operand.{Operand}
 use Rattle.overlay_net.specs.cell_nets.declared.operand.Operand.TheVariants.{Known}
 use Rattle.overlay_net.specs.cell_nets.Operands.{IsOperand, IsAvailable}
-use Rattle.hazard_core.specs.Held.{answer_cell}
+use Rattle.hazard_core.specs.StageValues.{answer_cell}
 use Rattle.overlay_net.specs.ValueNet.Words.{answers_number}
 use Rattle.overlay_net.specs.SiteOperands.Sites.{SiteOperands}
 use Rattle.row_net.specs.Table.{Stands}
@@ -26,13 +27,13 @@ use Rattle.stage_net.specs.SiteTable.Sites.{access_operand}
 use Rattle.stage_net.proofs.SiteTable.SiteLaws.{at_index}
 use Rattle.stage_net.specs.Staged.{IsReadCell}
 use Rattle.pipe_net.specs.declared.parts.Part.{Part}
-use Rattle.pipe_parts.specs.declared.pipe_draft.draft.Draft.{Draft}
-use Rattle.pipe_parts.specs.declared.pipe_draft.places.Behind.{Behind}
-use Rattle.pipe_parts.specs.PipeDraft.Draft.{program_in, plan_in, IsDraft}
+use Rattle.pipe_parts.specs.declared.pipe_draft.pipeline_plan.PipelinePlan.{PipelinePlan}
+use Rattle.pipe_parts.specs.declared.pipe_draft.places.StageSources.{StageSources}
+use Rattle.pipe_parts.specs.PipeDraft.PipelinePlan.{program_in, plan_in, IsPipelinePlan}
 use Rattle.pipe_parts.specs.PipeDraft.Places.{ArePlaces}
 use Rattle.place_parts.specs.Words.{word_row, IsPointerBefore}
 use Rattle.place_parts.specs.Places.{row_in, pointers_in}
-use Rattle.place_parts.proofs.Available.{some_of, IsIn}
+use Rattle.place_parts.proofs.Available.{IsIn}
 use Rattle.place_parts.proofs.Numbers.{passing_below}
 use Rattle.place_parts.proofs.Standing.{before_in, cells_there, pointers_there}
 
@@ -53,7 +54,7 @@ differ act.Update f n = cc
 differ act.Delete f n = cc
 differ a f n = cc
 
-module _ (d : Draft) (is : IsDraft d) where
+module _ (d : PipelinePlan) (is : IsPipelinePlan d) where
   abbrev p : ProgramView
   p = program_in d
 
@@ -79,12 +80,12 @@ module _ (d : Draft) (is : IsDraft d) where
   load_answers = subst (All (λ j. answers_number (site_at p.sites j).act ≡ true)) (sym is.loads) (filter_passes (λ j. answers_number (site_at p.sites j).act) (numbers 0 (length p.sites)))
 
   -- ---- their pointers
-  module _ (places : List Behind) (stand : ArePlaces d places) where
+  module _ (places : List StageSources) (stand : ArePlaces d places) where
     pub record IsPointerOf (row j : ℕ) (pointer : Operand (Name Part)) : Type 0 where
       pub operand : IsOperand pointer
       pub there : (ins : List (Operand (Name Part))) → IsIn (before_in d row) ins → IsAvailable ins pointer
 
-    behind_at : (k : ℕ) → suc k ≤ (plan_in d).last → Behind
+    behind_at : (k : ℕ) → suc k ≤ (plan_in d).last → StageSources
     behind_at k le = some_of places k (omega (arith, le, stand.count))
 
     pub pointer_of : (row j : ℕ) (pointer : Operand (Name Part)) → row ≤ (plan_in d).last → j < length p.sites → IsPointerBefore places row j pointer → IsPointerOf row j pointer
@@ -103,7 +104,7 @@ module _ (d : Draft) (is : IsDraft d) where
 
     -- by the table of pointers before the row
     pub pointer_is : (row j : ℕ) (pointer : Operand (Name Part)) (table : List (Option (Operand (Name Part)))) → row ≤ (plan_in d).last → j < length p.sites → IsPointerBefore places row j pointer
-        → (row ≡ 0 → table ≡ d.plain.items) → ((k : ℕ) (b : Behind) → row ≡ suc k → table ≡ pointers_in (get_or places k b))
+        → (row ≡ 0 → table ≡ d.plain.items) → ((k : ℕ) (b : StageSources) → row ≡ suc k → table ≡ pointers_in (get_or places k b))
         → access_operand table (site_at p.sites j).act (site_at p.sites j).operands ≡ pointer
     pointer_is zero j pointer table le lt e first later = ap (λ t. access_operand t (site_at p.sites j).act (site_at p.sites j).operands) (first refl ∙ is.plain) ∙ plain_access d.points.items (site_at p.sites j).act (site_at p.sites j).operands ∙ sym e
     pointer_is (suc k) j pointer table le lt e first later =

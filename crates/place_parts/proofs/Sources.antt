@@ -1,40 +1,31 @@
 -- What stands before the first place.
-use Rattle.std.specs.Prelude.{Contains, not, ◌&&◌, ◌||◌, ◌/◌, ◌==◌}
-use Rattle.std.proofs.Common.{◌≡◌, ◌∙◌, ◌⊎◌, inl, inr, ℕ, zero, suc, ◌<◌, Bool, true, false, Some, All, List, [], ◌∷◌, length, map as map_list, get_or, refl, sym, subst, arith}
+use Rattle.std.specs.Prelude.{Contains, not}
+use Rattle.std.proofs.Common.{◌≡◌, ◌∙◌, ◌⊎◌, inl, inr, ℕ, ◌<◌, Bool, true, false, All, List, length, map as map_list, get_or, refl, sym, subst, arith}
 use Rattle.std.proofs.lemmas.List.Elements.{All-contains, Contains-get_or, filter_passes}
 use Rattle.block_core.specs.declared.name.Name.{Name}
 use Rattle.block_core.specs.Blocks.{BlockWireTree}
-use Rattle.hazard_core.specs.cell_core.declared.operator.Operator.{Operator}
-use Rattle.hazard_core.specs.cell_core.declared.operator.Operator.TheVariants.{Byte, Length, Ifindex, Time}
+use Rattle.block_core.proofs.list_laws_laws.BoolLaws.{both_of, and_is}
 use Rattle.hazard_core.specs.cell_core.Cells.{CellView, cell_at, is_read}
-use Rattle.hazard_core.specs.cell_core.Formed.{IsInRange}
 use Rattle.hazard_core.specs.cell_core.Rows.{numbers}
 use Rattle.hazard_core.specs.cell_core.Sites.{ProgramView}
 use Rattle.overlay_net.specs.cell_nets.Computing.{is_outside}
-use Rattle.frame_net.specs.declared.held.Kept.{Kept}
-use Rattle.frame_net.specs.declared.held.Kept.TheVariants as kept
 use Rattle.row_net.specs.Lists.{varies}
 use Rattle.row_net.specs.Needed.{flag}
-use Rattle.row_net.specs.Table.{IsIn, is_constant, is_number}
-use Rattle.row_net.specs.PlaceNet.Sources.{IsSource, IsShown}
+use Rattle.row_net.specs.Table.{IsIn, is_constant}
+use Rattle.row_net.specs.PlaceNet.Sources.{IsSource}
 use Rattle.row_net.specs.SitePlace.Pointing.{IsPointers}
+use Rattle.row_net.proofs.TableLaws.{wide_of}
 use Rattle.stage_net.specs.SiteTable.Pointing.{plain_of}
 use Rattle.stage_net.proofs.SiteTable.TableLaws.{plain_in, plain_are}
-use Rattle.stage_net.proofs.ListLaws.{at_hand_first}
+use Rattle.stage_net.proofs.ListLaws.{at_hand_first, flagged_within}
 use Rattle.pipe_net.specs.declared.parts.Part.{Part}
-use Rattle.pipe_parts.specs.declared.pipe_draft.draft.Draft.{Draft}
-use Rattle.pipe_parts.specs.declared.pipe_draft.places.Behind.{Behind}
-use Rattle.pipe_parts.specs.PipeDraft.Sources.{comes, is_source, kept_for}
-use Rattle.pipe_parts.specs.PipeDraft.Draft.{program_in, plan_in, IsDraft}
+use Rattle.pipe_parts.specs.declared.pipe_draft.pipeline_plan.PipelinePlan.{PipelinePlan}
+use Rattle.pipe_parts.specs.declared.pipe_draft.places.StageSources.{StageSources}
+use Rattle.pipe_parts.specs.PipeDraft.Sources.{comes, is_source}
+use Rattle.pipe_parts.specs.PipeDraft.PipelinePlan.{program_in, plan_in, IsPipelinePlan}
+use Rattle.pipe_parts.proofs.PipeDraft.SourceLaws.{shown_of}
 use Rattle.place_parts.specs.Places.{table_in, pointers_in, StandsBefore, IsArriving}
 use Rattle.place_parts.proofs.Numbers.{passing_below, passing_in}
-
-both_of : (a b : Bool) → (a && b) ≡ true → (a ≡ true) × (b ≡ true)
-both_of true b e = (refl, e)
-both_of false b e = cc
-
-both : (a b : Bool) → a ≡ true → b ≡ true → (a && b) ≡ true
-both a b e f = rw (e, f) refl
 
 not_of : (b : Bool) → not b ≡ true → b ≡ false
 not_of true e = cc
@@ -48,27 +39,7 @@ test : (b : Bool) → (b ≡ true) ⊎ (b ≡ false)
 test true = inl refl
 test false = inr refl
 
-flagged_low : (flags : List Bool) (k : ℕ) → flag flags k ≡ true → k < length flags
-flagged_low [] k e = cc
-flagged_low (b ∷ flags) zero e = omega arith
-flagged_low (b ∷ flags) (suc k) e = omega (arith, flagged_low flags k e)
-
--- a cell that is not the same for all packets has bits
-wide_of : (c : CellView) → is_constant c ≡ false → 0 < c.width
-wide_of c h = not_zero c.width (is_number c.op) h
-  where
-    not_zero : (w : ℕ) (b : Bool) → ((w == 0) || b) ≡ false → 0 < w
-    not_zero zero b e = cc
-    not_zero (suc w) b e = omega arith
-
-shown_of : (list : List Kept) (op : Operator) → comes op ≡ true → IsInRange op → ((what : Kept) → kept_for op ≡ Some what → Contains list what) → IsShown list op
-shown_of list (Byte i) o w h = (omega (arith, w), h (kept.Word (i / 8)) refl)
-shown_of list Length o w h = tt
-shown_of list Ifindex o w h = h kept.Ifindex refl
-shown_of list Time o w h = h kept.Time refl
-shown_of list op o w h = cc
-
-module _ (d : Draft) (is : IsDraft d) where
+module _ (d : PipelinePlan) (is : IsPipelinePlan d) where
   abbrev p : ProgramView
   p = program_in d
 
@@ -97,19 +68,19 @@ module _ (d : Draft) (is : IsDraft d) where
       }
 
   -- ---- the tables before the first place
-  module _ (ws : List (BlockWireTree (Name Part))) (b : Behind) (arriving : IsArriving d ws b) where
+  module _ (ws : List (BlockWireTree (Name Part))) (b : StageSources) (arriving : IsArriving d ws b) where
     source_in : (k : ℕ) → flag needed k ≡ true → is_outside (here k).op ≡ true → is_read (here k).op ≡ false → IsIn (table_in b) k
     source_in k f o r = by_kind (test (is_constant (here k)))
       where
         low : k < length p.cells
-        low = omega (arith, flagged_low needed k f, is.needed.count)
+        low = omega (arith, flagged_within needed k f, is.needed.count)
 
         by_kind : (is_constant (here k) ≡ true) ⊎ (is_constant (here k) ≡ false) → IsIn (table_in b) k
         by_kind (inl c) = arriving.sourced.grows k (is.constants.known k low c)
         by_kind (inr c) =
-            let v = both (flag needed k) (not (is_constant (here k))) f (of_not (is_constant (here k)) c) in
-            let t = both (is_outside (here k).op) (not (is_read (here k).op)) o (of_not (is_read (here k).op) r) in
-            let s = passing_in (is_source p needed) (length p.cells) k low (both (varies p needed k) (comes (here k).op) v t) in
+            let v = and_is (flag needed k) (not (is_constant (here k))) f (of_not (is_constant (here k)) c) in
+            let t = and_is (is_outside (here k).op) (not (is_read (here k).op)) o (of_not (is_read (here k).op) r) in
+            let s = passing_in (is_source p needed) (length p.cells) k low (and_is (varies p needed k) (comes (here k).op) v t) in
             All-contains (IsIn (table_in b)) d.sources.items k arriving.sourced.given (subst (λ ks. Contains ks k) (sym is.sources) s)
 
     pointers_plain : pointers_in b ≡ map_list plain_of d.points.items

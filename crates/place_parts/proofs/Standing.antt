@@ -11,25 +11,25 @@ use Rattle.stage_net.proofs.SiteTable.TableLaws.{plain_there}
 use Rattle.stage_net.proofs.ListLaws.{at_hand}
 use Rattle.pipe_net.specs.declared.parts.Part.{Part}
 use Rattle.pipe_net.specs.Parts as part
-use Rattle.pipe_parts.specs.declared.pipe_draft.draft.Draft.{Draft}
-use Rattle.pipe_parts.specs.declared.pipe_draft.places.Behind.{Behind}
-use Rattle.pipe_parts.specs.PipeDraft.Draft.{program_in, plan_in, IsDraft}
-use Rattle.pipe_parts.specs.PipeDraft.Places.{IsBehind}
+use Rattle.pipe_parts.specs.declared.pipe_draft.pipeline_plan.PipelinePlan.{PipelinePlan}
+use Rattle.pipe_parts.specs.declared.pipe_draft.places.StageSources.{StageSources}
+use Rattle.pipe_parts.specs.PipeDraft.PipelinePlan.{program_in, plan_in, IsPipelinePlan}
+use Rattle.pipe_parts.specs.PipeDraft.Places.{AreStageSources}
 use Rattle.place_parts.specs.Places.{held_in, held_pointers_in, table_in, pointers_in, StandsBefore}
 use Rattle.place_parts.proofs.Available.{IsIn, all_available, in_left, in_right}
 
 -- ---- what comes from other parts before a place: of the first one what is shown of a frame, of each later one the registers of the place before
-abbrev pub cell_registers : Draft → ℕ → List (Operand (Name Part))
+abbrev pub cell_registers : PipelinePlan → ℕ → List (Operand (Name Part))
 cell_registers d k = registers_from (part.place d.sizes k) (program_in d).cells 0 (held_in d k)
 
-abbrev pub those_registers : Draft → ℕ → List (Operand (Name Part))
+abbrev pub those_registers : PipelinePlan → ℕ → List (Operand (Name Part))
 those_registers d k = pointer_registers (part.place d.sizes k) d.bits (length (held_in d k)) (held_pointers_in d k)
 
-abbrev pub before_in : Draft → ℕ → List (Operand (Name Part))
+abbrev pub before_in : PipelinePlan → ℕ → List (Operand (Name Part))
 before_in d zero = source_operands (part.sources d.sizes) d.kept.items
 before_in d (suc k) = cell_registers d k ++ those_registers d k
 
-module _ (d : Draft) (is : IsDraft d) (k : ℕ) (b : Behind) (behind : IsBehind d k b) where
+module _ (d : PipelinePlan) (is : IsPipelinePlan d) (k : ℕ) (b : StageSources) (behind : AreStageSources d k b) where
   pub stands_later : StandsBefore d (suc k) b
   stands_later = record {
     table = behind.tables.behind.table.table;

@@ -4,6 +4,7 @@ use Rattle.std.proofs.Common.{◌≡◌, ◌∙◌, ℕ, zero, suc, ◌+◌, ◌
 use Rattle.std.proofs.lemmas.Bool.{cases_eq}
 use Rattle.std.proofs.lemmas.List.{length-map, length-set, get_or-map, get_or-set_same, get_or-set_other, ext_get_or}
 use Rattle.std.proofs.lemmas.List.Elements.{All-nil, All-append}
+use Rattle.block_core.proofs.list_laws_laws.PlaceLaws.{some_of}
 use Rattle.hazard_core.specs.xdp_maps.State.{no_decl}
 use Rattle.block_core.specs.declared.name.Name.{Name}
 use Rattle.hazard_core.specs.cell_core.Sites.{site_at}
@@ -17,11 +18,11 @@ use Rattle.read_net.specs.Sites.{slot_cells}
 use Rattle.commit_net.specs.declared.change_net.pointed.PointedWords.{PointedWords}
 use Rattle.stage_net.specs.Nets.{decls_of, IsMapNets}
 use Rattle.pipe_net.specs.declared.parts.Part.{Part}
-use Rattle.pipe_parts.specs.declared.pipe_draft.draft.Draft.{Draft}
-use Rattle.pipe_parts.specs.PipeDraft.Draft.{program_in, decls_in, IsDraft}
+use Rattle.pipe_parts.specs.declared.pipe_draft.pipeline_plan.PipelinePlan.{PipelinePlan}
+use Rattle.pipe_parts.specs.PipeDraft.PipelinePlan.{program_in, decls_in, IsPipelinePlan}
 use Rattle.place_parts.specs.Maps.{AreMapsFor}
 use Rattle.place_parts.specs.Words.{load_at, word_net, IsWordNet, AreWordNets}
-use Rattle.place_parts.proofs.Available.{some_of, IsIn, in_left, in_right}
+use Rattle.place_parts.proofs.Available.{IsIn, in_left, in_right}
 use Rattle.place_parts.proofs.Numbers.{passing_once}
 use Rattle.place_parts.proofs.Pointing.{load_low}
 
@@ -40,7 +41,7 @@ pub slots_all : (Q : Operand (Name Part) → Type 0) (ms : List (MapNets (Name P
 slots_all Q [] each = All-nil Q
 slots_all Q (x ∷ xs) each = All-append Q (slot_cells x) (slot_nets xs) (each 0 x (omega arith)) (slots_all Q xs (λ m n lt. each (suc m) n (omega (arith, lt))))
 
-module _ (d : Draft) (maps : List (MapNets (Name Part))) (fit : AreMapsFor d maps) where
+module _ (d : PipelinePlan) (maps : List (MapNets (Name Part))) (fit : AreMapsFor d maps) where
   no_form : MapForm
   no_form = record { number = 0; bits = 0; decl = no_decl }
 
@@ -63,19 +64,19 @@ word_operand : (words : List (PointedWords (Name Part))) (a : Operand (Name Part
 word_operand words a (inl e) = subst IsOperand (sym e) (omega arith)
 word_operand words a (inr h) = let x = some_of words h.0 h.1 in subst IsOperand (sym (h.2 x)) (record { some = omega arith; most = omega arith })
 
-pub words_are : (d : Draft) (words : List (PointedWords (Name Part))) (nets : List (Operand (Name Part))) → AreWordNets d words nets → All IsOperand nets
+pub words_are : (d : PipelinePlan) (words : List (PointedWords (Name Part))) (nets : List (Operand (Name Part))) → AreWordNets d words nets → All IsOperand nets
 words_are d words nets are i a lt = word_operand words (get_or nets i a) (are.only i a lt)
 
 -- so of the first sites that read a word
-pub record AreNetsTo (d : Draft) (words : List (PointedWords (Name Part))) (n : ℕ) (nets : List (Operand (Name Part))) : Type 0 where
+pub record AreNetsTo (d : PipelinePlan) (words : List (PointedWords (Name Part))) (n : ℕ) (nets : List (Operand (Name Part))) : Type 0 where
   pub count : length nets ≡ length (program_in d).sites
   pub read : (i : ℕ) (x : PointedWords (Name Part)) (a : Operand (Name Part)) → i < n → get_or nets (load_at d i) a ≡ word_net (get_or words i x)
   pub only : All (IsWordNet words) nets
 
-pub no_nets : (d : Draft) (words : List (PointedWords (Name Part))) (nets : List (Operand (Name Part))) → length nets ≡ length (program_in d).sites → All (λ a. a ≡ Known 0) nets → AreNetsTo d words 0 nets
+pub no_nets : (d : PipelinePlan) (words : List (PointedWords (Name Part))) (nets : List (Operand (Name Part))) → length nets ≡ length (program_in d).sites → All (λ a. a ≡ Known 0) nets → AreNetsTo d words 0 nets
 no_nets d words nets count none = record { count = count; read = λ i x a lt. absurd (omega (arith, lt)); only = λ i a lt. inl (none i a lt) }
 
-module _ (d : Draft) (is : IsDraft d) (words : List (PointedWords (Name Part))) (n : ℕ) (nets : List (Operand (Name Part))) (j : ℕ) (net : Operand (Name Part)) (same : length words ≡ length d.loads.items) (lt : n < length d.loads.items) (so : AreNetsTo d words n nets)
+module _ (d : PipelinePlan) (is : IsPipelinePlan d) (words : List (PointedWords (Name Part))) (n : ℕ) (nets : List (Operand (Name Part))) (j : ℕ) (net : Operand (Name Part)) (same : length words ≡ length d.loads.items) (lt : n < length d.loads.items) (so : AreNetsTo d words n nets)
     (here : j ≡ load_at d n) (of : (x : PointedWords (Name Part)) → net ≡ word_net (get_or words n x)) where
   abbrev passes : ℕ → Bool
   passes k = answers_number (site_at (program_in d).sites k).act

@@ -2,7 +2,7 @@
 use Rattle.std.specs.Prelude.{◌+◌, ◌≤◌, ◌/◌}
 use Rattle.std.specs.List.{list_all}
 use Rattle.std.proofs.Common.{◌≡◌, ◌∙◌, ℕ, suc, ◌<◌, Bool, true, false, List, [], ◌∷◌, length, get_or, refl, sym, ap, subst, arith}
-use Rattle.std.proofs.lemmas.List.{length-map, get_or-map}
+use Rattle.std.proofs.lemmas.List.{length-map, get_or-map, get_or_default}
 use Rattle.hazard_core.specs.xdp_maps.Calls.{change_bytes}
 use Rattle.hazard_core.specs.xdp_maps.State.{no_decl}
 use Rattle.hazard_core.specs.xdp_machine.Memory.{bytes_in}
@@ -28,12 +28,11 @@ use Rattle.commit_net.specs.declared.change_net.pointed.PointedWords.{PointedWor
 use Rattle.commit_net.specs.ChangeNet.Pointed.{IsOver, IsPointedWords}
 use Rattle.pipe_net.specs.declared.parts.Part.{Part}
 use Rattle.pipe_net.specs.Parts as part
-use Rattle.pipe_parts.specs.declared.pipe_draft.draft.Draft.{Draft}
-use Rattle.pipe_parts.specs.declared.pipe_draft.places.Behind.{Behind}
-use Rattle.pipe_parts.specs.PipeDraft.Draft.{program_in, plan_in, decls_in, IsDraft}
+use Rattle.pipe_parts.specs.declared.pipe_draft.pipeline_plan.PipelinePlan.{PipelinePlan}
+use Rattle.pipe_parts.specs.declared.pipe_draft.places.StageSources.{StageSources}
+use Rattle.pipe_parts.specs.PipeDraft.PipelinePlan.{program_in, plan_in, decls_in, IsPipelinePlan}
 use Rattle.pipe_parts.specs.PipeDraft.Places.{ArePlaces}
 use Rattle.place_parts.specs.Words.{word_row, IsPointerBefore, load_at, load_site, IsWordPart}
-use Rattle.place_parts.proofs.Available.{same_there}
 use Rattle.place_parts.proofs.Pointing.{load_low, load_answers, row_most, pointer_of}
 
 -- ---- the word of an access is one of its value
@@ -52,11 +51,11 @@ inside_word (act.Load at size) value n h = omega (arith, h, some_bytes size)
 inside_word (act.Atomic at x) value n h = omega (arith, h, some_changed x.wide)
 inside_word a value n h = cc
 
--- the site behind the place before
-pub pointer_at : (places : List Behind) (row k j : ℕ) (pointer : Operand (Name Part)) → row ≡ suc k → ((b : Behind) (s : SiteNets (Name Part)) → pointer ≡ (get_or (get_or places k b).sites.items j s).pointer) → IsPointerBefore places row j pointer
+-- the site after the place before
+pub pointer_at : (places : List StageSources) (row k j : ℕ) (pointer : Operand (Name Part)) → row ≡ suc k → ((b : StageSources) (s : SiteNets (Name Part)) → pointer ≡ (get_or (get_or places k b).sites.items j s).pointer) → IsPointerBefore places row j pointer
 pointer_at places row k j pointer e is = subst (λ n. IsPointerBefore places n j pointer) (sym e) is
 
-module _ (d : Draft) (is : IsDraft d) where
+module _ (d : PipelinePlan) (is : IsPipelinePlan d) where
   abbrev p : ProgramView
   p = program_in d
 
@@ -69,7 +68,7 @@ module _ (d : Draft) (is : IsDraft d) where
     number_answers = subst (λ n. answers_number (site_at p.sites n).act ≡ true) (sym same) (load_answers d is i number lt)
 
     number_is : number ≡ load_at d i
-    number_is = same ∙ same_there d.loads.items i number 0 lt
+    number_is = same ∙ get_or_default d.loads.items i number 0 lt
 
     abbrev site : SiteView
     site = site_at p.sites number
@@ -88,7 +87,7 @@ module _ (d : Draft) (is : IsDraft d) where
           inside_word a form.decl.value (ap answers_number e ∙ number_answers) (coe 0 1 (t. IsInside (decl_is t).value (same_act t)) (is.ready.fits number number_low).inside)
 
       -- ---- its part
-      module _ (places : List Behind) (stand : ArePlaces d places) (row : ℕ) (row_is : row ≡ word_row d number) (pointer : Operand (Name Part)) (before : IsPointerBefore places row number pointer) where
+      module _ (places : List StageSources) (stand : ArePlaces d places) (row : ℕ) (row_is : row ≡ word_row d number) (pointer : Operand (Name Part)) (before : IsPointerBefore places row number pointer) where
         row_low : row ≤ (plan_in d).last
         row_low = omega (arith, row_is, row_most d is number)
 
@@ -119,7 +118,7 @@ module _ (d : Draft) (is : IsDraft d) where
               pointer = pointer;
               before = coe 0 1 (t. IsPointerBefore places (same_row t) (number_is t) pointer) before;
               form = form;
-              form_is = λ f. ap (λ m. get_or d.forms.items m f) same_map ∙ same_there d.forms.items map f form map_low ∙ sym form_is;
+              form_is = λ f. ap (λ m. get_or d.forms.items m f) same_map ∙ get_or_default d.forms.items map f form map_low ∙ sym form_is;
               count = (makes (pointer ∷ []) over).count_of_words;
               block = coe 0 1 (t. Makes (here t) (same_of t) (none t) (first_is t) form (same_from t) x) makes;
             }

@@ -1,5 +1,5 @@
 pub mod Places
-pub mod Due
+pub mod Reload
 pub mod Owns
 pub mod Marks
 pub mod Laws

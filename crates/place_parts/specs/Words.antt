@@ -6,7 +6,7 @@ use Rattle.block_core.specs.View.{block_of}
 use Rattle.hazard_core.specs.cell_core.Sites.{SiteView, site_at}
 use Rattle.overlay_net.specs.cell_nets.declared.operand.Operand.{Operand}
 use Rattle.overlay_net.specs.cell_nets.declared.operand.Operand.TheVariants.{Known, Net}
-use Rattle.hazard_core.specs.Held.{answer_cell}
+use Rattle.hazard_core.specs.StageValues.{answer_cell}
 use Rattle.commit_net.specs.declared.map_block.form.MapForm.{MapForm}
 use Rattle.commit_net.specs.MapBlock.Stored.{first_value}
 use Rattle.overlay_net.specs.ValueNet.Words.{access_start}
@@ -15,30 +15,30 @@ use Rattle.commit_net.specs.declared.change_net.pointed.PointedWords.{PointedWor
 use Rattle.commit_net.specs.ChangeNet.Pointed.{IsOver, IsPointedWords}
 use Rattle.pipe_net.specs.declared.parts.Part.{Part}
 use Rattle.pipe_net.specs.Parts as part
-use Rattle.pipe_parts.specs.declared.pipe_draft.draft.Draft.{Draft}
-use Rattle.pipe_parts.specs.declared.pipe_draft.places.Behind.{Behind}
-use Rattle.pipe_parts.specs.PipeDraft.Draft.{program_in, plan_in}
+use Rattle.pipe_parts.specs.declared.pipe_draft.pipeline_plan.PipelinePlan.{PipelinePlan}
+use Rattle.pipe_parts.specs.declared.pipe_draft.places.StageSources.{StageSources}
+use Rattle.pipe_parts.specs.PipeDraft.PipelinePlan.{program_in, plan_in}
 
 -- ---- the part of a word
 -- the row of the cell that reads a site, 0 where none does
-abbrev pub word_row : Draft → ℕ → ℕ
+abbrev pub word_row : PipelinePlan → ℕ → ℕ
 word_row d j = slice_index (plan_in d).rows (answer_cell (program_in d).cells j)
 
 -- what stands for the pointer of site j before the place of a row: before the first one no cell has a pointer
-abbrev pub IsPointerBefore : List Behind → ℕ → ℕ → Operand (Name Part) → Type 0
+abbrev pub IsPointerBefore : List StageSources → ℕ → ℕ → Operand (Name Part) → Type 0
 IsPointerBefore places zero j pointer = pointer ≡ Known 0
-IsPointerBefore places (suc k) j pointer = (b : Behind) (s : SiteNets (Name Part)) → pointer ≡ (get_or (get_or places k b).sites.items j s).pointer
+IsPointerBefore places (suc k) j pointer = (b : StageSources) (s : SiteNets (Name Part)) → pointer ≡ (get_or (get_or places k b).sites.items j s).pointer
 
 -- the i-th of the sites that read a word
-abbrev pub load_at : Draft → ℕ → ℕ
+abbrev pub load_at : PipelinePlan → ℕ → ℕ
 load_at d i = slice_index d.loads.items i
 
-abbrev pub load_site : Draft → ℕ → SiteView
+abbrev pub load_site : PipelinePlan → ℕ → SiteView
 load_site d i = site_at (program_in d).sites (load_at d i)
 
--- The part for the i-th of the sites that read a word: behind no other wires it shows the one that the access begins in, in the slot of its map that the pointer before
+-- The part for the i-th of the sites that read a word: after no other wires it shows the one that the access begins in, in the slot of its map that the pointer before
 -- its row is to, whatever comes from outside.
-pub record IsWordPart (d : Draft) (places : List Behind) (i : ℕ) (x : PointedWords (Name Part)) : Type 0 where
+pub record IsWordPart (d : PipelinePlan) (places : List StageSources) (i : ℕ) (x : PointedWords (Name Part)) : Type 0 where
   pub pointer : Operand (Name Part)
   pub before : IsPointerBefore places (word_row d (load_at d i)) (load_at d i) pointer
   pub form : MapForm
@@ -49,13 +49,13 @@ pub record IsWordPart (d : Draft) (places : List Behind) (i : ℕ) (x : PointedW
       → IsPointedWords (part.word d.sizes i) (part.own d.sizes (load_site d i).map) outside [] pointer 2 form.bits (first_value form.decl) form.decl.value (access_start (load_site d i).act / 8) 1 x.slot x.words.items (block_of x.block)
 
 -- so of all of them
-pub record AreWordParts (d : Draft) (places : List Behind) (words : List (PointedWords (Name Part))) : Type 0 where
+pub record AreWordParts (d : PipelinePlan) (places : List StageSources) (words : List (PointedWords (Name Part))) : Type 0 where
   pub count : length words ≡ length d.loads.items
   pub each : (i : ℕ) (x : PointedWords (Name Part)) → i < length d.loads.items → IsWordPart d places i (get_or words i x)
 
 -- ---- what stands for the words of sites
 -- each part has one word
-pub record HaveWords (d : Draft) (words : List (PointedWords (Name Part))) : Type 0 where
+pub record HaveWords (d : PipelinePlan) (words : List (PointedWords (Name Part))) : Type 0 where
   pub count : length words ≡ length d.loads.items
   pub each : (i : ℕ) (x : PointedWords (Name Part)) → i < length d.loads.items → length (get_or words i x).words.items ≡ 1
 
@@ -68,7 +68,7 @@ abbrev pub IsWordNet : List (PointedWords (Name Part)) → Operand (Name Part) �
 IsWordNet words a = (a ≡ Known 0) ⊎ ((i : ℕ) × (i < length words) × ((x : PointedWords (Name Part)) → a ≡ word_net (get_or words i x)))
 
 -- For each site an operand: of one that reads a word that of its part.
-pub record AreWordNets (d : Draft) (words : List (PointedWords (Name Part))) (nets : List (Operand (Name Part))) : Type 0 where
+pub record AreWordNets (d : PipelinePlan) (words : List (PointedWords (Name Part))) (nets : List (Operand (Name Part))) : Type 0 where
   pub count : length nets ≡ length (program_in d).sites
   pub read : (i : ℕ) (x : PointedWords (Name Part)) (a : Operand (Name Part)) → i < length d.loads.items → get_or nets (load_at d i) a ≡ word_net (get_or words i x)
   pub only : All (IsWordNet words) nets

@@ -1,10 +1,10 @@
 //! What the place of a row makes and holds.
 
 ghost use Rattle.std.specs.Prelude.{IfOk};
-ghost use Rattle.pipe_parts.specs.PipeDraft.Draft.{IsDraft};
+ghost use Rattle.pipe_parts.specs.PipeDraft.PipelinePlan.{IsPipelinePlan};
 ghost use Rattle.place_parts.specs.Places.{AreListsOf};
 
-use pipe_parts::pipe_draft::Draft;
+use pipe_parts::pipe_draft::PipelinePlan;
 use row_net::lists::made;
 use stage_net::site_table::lists::{held, held_pointers, made_pointers};
 use std::alloc::{AllocError, Global};
@@ -21,17 +21,17 @@ pub(crate) struct PlaceLists {
 /// The lists of the place of a row.
 pub(crate) fn place_lists(
     alloc: Global,
-    draft: &Draft<'_>,
+    pipeline_plan: &PipelinePlan<'_>,
     k: u32,
 ) -> Result<PlaceLists, AllocError>
-    requires { IsDraft draft.now }
-    ensures { IfOk result (AreListsOf draft.now k) }
+    requires { IsPipelinePlan pipeline_plan.now }
+    ensures { IfOk result (AreListsOf pipeline_plan.now k) }
 {
-    let program = draft.program;
-    let plan = draft.plan;
-    let needed: &[bool] = &draft.needed;
-    let parts: &[bool] = &draft.parts;
-    let points: &[bool] = &draft.points;
+    let program = pipeline_plan.program;
+    let plan = pipeline_plan.plan;
+    let needed: &[bool] = &pipeline_plan.needed;
+    let parts: &[bool] = &pipeline_plan.parts;
+    let points: &[bool] = &pipeline_plan.points;
     Ok(PlaceLists {
         made: made(alloc, program, plan, needed, k)?,
         held: held(alloc, program, plan, needed, parts, k)?,

@@ -1,7 +1,7 @@
 //! The parts of places.
 
 ghost use Rattle.std.specs.Prelude.{IfOk};
-ghost use Rattle.pipe_parts.specs.PipeDraft.Draft.{IsDraft};
+ghost use Rattle.pipe_parts.specs.PipeDraft.PipelinePlan.{IsPipelinePlan};
 ghost use Rattle.pipe_parts.specs.PipeDraft.Places.{ArePlaces};
 ghost use Rattle.place_parts.specs.Maps.{AreMapsFor};
 ghost use Rattle.place_parts.specs.Parts.{ArePlaceParts};
@@ -15,7 +15,7 @@ use block_core::name::Name;
 use commit_net::change_net::pointed::PointedWords;
 use overlay_net::cell_nets::operand::Operand;
 use pipe_net::parts::Part;
-use pipe_parts::pipe_draft::{Behind, Draft};
+use pipe_parts::pipe_draft::{PipelinePlan, StageSources};
 use read_net::sites::MapNets;
 use std::alloc::{AllocError, Global};
 
@@ -28,22 +28,22 @@ pub struct PlaceParts {
     pub first: Vec<Option<Operand<Name<Part>>>>,
 }
 
-/// The parts of the places of a draft, by what stands behind each place and for each map.
+/// The parts of the places of a pipeline plan, by what stands after each place and for each map.
 pub fn place_parts(
     alloc: Global,
-    draft: &Draft<'_>,
-    places: &[Behind],
+    pipeline_plan: &PipelinePlan<'_>,
+    places: &[StageSources],
     maps: &[MapNets<'_, Name<Part>>],
 ) -> Result<PlaceParts, AllocError>
-    requires draft { IsDraft draft.now }
-    requires places { ArePlaces draft.now places.now }
-    requires maps { AreMapsFor draft.now maps.now }
-    ensures { IfOk result (ArePlaceParts draft.now places.now maps.now) }
+    requires pipeline_plan { IsPipelinePlan pipeline_plan.now }
+    requires places { ArePlaces pipeline_plan.now places.now }
+    requires maps { AreMapsFor pipeline_plan.now maps.now }
+    ensures { IfOk result (ArePlaceParts pipeline_plan.now places.now maps.now) }
 {
-    let words = word_parts(alloc, draft, places)?;
-    let nets = word_nets(alloc, draft, &words)?;
-    let FirstPlace { block, table } = first_place(alloc, draft, maps, &nets)?;
-    let blocks = stages(alloc, draft, places, maps, &nets, block)?;
+    let words = word_parts(alloc, pipeline_plan, places)?;
+    let nets = word_nets(alloc, pipeline_plan, &words)?;
+    let FirstPlace { block, table } = first_place(alloc, pipeline_plan, maps, &nets)?;
+    let blocks = stages(alloc, pipeline_plan, places, maps, &nets, block)?;
     Ok(PlaceParts {
         words,
         places: blocks,

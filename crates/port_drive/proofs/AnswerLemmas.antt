@@ -4,7 +4,8 @@ use Rattle.std.proofs.lemmas.List.{append-nil}
 use Rattle.beat_core.specs.Words.{low_bytes}
 use Rattle.net_core.specs.declared.ports.Inputs.{Inputs}
 use Rattle.net_core.specs.declared.ports.Outputs.{Outputs}
-use Rattle.net_core.specs.History.{Cycle, answers_given}
+use Rattle.net_core.specs.Trace.{Cycle}
+use Rattle.realization.specs.History.{answers_given}
 use Rattle.beat_core.specs.declared.answer.Answer.{Answer}
 use Rattle.port_drive.specs.Answering.{TakesBeat}
 
@@ -13,13 +14,6 @@ shown_at i o = record { given = i; shown = o }
 
 abbrev bytes_shown : Outputs → List ℕ
 bytes_shown o = low_bytes (min o.out_bytes 8) o.out_data
-
--- where nothing is shown, nothing goes over
-pub nothing_taken : (o : Outputs) (begun : List ℕ) (answers : List Answer) → o.out_valid ≡ false → TakesBeat o begun answers begun answers
-nothing_taken o begun answers v = record { goes_on = λ i ms r. ap (λ l. answers ++ l) (sym (by_valid i ms)); more = []; added = sym (append-nil answers); count = rw v refl }
-  where
-    by_valid : (i : Inputs) (ms : List Cycle) → answers_given begun (shown_at i o ∷ ms) ≡ answers_given begun ms
-    by_valid i ms = rw v refl
 
 -- a beat that is not the last
 pub more_taken : (o : Outputs) (begun begun' : List ℕ) (answers : List Answer) → o.out_valid ≡ true → o.out_last ≡ false → begun' ≡ begun ++ bytes_shown o → TakesBeat o begun answers begun' answers

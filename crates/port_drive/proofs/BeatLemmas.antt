@@ -1,13 +1,14 @@
 -- Beats, as they are offered and go over.
-use Rattle.std.specs.Prelude.{slice_get, is_some, option_map}
+use Rattle.std.specs.Prelude.{slice_get, is_some}
 use Rattle.std.proofs.Common.{◌≡◌, ℕ, zero, suc, ◌<◌, true, false, Option, Some, None, List, [], ◌∷◌, length, drop, refl, sym, ap, ◌∙◌, subst, arith}
 use Rattle.std.specs.List.{flat_map}
 use Rattle.beat_core.specs.declared.beat.Beat.{Beat}
 use Rattle.beat_core.specs.declared.frame.Timed.{Timed}
 use Rattle.beat_core.specs.Beats.{first_beats, beat_count, beats_of}
-use Rattle.beat_core.specs.Ports.{Offered, offered, offers_of}
+use Rattle.beat_core.specs.Ports.{Offered, offers_of}
 use Rattle.beat_core.proofs.BeatLaws.{beats_of-step}
-use Rattle.net_core.specs.History.{Cycle, drive_inputs, left_after, inputs_with}
+use Rattle.net_core.specs.Trace.{Cycle}
+use Rattle.realization.specs.History.{drive_inputs, left_after, inputs_with}
 use Rattle.port_drive.specs.Offering.{AreSmall, IsAhead, left_of}
 
 -- ---- beats of frames
@@ -26,24 +27,8 @@ begins_ahead xs frames beats e some =
     let small = subst AreSmall s (small_beats xs) in
     subst (λ b. IsAhead (Some b) frames) (sym (e ∙ s)) small
 
-pub stays_ahead : (beats : List Beat) (frames : List Timed) (b : Beat) → IsAhead (Some beats) frames → slice_get (drop 1 beats) 0 ≡ Some b → IsAhead (Some (drop 1 beats)) frames
-stays_ahead [] frames b h e = absurd h
-stays_ahead (x ∷ []) frames b h e = absurd (none_some b e)
-  where
-    none_some : (b : Beat) → None ≡ Some b → ⊥
-    none_some b e = cc
-stays_ahead (x ∷ y ∷ rest) frames b h e = h.1
-
 -- ---- the beats that are left
 module _ (ifindex time : ℕ) (packets : List Timed) where
-  pub first_left : (beats : List Beat) (o : Option Beat) → IsAhead (Some beats) packets → o ≡ slice_get beats 0 → option_map (offered ifindex time) o ≡ slice_get (left_of ifindex time (Some beats) packets) 0
-  first_left [] o h e = absurd h
-  first_left (b ∷ bs) o h e = ap (option_map (offered ifindex time)) e
-
-  pub more_left : (beats : List Beat) → IsAhead (Some beats) packets → left_of ifindex time (Some (drop 1 beats)) packets ≡ drop 1 (left_of ifindex time (Some beats) packets)
-  more_left [] h = absurd h
-  more_left (b ∷ bs) h = refl
-
   last_gone : (beats : List Beat) → IsAhead (Some beats) packets → slice_get (drop 1 beats) 0 ≡ None → flat_map (offers_of ifindex) packets ≡ drop 1 (left_of ifindex time (Some beats) packets)
   last_gone [] h e = absurd h
   last_gone (x ∷ []) h e = refl
@@ -61,9 +46,6 @@ module _ (ifindex time : ℕ) (packets : List Timed) where
       none_of : (o : Option Beat) → is_some o ≡ false → o ≡ None
       none_of None n = refl
       none_of (Some b) n = sym_none b n
-
-pub begins_left : (ifindex : ℕ) (p : Timed) (packets : List Timed) (beats : List Beat) → beats ≡ beats_of p.frame → left_of ifindex p.time (Some beats) packets ≡ flat_map (offers_of ifindex) (p ∷ packets)
-begins_left ifindex p packets beats e = ap (λ b. left_of ifindex p.time (Some b) packets) e
 
 -- ---- a clock
 pub inputs_are : (left : List Offered) → inputs_with (slice_get left 0) ≡ drive_inputs left

@@ -11,7 +11,9 @@ use Rattle.net_core.specs.Nets.{Netlist}
 use Rattle.net_core.specs.Value.{number_of}
 use Rattle.net_core.specs.Clock.{Stored, after, stopping}
 use Rattle.net_core.specs.Ports.{words_of, outputs_of}
-use Rattle.net_core.specs.History.{Cycle, cycle_of, answers_given, stored_after, drive_inputs, left_after, owed_after, Drive, drive, and_then, Ended, Answered, Stopped, OutOfClocks}
+use Rattle.realization.proofs.DriveLaws.{stopped_drive}
+use Rattle.net_core.specs.Trace.{Cycle, cycle_of, stored_after}
+use Rattle.realization.specs.History.{answers_given, drive_inputs, left_after, owed_after, Drive, drive, and_then, Ended, Answered, Stopped, OutOfClocks}
 use Rattle.beat_core.specs.declared.answer.Answer.{Answer}
 use Rattle.port_drive.specs.Answering.{TakesBeat}
 use Rattle.port_drive.specs.Reports.{reloads_in, given_in, GivesFirst}
@@ -25,11 +27,6 @@ done_drive d s left limit = refl
 pub late_drive : (d : Netlist) (s : Stored) (left : List Offered) (owed : ℕ) → drive d s left (suc owed) 0 ≡ record { trace = []; ended = OutOfClocks }
 unfolding drive
 late_drive d s left owed = refl
-
-pub stopped_drive : (d : Netlist) (s : Stored) (left : List Offered) (owed limit w : ℕ) → stopping d (words_of (drive_inputs left)) s ≡ Some w → drive d s left (suc owed) (suc limit) ≡ record { trace = []; ended = Stopped w }
-unfolding drive
-stopped_drive d s left owed limit w e =
-    ap (λ (o : Option ℕ). elim o as (λ _. Drive) [ None ↦ and_then (cycle_of d s (drive_inputs left)) (drive d (after d (words_of (drive_inputs left)) s) (left_after (cycle_of d s (drive_inputs left)) left) (owed_after (cycle_of d s (drive_inputs left)) (suc owed)) limit) | Some v ↦ record { trace = []; ended = Stopped v } ]) e
 
 pub next_drive : (d : Netlist) (s : Stored) (left : List Offered) (owed limit : ℕ) → stopping d (words_of (drive_inputs left)) s ≡ None
     → drive d s left (suc owed) (suc limit) ≡ and_then (cycle_of d s (drive_inputs left)) (drive d (after d (words_of (drive_inputs left)) s) (left_after (cycle_of d s (drive_inputs left)) left) (owed_after (cycle_of d s (drive_inputs left)) (suc owed)) limit)
@@ -59,9 +56,6 @@ pub record Driven (d : Netlist) (whole : Drive) (before : List Answer) (n : ℕ)
   pub more : List Answer
   pub added : answers ≡ before ++ more
   pub number : length more + owed ≡ n
-
-pub driven_start : (d : Netlist) (before : List Answer) (n limit : ℕ) (s : Stored) (left : List Offered) → Driven d (drive d s left n limit) before n s s left [] before n 0 0 limit
-driven_start d before n limit s left = record { ended = refl; given = refl; count = omega arith; back = omega arith; stored = refl; few = omega arith; more = []; added = sym (append-nil before); number = omega arith }
 
 -- the end of a drive
 pub record EndsAs (d : Netlist) (whole : Drive) (before : List Answer) (n : ℕ) (first s : Stored) (answers : List Answer) (owed reloads clocks : ℕ) (e : Ended) : Type 0 where

@@ -1,7 +1,7 @@
 -- What is read in a dump.
 use Rattle.std.specs.Prelude.{replicate, if◌then◌else◌, ◌==◌}
-use Rattle.std.proofs.Common.{◌≡◌, ℕ, zero, suc, ◌+◌, ◌*◌, ◌-◌, ◌<◌, ◌≤◌, ◌^◌, Bool, true, false, cond, Some, None, is_some, IsTrue, List, [], ◌∷◌, ◌++◌, length, map, take, drop, get_or, refl, sym, ap, ◌∙◌, subst, arith, length-append, append_assoc}
-use Rattle.std.proofs.lemmas.List.{append-nil, take-take, take_more, length-take-le, length-map, take-append-le, drop-append-le, take_at, drop_at, take_all, length-drop, map-append}
+use Rattle.std.proofs.Common.{◌≡◌, ℕ, zero, suc, ◌+◌, ◌*◌, ◌-◌, ◌<◌, ◌≤◌, ◌^◌, Bool, true, false, cond, Some, None, is_some, IsTrue, List, [], ◌∷◌, ◌++◌, length, map, take, drop, refl, sym, ap, ◌∙◌, subst, arith, length-append, append_assoc}
+use Rattle.std.proofs.lemmas.List.{append-nil, take-take, length-map, take-append-le, drop-append-le, take_at, drop_at, take_all, length-drop, map-append}
 use Rattle.std.proofs.lemmas.List.Concat.{flat_map-append}
 use Rattle.std.proofs.lemmas.Bool.{lt-leb}
 use Rattle.std.specs.List.{flat_map}
@@ -15,13 +15,12 @@ use Rattle.std.specs.FinMap.{IsAntisymmetric, nat_cmp-IsAntisymmetric, slice_cmp
 use Rattle.byteorder.specs.Numbers.{little_number-reads_back}
 use Rattle.beat_core.specs.Words.{low_bytes}
 use Rattle.beat_core.specs.Beats.{beat_count}
-use Rattle.beat_core.proofs.WordLaws.{length-low_bytes}
 use Rattle.xdp_maps.specs.declared.decl.MapKind.{MapKind}
 use Rattle.xdp_maps.specs.declared.decl.MapKind.TheVariants.{Hash, Array}
 use Rattle.xdp_maps.specs.declared.decl.MapDecl.{MapDecl}
 use Rattle.xdp_maps.specs.Contents.{Contents, index_key, index_of, indexed, array_of, opened, opened_as}
 use Rattle.xdp_maps.specs.Calls.{array_refusal, update_error_as, updated, unless}
-use Rattle.realization.specs.HostHistory.Rows.{entry_of, bytes_of, row_length, row_length_as, contents_as}
+use Rattle.realization.specs.HostHistory.Rows.{entry_of, bytes_of, row_length, row_length_as}
 use Rattle.realization.specs.HostHistory.Host.{cut_in_rows}
 use Rattle.port_drive.specs.Reading.{read_of, read_as, with_entry}
 use Rattle.xdp_maps.proofs.ChoiceLaws.{eq_equal, swapped, shadowed}
@@ -79,7 +78,7 @@ from_entries_more es e =
       | Some w ↦ λ there. same_map nat_list_cmp_total exact _ _ (λ q. get_of (es ++ e ∷ []) q ∙ find_first es e.0 e.1 q w (sym (get_of es e.0) ∙ there) ∙ sym (get_of es q))
     ] refl
 
--- a slot's entry behind those that were read
+-- a slot's entry after those that were read
 slot_entry : (d : MapDecl) (es : List (List ℕ × List ℕ)) (used : ℕ) (words : List ℕ) → finite.from_entries {R = slice_cmp nat_cmp} (es ++ (entry_of d (used ∷ words) ++ [])) ≡ with_entry (finite.from_entries es) (entry_of d (used ∷ words))
 slot_entry d es used words =
     elim (used == 0) as (λ b. finite.from_entries {R = slice_cmp nat_cmp} (es ++ ((if b then [] else slot) ++ [])) ≡ with_entry (finite.from_entries es) (if b then [] else slot)) [
@@ -163,7 +162,7 @@ value_more d rows row index at lt few =
     ∙ array_written (map (bytes_of d.value) rows) (replicate (d.cap - length (rows ++ row ∷ [])) zeros) index zeros (bytes_of d.value row) (length-map rows (bytes_of d.value) ∙ at) few
     ∙ ap array_of (sym (ap (λ l. l ++ replicate (d.cap - length (rows ++ row ∷ [])) zeros) (map-append (bytes_of d.value) rows (row ∷ [])) ∙ append_assoc (map (bytes_of d.value) rows) (bytes_of d.value row ∷ []) _))
 
--- ---- before the first row and behind the last
+-- ---- before the first row and after the last
 none_read : (kind : MapKind) (d : MapDecl) → opened_as kind d ≡ read_as d [] kind
 none_read Hash d = refl
 none_read Array d = ap (λ n. array_of (replicate n (replicate d.value 0))) (omega arith)
@@ -172,20 +171,7 @@ pub opened_is : (d : MapDecl) → opened d ≡ read_of d []
 unfolding opened
 opened_is d = none_read d.kind d
 
-pub all_read : (kind : MapKind) (d : MapDecl) (rows : List (List ℕ)) → length rows ≡ d.cap → read_as d rows kind ≡ contents_as kind d rows
-all_read Hash d rows all = refl
-all_read Array d rows all =
-    let none : d.cap - length rows ≡ 0 = omega arith in
-    ap array_of (ap (λ n. map (bytes_of d.value) rows ++ replicate n (replicate d.value 0)) none ∙ append-nil (map (bytes_of d.value) rows))
-
 -- ---- the bytes of words, of which some were written
-pub bytes_more : (b new words : List ℕ) (i w : ℕ) → new ≡ (take (8 * i) b ++ low_bytes 8 w) ++ drop (8 * i + 8) b → w ≡ get_or words i 0 → i < length words → 8 * i + 8 ≤ length b → take (8 * i) b ≡ flat_map (low_bytes 8) (take i words)
-    → take (8 * (i + 1)) new ≡ flat_map (low_bytes 8) (take (i + 1) words)
-bytes_more b new words i w is read lt room so_far =
-    let len : length (take (8 * i) b ++ low_bytes 8 w) ≡ 8 * (i + 1) = omega (arith, length-append (take (8 * i) b) (low_bytes 8 w), length-take-le (8 * i) b (omega arith), length-low_bytes 8 w) in
-    ap (take (8 * (i + 1))) is ∙ take_at (take (8 * i) b ++ low_bytes 8 w) (drop (8 * i + 8) b) (8 * (i + 1)) len
-    ∙ ap (λ l. l ++ low_bytes 8 w) so_far ∙ ap (λ x. flat_map (low_bytes 8) (take i words) ++ low_bytes 8 x) read
-    ∙ sym (ap (flat_map (low_bytes 8)) (take_more words i 0 lt) ∙ flat_map-append (low_bytes 8) (take i words) (get_or words i 0 ∷ []) ∙ ap (λ l. flat_map (low_bytes 8) (take i words) ++ l) (append-nil (low_bytes 8 (get_or words i 0))))
 
 pub first_bytes : (b words : List ℕ) (i n : ℕ) → i ≡ length words → take (8 * i) b ≡ flat_map (low_bytes 8) (take i words) → n ≤ 8 * length words → take n b ≡ bytes_of n words
 first_bytes b words i n all so_far le =

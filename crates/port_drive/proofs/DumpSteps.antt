@@ -1,24 +1,23 @@
 -- A dump between two of its clocks.
-use Rattle.std.proofs.Common.{◌≡◌, ℕ, suc, ◌+◌, ◌*◌, ◌-◌, ◌<◌, ◌≤◌, None, Some, List, [], ◌∷◌, ◌++◌, length, map, take, drop, get_or, set, refl, sym, ap, ◌∙◌, subst, arith, length-append, append_assoc, get_or-set_same}
-use Rattle.std.proofs.lemmas.List.{append-nil, take_more_set, take_all, drop_at, at_drop_more, at_drop_all, set-set, set-get_or}
+use Rattle.std.proofs.Common.{◌≡◌, ℕ, suc, ◌+◌, ◌*◌, ◌-◌, ◌<◌, None, Some, List, [], ◌∷◌, ◌++◌, length, map, take, drop, get_or, set, refl, sym, ap, ◌∙◌, subst, arith, length-append, append_assoc, get_or-set_same}
+use Rattle.std.proofs.lemmas.List.{take_more_set, drop_at, at_drop_more, set-set, set-get_or}
 use Rattle.std.proofs.lemmas.List.FromFn.{length-map-range_with_len, length-range_with_len}
-use Rattle.std.proofs.Math.Seq.{get_or-append_seam, set-append_seam}
+use Rattle.std.proofs.Math.Seq.{set-append_seam}
 use Rattle.std.specs.List.{flat_map, range_with_len}
 use Rattle.std.specs.FinMap as finite
 use Rattle.net_core.specs.declared.ports.Inputs.{Inputs}
 use Rattle.net_core.specs.Nets.{Netlist}
 use Rattle.net_core.specs.Clock.{Stored}
 use Rattle.net_core.specs.Ports.{outputs_of}
-use Rattle.net_core.specs.History.{NeverStops, stored_after, trace}
+use Rattle.net_core.specs.Trace.{NeverStops, stored_after, trace}
 use Rattle.xdp_maps.specs.declared.decl.MapDecl.{MapDecl}
 use Rattle.xdp_maps.specs.Contents.{Contents, opened}
-use Rattle.xdp_maps.specs.State.{MapState, no_decl, decl_at, contents_at, with_contents, opened_state}
+use Rattle.xdp_maps.specs.State.{MapState, no_decl, decl_at, contents_at, with_contents}
 use Rattle.realization.specs.HostHistory.Rows.{row_length, contents_of}
-use Rattle.realization.specs.HostHistory.Host.{asked, map_reads, reads, dump, cut_in_rows, dumped, shown_words, ShowsMaps}
-use Rattle.port_drive.specs.Hosting.{shown_maps}
+use Rattle.realization.specs.HostHistory.Host.{asked, map_reads, reads, dump, cut_in_rows, dumped, shown_words}
 use Rattle.port_drive.specs.Reading.{read_of}
-use Rattle.port_drive.proofs.HostClocks.{UnderWay, goes_on, ends, shown-part, length-shown}
-use Rattle.port_drive.proofs.DumpLemmas.{cut-append, cut-step, opened_is, all_read}
+use Rattle.port_drive.proofs.HostClocks.{UnderWay, goes_on, shown-part, length-shown}
+use Rattle.port_drive.proofs.DumpLemmas.{cut-append, cut-step, opened_is}
 
 pub begins_at : (d : Netlist) (s : Stored) (whole rest : List Inputs) → rest ≡ whole → UnderWay d s whole rest s
 begins_at d s whole rest e = record { done = []; all = sym e; goes = tt; left = refl }
@@ -28,18 +27,10 @@ begins_at d s whole rest e = record { done = []; all = sym e; goes = tt; left = 
 abbrev pub words_from : ℕ → ℕ → ℕ → ℕ → List Inputs
 words_from m index word n = map (asked m index) (range_with_len word (n - word))
 
-pub words-first : (m index n : ℕ) → words_from m index 0 n ≡ map (asked m index) (range_with_len 0 n)
-words-first m index n = ap (λ k. map (asked m index) (range_with_len 0 k)) (omega arith)
-
 pub words-next : (m index word n : ℕ) → word < n → words_from m index word n ≡ (asked m index word ∷ []) ++ words_from m index (word + 1) n
 words-next m index word n lt =
     let more : n - word ≡ suc (n - (word + 1)) = omega arith in
     ap (λ k. map (asked m index) (range_with_len word k)) more
-
-pub words-end : (m index word n : ℕ) → n ≤ word → words_from m index word n ≡ []
-words-end m index word n le =
-    let none : n - word ≡ 0 = omega arith in
-    ap (λ k. map (asked m index) (range_with_len word k)) none
 
 pub row_on : (d : Netlist) (t u : Stored) (m index word n : ℕ) (row all : List ℕ) (shown : ℕ) → word < n → word < length row → shown ≡ (outputs_of d (asked m index word) t).host_value → u ≡ stored_after d t (asked m index word ∷ [])
     → take word row ++ shown_words (trace d t (words_from m index word n)) ≡ all → take (word + 1) (set row word shown) ++ shown_words (trace d u (words_from m index (word + 1) n)) ≡ all
@@ -52,10 +43,6 @@ row_on d t u m index word n row all shown lt within is went h =
     ∙ ap (λ l. take word row ++ l) (sym part)
     ∙ h
 
-pub row_done : (d : Netlist) (t : Stored) (m index word n : ℕ) (row all : List ℕ) → n ≤ word → length row ≤ word → take word row ++ shown_words (trace d t (words_from m index word n)) ≡ all → row ≡ all
-row_done d t m index word n row all le few h =
-    sym (append-nil row) ∙ ap (λ l. l ++ []) (sym (take_all word row few)) ∙ ap (λ l. take word row ++ shown_words (trace d t l)) (sym (words-end m index word n le)) ∙ h
-
 -- ---- the rows of one map
 abbrev pub rows_from : ℕ → MapDecl → ℕ → List Inputs
 rows_from m decl index = flat_map (λ k. map (asked m k) (range_with_len 0 (row_length decl))) (range_with_len index (decl.cap - index))
@@ -67,11 +54,6 @@ pub rows-next : (m : ℕ) (decl : MapDecl) (index : ℕ) → index < decl.cap �
 rows-next m decl index lt =
     let more : decl.cap - index ≡ suc (decl.cap - (index + 1)) = omega arith in
     ap (λ n. flat_map (λ k. map (asked m k) (range_with_len 0 (row_length decl))) (range_with_len index n)) more
-
-pub rows-end : (m : ℕ) (decl : MapDecl) (index : ℕ) → decl.cap ≤ index → rows_from m decl index ≡ []
-rows-end m decl index le =
-    let none : decl.cap - index ≡ 0 = omega arith in
-    ap (λ n. flat_map (λ k. map (asked m k) (range_with_len 0 (row_length decl))) (range_with_len index n)) none
 
 -- what holds between two rows of a map
 pub record ReadSoFar (d : Netlist) (s : Stored) (old : MapState) (m : ℕ) (decl : MapDecl) (index : ℕ) (t : Stored) (now : MapState) : Type 0 where
@@ -124,13 +106,6 @@ module _ (d : Netlist) (s : Stored) (old : MapState) (m index : ℕ) (t : Stored
             ∙ h.rest;
       }
 
-  pub read_whole : (decl_at old m).cap ≡ index → now ≡ with_contents old m (contents_of (decl_at old m) (cut_in_rows (decl_at old m).cap (row_length (decl_at old m)) (shown_words (trace d s (map_reads m (decl_at old m))))))
-  read_whole all =
-      let decl = decl_at old m in
-      let none : decl.cap - index ≡ 0 = omega arith in
-      let rows : h.rows ≡ cut_in_rows decl.cap (row_length decl) (shown_words (trace d s (map_reads m decl))) = sym (append-nil h.rows) ∙ ap (λ k. h.rows ++ cut_in_rows k (row_length decl) (shown_words (trace d t (rows_from m decl index)))) (sym none) ∙ h.rest in
-      h.maps ∙ ap (with_contents old m) (all_read decl.kind decl h.rows (h.count ∙ sym all) ∙ ap (contents_of decl) rows)
-
 -- ---- all maps
 length-rows_read : (m n : ℕ) (ks : List ℕ) → length (flat_map (λ k. map (asked m k) (range_with_len 0 n)) ks) ≡ length ks * n
 length-rows_read m n [] = omega arith
@@ -147,9 +122,6 @@ pub record DumpedSoFar (d : Netlist) (s : Stored) (decls : List MapDecl) (m : �
   pub maps : now ≡ record { decls = decls; contents = front ++ map opened (drop m decls) }
   pub rest : front ++ dumped (drop m decls) (shown_words (trace d t (reads m (drop m decls)))) ≡ dumped decls (shown_words (trace d s (dump decls)))
 
-pub dumped_first : (d : Netlist) (s : Stored) (decls : List MapDecl) (now : MapState) → now ≡ opened_state decls → DumpedSoFar d s decls 0 s now
-dumped_first d s decls now is = record { way = begins_at d s (dump decls) (dump decls) refl; front = []; count = refl; maps = is; rest = refl }
-
 module _ (d : Netlist) (s : Stored) (decls : List MapDecl) (m : ℕ) (t : Stored) (now : MapState) (h : DumpedSoFar d s decls m t now) where
   pub decls_kept : now.decls ≡ decls
   decls_kept = ap (λ x. x.decls) h.maps
@@ -159,12 +131,6 @@ module _ (d : Netlist) (s : Stored) (decls : List MapDecl) (m : ℕ) (t : Stored
 
   left_opened : m < length decls → now.contents ≡ h.front ++ (opened (decl_at now m) ∷ map opened (drop (m + 1) decls))
   left_opened lt = ap (λ x. x.contents) h.maps ∙ at_drop_more (λ ds. h.front ++ map opened ds) decls m no_decl lt ∙ ap (λ ds. h.front ++ (opened (get_or ds m no_decl) ∷ map opened (drop (m + 1) decls))) (sym decls_kept)
-
-  pub still_opened : m < length decls → contents_at now m ≡ opened (decl_at now m)
-  still_opened lt =
-      ap (λ cs. get_or cs m finite.empty) (left_opened lt)
-      ∙ ap (λ i. get_or (h.front ++ (opened (decl_at now m) ∷ map opened (drop (m + 1) decls))) i finite.empty) (sym h.count)
-      ∙ get_or-append_seam h.front (opened (decl_at now m)) (map opened (drop (m + 1) decls)) finite.empty
 
   pub dumped_on : (u : Stored) (new : MapState) → m < length decls → NeverStops d t (map_reads m (decl_at now m)) × (u ≡ stored_after d t (map_reads m (decl_at now m)))
       → new ≡ with_contents now m (contents_of (decl_at now m) (cut_in_rows (decl_at now m).cap (row_length (decl_at now m)) (shown_words (trace d t (map_reads m (decl_at now m))))))
@@ -196,17 +162,3 @@ module _ (d : Netlist) (s : Stored) (decls : List MapDecl) (m : ℕ) (t : Stored
         maps = took ∙ ap (λ cs. record { decls = now.decls; contents = cs }) (written ∙ sym (append_assoc h.front (one ∷ []) (map opened ds))) ∙ ap (λ l. record { decls = l; contents = (h.front ++ one ∷ []) ++ map opened ds }) decls_kept;
         rest = append_assoc h.front (one ∷ []) (dumped ds more) ∙ ap (λ l. h.front ++ l) (sym first) ∙ h.rest;
       }
-
-  pub dumped_whole : length decls ≤ m → now ≡ shown_maps decls (trace d s (dump decls))
-  dumped_whole le =
-      h.maps
-      ∙ at_drop_all (λ l. record { decls = decls; contents = h.front ++ map opened l }) decls m le
-      ∙ ap (λ cs. record { decls = decls; contents = cs }) (sym (at_drop_all (λ l. h.front ++ dumped l (shown_words (trace d t (reads m (drop m decls))))) decls m le) ∙ h.rest)
-
-  pub dump_gone : length decls ≤ m → NeverStops d s (dump decls) × (t ≡ stored_after d s (dump decls))
-  dump_gone le = ends d s (dump decls) (reads m (drop m decls)) t h.way (at_drop_all (reads m) decls m le)
-
--- ---- a design that shows maps
-pub these_maps : (d : Netlist) (s : Stored) (maps given : MapState) (decls : List MapDecl) → maps.decls ≡ decls → ShowsMaps d s maps → given ≡ shown_maps decls (trace d s (dump decls)) → given ≡ maps
-these_maps d s maps given decls same shows is =
-    is ∙ ap (λ l. shown_maps l (trace d s (dump l))) (sym same) ∙ ap (λ cs. record { decls = maps.decls; contents = cs }) shows.shown

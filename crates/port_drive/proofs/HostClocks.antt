@@ -8,14 +8,14 @@ use Rattle.net_core.specs.declared.ports.Inputs.{Inputs}
 use Rattle.net_core.specs.Nets.{Netlist}
 use Rattle.net_core.specs.Clock.{Stored, after, stopping, clock}
 use Rattle.net_core.specs.Ports.{words_of}
-use Rattle.net_core.specs.History.{cycle_of, NeverStops, stored_after, trace}
+use Rattle.net_core.specs.Trace.{cycle_of, NeverStops, stored_after, trace}
 use Rattle.net_core.proofs.ClockLaws.{clock_leaves}
 use Rattle.clock_sim.specs.declared.sim.XValue.{XValue}
 use Rattle.clock_sim.specs.Running.{stopped_net}
 use Rattle.realization.specs.HostHistory.Host.{shown_words}
 use Rattle.port_drive.specs.Hosting.{StopsAt, Clocks}
 
--- ---- one part behind another
+-- ---- one part after another
 pub stored-append : (d : Netlist) (s : Stored) (a b : List Inputs) → stored_after d s (a ++ b) ≡ stored_after d (stored_after d s a) b
 stored-append d s [] b = refl
 stored-append d s (i ∷ a) b = stored-append d (after d (words_of i) s) a b

@@ -4,7 +4,7 @@ use Rattle.net_core.specs.declared.ports.Inputs.{Inputs}
 use Rattle.net_core.specs.Nets.{Netlist}
 use Rattle.net_core.specs.Clock.{Stored, after, stopping}
 use Rattle.net_core.specs.Ports.{words_of}
-use Rattle.net_core.specs.History.{NeverStops, stored_after}
+use Rattle.net_core.specs.Trace.{NeverStops, stored_after}
 use Rattle.port_drive.specs.Hosting.{StopsAt}
 
 never_at : (d : Netlist) (s : Stored) (before : List Inputs) (i : Inputs) (behind : List Inputs) → NeverStops d s (before ++ i ∷ behind) → stopping d (words_of i) (stored_after d s before) ≡ None

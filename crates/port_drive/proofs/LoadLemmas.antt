@@ -9,8 +9,7 @@ use Rattle.std.specs.Option.{option_map, option_copied}
 use Rattle.std.specs.FinMap as finite
 use Rattle.std.specs.FinMap.{len-entries}
 use Rattle.beat_core.specs.Words.{word_of}
-use Rattle.beat_core.specs.Beats.{beats_of, beat_count}
-use Rattle.beat_core.proofs.BeatLaws.{beats_of-step, beats_of-nil, length-beats_of}
+use Rattle.beat_core.proofs.BeatLaws.{beats_of-step, beats_of-nil}
 use Rattle.net_core.specs.declared.ports.Inputs.{Inputs}
 use Rattle.xdp_maps.specs.declared.decl.MapKind.{MapKind}
 use Rattle.xdp_maps.specs.declared.decl.MapKind.TheVariants.{Hash, Array}
@@ -28,9 +27,6 @@ words-nil xs e = ap words_of e ∙ ap (map (λ b. b.word)) beats_of-nil
 
 pub words-step : (xs : List ℕ) → 0 < length xs → words_of xs ≡ word_of (take 8 xs) ∷ words_of (drop 8 xs)
 words-step xs some = ap (map (λ b. b.word)) (beats_of-step xs some)
-
-pub length-words : (xs : List ℕ) → length (words_of xs) ≡ beat_count (length xs)
-length-words xs = length-map (beats_of xs) (λ b. b.word) ∙ length-beats_of xs
 
 -- the clocks of the first word that is left, and those of the others
 pub writes-step : (m index word word' first : ℕ) (xs rest : List ℕ) → 0 < length xs → first ≡ word_of (take 8 xs) → rest ≡ drop 8 xs → word' ≡ word + 1
@@ -116,9 +112,6 @@ pub map-step : (s : MapState) (m : ℕ) → m < length s.decls → length s.cont
 map-step s m lt beside =
     at_drop_more (λ ds. writes m ds (drop m s.contents)) s.decls m no_decl lt
     ∙ at_drop_more (λ cs. writes m (decl_at s m ∷ drop (m + 1) s.decls) cs) s.contents m finite.empty (omega arith)
-
-pub maps-end : (s : MapState) (m : ℕ) → length s.decls ≤ m → writes m (drop m s.decls) (drop m s.contents) ≡ []
-maps-end s m le = at_drop_all (λ ds. writes m ds (drop m s.contents)) s.decls m le
 
 -- ---- what is read of a map
 pub decl_read : (s : MapState) (decls : List MapDecl) (m : ℕ) (d : MapDecl) → decls ≡ s.decls → m < length s.decls → d ≡ get_or decls m d → d ≡ decl_at s m

@@ -4,7 +4,8 @@ use Rattle.beat_core.specs.declared.answer.Answer.{Answer}
 use Rattle.net_core.specs.declared.ports.Inputs.{Inputs}
 use Rattle.net_core.specs.declared.ports.Outputs.{Outputs}
 use Rattle.net_core.specs.Value.{number_of}
-use Rattle.net_core.specs.History.{Cycle, answers_given}
+use Rattle.net_core.specs.Trace.{Cycle}
+use Rattle.realization.specs.History.{answers_given}
 
 -- What went over out of an answer that has begun goes on to the answers, whatever clocks follow. One more is given
 -- where it has ended.

@@ -5,7 +5,7 @@ use Rattle.net_core.specs.declared.ports.Inputs.{Inputs}
 use Rattle.net_core.specs.Nets.{Netlist}
 use Rattle.net_core.specs.Clock.{Stored, stopping}
 use Rattle.net_core.specs.Ports.{words_of}
-use Rattle.net_core.specs.History.{Cycle, NeverStops, stored_after}
+use Rattle.net_core.specs.Trace.{Cycle, NeverStops, stored_after}
 use Rattle.clock_sim.specs.declared.sim.XValue.{XValue}
 use Rattle.xdp_maps.specs.declared.decl.MapDecl.{MapDecl}
 use Rattle.xdp_maps.specs.State.{MapState}

@@ -7,9 +7,10 @@ use Rattle.net_core.specs.declared.tree.Net.TheVariants.{Wire}
 use Rattle.net_core.specs.declared.ports.Inputs.{Inputs}
 use Rattle.net_core.specs.Nets.{Netlist}
 use Rattle.net_core.specs.Clock.{Stored}
-use Rattle.net_core.specs.History.{Cycle, answers_given, stored_after, drive, Ended, Answered, Stopped, OutOfClocks}
+use Rattle.net_core.specs.Trace.{Cycle, stored_after}
+use Rattle.realization.specs.History.{answers_given, drive, Ended, Answered, Stopped, OutOfClocks}
 use Rattle.beat_core.specs.declared.answer.Answer.{Answer}
-use Rattle.net_core.specs.History as history
+use Rattle.realization.specs.History as history
 use Rattle.port_drive.specs.declared.report.Drive.{Drive}
 use Rattle.port_drive.specs.declared.report.DriveError.{DriveError}
 use Rattle.port_drive.specs.declared.report.DriveError.TheVariants.{X, Late, NoMemory}

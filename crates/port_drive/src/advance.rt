@@ -3,7 +3,8 @@
 ghost use Rattle.std.specs.Prelude.{◌≡◌, Some, None, option_map, OnOk, IfOk, OnErr, IfErr};
 ghost use Rattle.net_core.specs.Clock.{after, stopping};
 ghost use Rattle.net_core.specs.Ports.{AreInputs, words_of, outputs_of};
-ghost use Rattle.net_core.specs.History.{drive_inputs, cycle_of, left_after, inputs_with};
+ghost use Rattle.net_core.specs.Trace.{cycle_of};
+ghost use Rattle.realization.specs.History.{drive_inputs, left_after, inputs_with};
 ghost use Rattle.clock_sim.specs.Running.{stopped_net};
 ghost use Rattle.port_drive.specs.Offering.{offered_of};
 

@@ -1,7 +1,7 @@
 //! The full drive of a design.
 
 ghost use Rattle.std.specs.Prelude.{◌≡◌, [], length};
-ghost use Rattle.net_core.specs.History.{answers_given};
+ghost use Rattle.realization.specs.History.{answers_given};
 ghost use Rattle.port_drive.specs.Reports.{full_drive, Reports, Gives, Leaves};
 
 use crate::advance::advance;

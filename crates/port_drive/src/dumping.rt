@@ -4,7 +4,7 @@ ghost use Rattle.std.specs.Prelude.{◌≡◌, ◌+◌, ◌*◌, ◌<◌, ◌≤
 ghost use Rattle.std.specs.List.{range_with_len};
 ghost use Rattle.std.specs.FinMap as finite;
 ghost use Rattle.beat_core.specs.Words.{low_bytes};
-ghost use Rattle.net_core.specs.History.{trace};
+ghost use Rattle.net_core.specs.Trace.{trace};
 ghost use Rattle.xdp_maps.specs.Contents.{IsWithinLimits, index_key, opened};
 ghost use Rattle.xdp_maps.specs.State.{MapState, decl_at, contents_at, with_contents};
 ghost use Rattle.xdp_maps.specs.declared.decl.MapKind.TheVariants.{Hash, Array};
@@ -67,7 +67,7 @@ fn put_word(bytes: &mut [u8], at: usize, word: u64)
     bytes[at..at + 8].copy_from_slice(&bytes_of_word(word));
 }
 
-// The bytes of words, the lowest of each first, and zeros behind them.
+// The bytes of words, the lowest of each first, and zeros after them.
 fn bytes_of_words(words: &[u64]) -> [u8; 64]
     requires { length words.now ≤ 8 }
     ensures { (n : ℕ) → n ≤ 8 * length words.now → take n result ≡ bytes_of n words.now }
@@ -158,7 +158,7 @@ fn dump_map(sim: &mut Sim, maps: &mut Maps, map: u32) -> Result<(), XValue>
     Ok(())
 }
 
-/// The maps of these declarations that a design shows the host, a word a clock, behind the last answer: the maps in their order,
+/// The maps of these declarations that a design shows the host, a word a clock, after the last answer: the maps in their order,
 /// indexes and words ascending. Of a hash the used slots count, and of slots with one key the first; a last word's filling does
 /// not. Of a clock whose divisor is zero it gives the net, and no further clock comes. All memory is taken before the first clock.
 /// A design has four bits for the number of a map.

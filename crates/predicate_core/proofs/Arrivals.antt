@@ -1,5 +1,5 @@
 -- What edges bring to a node, as the graph has it.
-use Rattle.std.proofs.Common.{◌≡◌, ◌∙◌, ℕ, zero, suc, ◌+◌, ◌<◌, ◌≤◌, ◌==◌, ◌⊎◌, inl, inr, nat_lt, Bool, true, false, if◌then◌else◌, Some, None, List, [], ◌∷◌, length, length-append, get_or, refl, sym, ap, arith, subst, map}
+use Rattle.std.proofs.Common.{◌≡◌, ◌∙◌, ℕ, zero, suc, ◌+◌, ◌<◌, ◌≤◌, ◌==◌, ◌⊎◌, inl, inr, nat_lt, Bool, true, false, if◌then◌else◌, Some, None, List, [], ◌∷◌, length, get_or, refl, sym, ap, arith, subst, map}
 use Rattle.std.specs.Prelude.{All, Contains}
 use Rattle.std.specs.List.{filter}
 use Rattle.std.proofs.Math.ListN.{get_or-append}
@@ -20,25 +20,22 @@ use Rattle.operator_cells.specs.row_rules.PlaceRows.Spans.{pending_place}
 use Rattle.operator_cells.specs.row_rules.PlaceRows.Origins.{is_open, has_data, row_of, row_at, by_place}
 use Rattle.operator_cells.specs.row_rules.PlaceRows.Reading.{is_known}
 use Rattle.operator_cells.specs.row_rules.declared.node_rows.joining.Arrival.{Arrival}
-use Rattle.operator_cells.specs.row_rules.declared.node_rows.node.Behind.{Behind}
+use Rattle.operator_cells.specs.row_rules.declared.node_rows.node.AfterNode.{AfterNode}
 use Rattle.operator_cells.specs.row_rules.NodeRows.Joining.{brings, origin_at, origins_at}
 use Rattle.operator_cells.specs.row_rules.NodeRows.Rows.{no_behind, arrival_of, behind_node, rows_of}
 use Rattle.operator_cells.specs.declared.held_cells.way.Way.{Way}
-use Rattle.operator_cells.specs.HeldCells.Held.{PointerView}
+use Rattle.operator_cells.specs.HeldCells.RegisterCells.{PointerView}
 use Rattle.operator_cells.specs.HeldCells.Rows.{kind_at, number_at, value_row, held_row}
+use Rattle.operator_cells.proofs.row_rules_laws.NodeRows.CountLaws.{count_rows}
 use Rattle.predicate_core.specs.Stages.{arrivals_at, StandsBehind, AreNamed, StandWithin}
 use Rattle.predicate_core.proofs.Bringing.{RowBrought}
 
 -- ---- rows of nodes one after another
-count_rows : (p : XdpProgram) (nodes : List Point) (edges : List Edge) (n : ℕ) → length (rows_of p nodes edges n) ≡ n
-count_rows p nodes edges zero = refl
-count_rows p nodes edges (suc n) = length-append (rows_of p nodes edges n) (behind_node p nodes edges (rows_of p nodes edges n) n ∷ []) ∙ omega (arith, count_rows p nodes edges n)
-
 pub rows_at : (p : XdpProgram) (nodes : List Point) (edges : List Edge) (k n : ℕ) → n < k → get_or (rows_of p nodes edges k) n no_behind ≡ behind_node p nodes edges (rows_of p nodes edges n) n
 rows_at p nodes edges zero n l = absurd (omega (arith, l))
 rows_at p nodes edges (suc k) n l = by (cases_lt n k) (λ m. rows_at p nodes edges k n m)
   where
-    last : Behind
+    last : AfterNode
     last = behind_node p nodes edges (rows_of p nodes edges k) k
 
     by : (n < k) ⊎ (k ≤ n) → (n < k → get_or (rows_of p nodes edges k) n no_behind ≡ behind_node p nodes edges (rows_of p nodes edges n) n)
@@ -87,21 +84,21 @@ some_origins [] maker k a c = absurd (omega (arith, c.1))
 some_origins (x ∷ es) maker k a c = refl
 
 -- An edge to a later node, among the arrivals there.
-pub record ComesAlong (p : XdpProgram) (u : Unfolded) (k : ℕ) (e : Way) (b : Behind) : Type 0 where
+pub record ComesAlong (p : XdpProgram) (u : Unfolded) (k : ℕ) (e : Way) (b : AfterNode) : Type 0 where
   pub arrival : Arrival
   pub among : Contains (arrivals_at p u k) arrival
   pub row_is : arrival.row ≡ b.edge
   pub kinds_are : arrival.kinds ≡ e.kinds
   pub origins_are : arrival.origins ≡ b.origins
 
-pub along : (p : XdpProgram) (u : Unfolded) (k : ℕ) (e : Way) (b : Behind) → 0 < k → e.to ≡ k → StandsBehind p u k e b → ComesAlong p u k e b
+pub along : (p : XdpProgram) (u : Unfolded) (k : ℕ) (e : Way) (b : AfterNode) → 0 < k → e.to ≡ k → StandsBehind p u k e b → ComesAlong p u k e b
 along p u k e b some to (inl x) = absurd (omega (arith, some, to, x.0))
 along p u k e b some to (inr x) = record {
   arrival = arrival_of p u.nodes.items (rows_of p u.nodes.items u.edges.items k) x.0;
   among = arrival_there p u k x.0 x.1 (x.3 ∙ to);
-  row_is = ap (λ (y : Behind). y.edge) is;
+  row_is = ap (λ (y : AfterNode). y.edge) is;
   kinds_are = sym x.4;
-  origins_are = ap (λ (y : Behind). y.origins) is;
+  origins_are = ap (λ (y : AfterNode). y.origins) is;
 }
   where
     is : get_or (rows_of p u.nodes.items u.edges.items k) x.0.from no_behind ≡ b
@@ -148,7 +145,7 @@ pub has_pending : (k : Kinds) (q : ℕ) → has_data k (pending_place q) ≡ tru
 has_pending k q = rw (le-ltb (332 + q) 11 (omega arith), le-ltb (332 + q) 75 (omega arith)) refl
 
 -- ---- one edge
-module _ (p : XdpProgram) (u : Unfolded) (k : ℕ) (e : Way) (b : Behind) (beside : List ℕ) (a : ComesAlong p u k e b) where
+module _ (p : XdpProgram) (u : Unfolded) (k : ℕ) (e : Way) (b : AfterNode) (beside : List ℕ) (a : ComesAlong p u k e b) where
   pub way_row : (row : ℕ → ℕ) (ps : List PointerView) (place : ℕ) → place < 332 → StandWithin row ps e beside b → RowBrought (arrivals_at p u k) place (row e.bit) (held_row row ps e.held e.kinds place)
   way_row row ps place l s = record { arrival = a.arrival; among = a.among; bit_low = omega (arith, s.bit, a.row_is); row_low = by (has_data a.arrival.kinds place) refl }
     where

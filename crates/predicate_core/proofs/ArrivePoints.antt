@@ -5,14 +5,15 @@ use Rattle.xdp_machine.specs.xdp_maps.declared.decl.MapDecl.{MapDecl}
 use Rattle.kind_core.specs.declared.kind.Kinds.{Kinds}
 use Rattle.cell_core.specs.Cells.{CellView, IsRun, bit, on}
 use Rattle.operator_cells.specs.Making.{Grows}
-use Rattle.operator_cells.specs.declared.held_cells.held.Held.{Held}
+use Rattle.operator_cells.specs.declared.held_cells.machine_cells.RegisterCells.{RegisterCells}
 use Rattle.operator_cells.specs.declared.held_cells.way.Way.{Way}
-use Rattle.operator_cells.specs.HeldCells.Held.{PointerView}
+use Rattle.operator_cells.specs.HeldCells.RegisterCells.{PointerView}
 use Rattle.operator_cells.specs.HeldCells.Pointing.{Pointing, HoldsPointer}
 use Rattle.edge_cells.specs.Meeting.{first_on}
 use Rattle.edge_cells.specs.Joining.{any_on, Guards, LeadTo}
 use Rattle.edge_cells.specs.Pointing.{JoinPoints}
-use Rattle.edge_cells.proofs.Growth.{followed_before}
+use Rattle.edge_cells.proofs.GrowthLaws.{followed_before}
+use Rattle.edge_cells.proofs.WayLaws.{first_below}
 use Rattle.predicate_core.specs.Arriving.{IsOwn}
 use Rattle.predicate_core.specs.Pointing.{ComesAlong, WasBrought, ArrivePoints}
 use Rattle.predicate_core.proofs.Arrived.{lead_each, bit_small}
@@ -34,20 +35,11 @@ first_is_on v (a ∷ b ∷ more) d h = by (on (v a.bit)) refl h (first_is_on v (
     by true e all rest = (omega arith, e)
     by false e all rest = let r = rest all in (omega (arith, r.0), r.1)
 
-first_below : (v : ℕ → ℕ) (here : List Way) → 1 ≤ length here → first_on v here < length here
-first_below v [] h = absurd (omega arith)
-first_below v (a ∷ []) h = omega arith
-first_below v (a ∷ b ∷ more) h = by (on (v a.bit)) (first_below v (b ∷ more) (omega arith))
-  where
-    by : (t : Bool) → first_on v (b ∷ more) < length (b ∷ more) → (if t then 0 else suc (first_on v (b ∷ more))) < length (a ∷ b ∷ more)
-    by true rest = omega arith
-    by false rest = omega (arith, rest)
-
 bit_on : (b : Bool) → on (bit b) ≡ true → b ≡ true
 bit_on true e = refl
 bit_on false e = e
 
-pub arrive_points : (decls : List MapDecl) (k : ℕ) (kinds : Kinds) (a b c : List CellView) (ps qs : List PointerView) (ways here : List Way) (guard own : ℕ) (h : Held) (first : ℕ)
+pub arrive_points : (decls : List MapDecl) (k : ℕ) (kinds : Kinds) (a b c : List CellView) (ps qs : List PointerView) (ways here : List Way) (guard own : ℕ) (h : RegisterCells) (first : ℕ)
     → 1 ≤ length here → LeadTo k ways here → Guards a b here guard → IsOwn b c first guard own → JoinPoints decls b ps qs here kinds h → ArrivePoints decls k kinds c ps qs ways own h
 arrive_points decls k kinds a b c ps qs ways here guard own h first some lead guards is joins packet v u run follows bits = (omega (arith, own_is, bit_small (any_on v here)), along, brought)
   where
@@ -88,6 +80,6 @@ arrive_points decls k kinds a b c ps qs ways here guard own h first some lead gu
         }
 
 -- more cells, which read no site
-pub arrive_later : (decls : List MapDecl) (k : ℕ) (kinds : Kinds) (cells cells2 : List CellView) (ps qs : List PointerView) (ways : List Way) (guard : ℕ) (h : Held)
+pub arrive_later : (decls : List MapDecl) (k : ℕ) (kinds : Kinds) (cells cells2 : List CellView) (ps qs : List PointerView) (ways : List Way) (guard : ℕ) (h : RegisterCells)
     → Grows cells cells2 → ArrivePoints decls k kinds cells ps qs ways guard h → ArrivePoints decls k kinds cells2 ps qs ways guard h
 arrive_later decls k kinds cells cells2 ps qs ways guard h grows p packet v u run follows = p packet v u (grows.run packet v run) (followed_before grows follows)

@@ -1,18 +1,17 @@
 -- Where edges lead to a node.
-use Rattle.std.proofs.Common.{◌≡◌, ℕ, ◌<◌, ◌≤◌, Bool, true, false, List, [], ◌∷◌, ◌++◌, length, get_or, refl, sym, ◌∙◌, ap, subst, arith}
+use Rattle.std.proofs.Common.{◌≡◌, ℕ, ◌<◌, ◌≤◌, Bool, true, false, List, ◌++◌, length, get_or, sym, ◌∙◌, ap, subst, arith}
 use Rattle.std.specs.Prelude.{All, Contains}
 use Rattle.std.proofs.lemmas.List.Elements.{All-contains, Contains-get_or}
 use Rattle.xdp_machine.specs.xdp_maps.declared.decl.MapDecl.{MapDecl}
 use Rattle.xdp_machine.specs.State.{PacketIn}
 use Rattle.kind_core.specs.declared.kind.Kinds.{Kinds}
-use Rattle.cell_core.specs.declared.operator.Operator.TheVariants.{Wire}
-use Rattle.cell_core.specs.Cells.{CellView, IsRun, bits_from, bit}
-use Rattle.operator_cells.specs.Making.{Grows, Makes, operated}
-use Rattle.operator_cells.proofs.MakingLaws.{grown, grown_none}
-use Rattle.operator_cells.specs.declared.held_cells.held.Held.{Held}
+use Rattle.cell_core.specs.Cells.{CellView, IsRun, bit}
+use Rattle.operator_cells.specs.Making.{Grows}
+use Rattle.operator_cells.proofs.MakingLaws.{grown}
+use Rattle.operator_cells.specs.declared.held_cells.machine_cells.RegisterCells.{RegisterCells}
 use Rattle.operator_cells.specs.declared.held_cells.way.Way.{Way}
 use Rattle.operator_cells.specs.HeldCells.Paths.{Stage, node_at, stands_at}
-use Rattle.operator_cells.specs.HeldCells.Held.{PointerView, AreInside}
+use Rattle.operator_cells.specs.HeldCells.RegisterCells.{PointerView, AreInside}
 use Rattle.operator_cells.specs.HeldCells.Steps.{IsGood, IsHere}
 use Rattle.edge_cells.specs.Widening.{AreWider}
 use Rattle.edge_cells.specs.Joining.{Joins, LeadTo, HereIsRight}
@@ -28,29 +27,13 @@ lead_wider kinds k ways here lead all i d l = lead_each (λ e. e.to ≡ k → Ar
 pub lead_some : (k : ℕ) (ways here : List Way) → LeadTo k ways here → (e : Way) × Contains ways e × (e.to ≡ k) → 1 ≤ length here
 lead_some k ways here lead e = let c = lead.all e.0 e.1 e.2 in omega (arith, c.1)
 
--- ---- a guard of its own
-
-one_bit : (x : ℕ) → x < 2 → bits_from x 0 1 ≡ x
-one_bit x h = omega (arith, h)
-
-pub own_already : (cells : List CellView) (first bit : ℕ) → first ≤ bit → bit < length cells → IsOwn cells cells first bit bit
-own_already cells first bit own there = record { grows = grown_none; own = own; there = there; value = λ packet v run h. refl }
-
-pub own_copied : (old new : List CellView) (first bit c : ℕ) → first ≤ length old → Makes old new c (operated Wire (bit ∷ []) 0 1) → c ≡ length old → IsOwn old new first bit c
-own_copied old new first bit c low made is = record {
-  grows = made.grows;
-  own = omega (arith, low, is);
-  there = made.there;
-  value = λ packet v run h. made.value packet v run ∙ one_bit (v bit) h;
-}
-
 -- ---- all of them
 
 pub bit_small : (b : Bool) → bit b < 2
 bit_small true = omega arith
 bit_small false = omega arith
 
-pub arrived : HereIsRight → (decls : List MapDecl) (k : ℕ) (kinds : Kinds) (a b c : List CellView) (ps qs : List PointerView) (ways here : List Way) (guard own : ℕ) (h : Held) (first : ℕ)
+pub arrived : HereIsRight → (decls : List MapDecl) (k : ℕ) (kinds : Kinds) (a b c : List CellView) (ps qs : List PointerView) (ways here : List Way) (guard own : ℕ) (h : RegisterCells) (first : ℕ)
     → LeadTo k ways here → Joins decls a b ps qs here kinds guard h → first ≡ length a → IsOwn b c first guard own → ArrivesAt decls k kinds a ps ways c qs own h
 arrived right decls k kinds a b c ps qs ways here guard own h first lead joins from is g t decls_are kinds_are cells_are pointers_are ways_are =
     record {

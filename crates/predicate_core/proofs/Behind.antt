@@ -1,4 +1,4 @@
--- What stands behind a node, place by place.
+-- What stands after a node, place by place.
 use Rattle.std.proofs.Common.{◌≡◌, ◌≢◌, ◌∙◌, ℕ, suc, ◌≤◌, ◌==◌, ◌⊎◌, inl, inr, Bool, true, false, if◌then◌else◌, Option, Some, None, List, [], ◌∷◌, get_or, refl, sym, ap, arith}
 use Rattle.std.specs.Prelude.{All}
 use Rattle.std.specs.List.{list_any}
@@ -23,9 +23,6 @@ same_some [] = refl
 same_some (s ∷ ss) = refl
 
 module _ (os : List (Option Origin)) (maker least place : ℕ) (x : Option Origin) where
-  noted_pending : (r : Record) → Option Origin
-  noted_pending r = Some (record { maker = maker; row = pending_row os r least })
-
   -- a place that is not noted
   pub noted_other : (w : Option Record) → ((r : Record) → w ≡ Some r → place ≢ pending_place r.map) → noted os w maker least place x ≡ x
   noted_other None h = refl

@@ -13,7 +13,7 @@ use Rattle.operator_cells.specs.row_rules.PlaceRows.Reading.{is_known}
 use Rattle.operator_cells.specs.row_rules.declared.node_rows.joining.Arrival.{Arrival}
 use Rattle.operator_cells.specs.row_rules.NodeRows.Joining.{brings, edge_row, brought_row, is_origin, all_bring, new_origin, met}
 use Rattle.operator_cells.specs.declared.held_cells.way.Way.{Way}
-use Rattle.operator_cells.specs.HeldCells.Held.{PointerView}
+use Rattle.operator_cells.specs.HeldCells.RegisterCells.{PointerView}
 use Rattle.operator_cells.specs.HeldCells.Rows as cells
 use Rattle.operator_cells.specs.HeldCells.Rows.{kind_at, number_at, held_row, bits_row, holds_at, hold_one, chosen_row}
 

@@ -8,7 +8,7 @@ use Rattle.std.proofs.Math.Nat.{mod-eq_of_lt}
 use Rattle.std.proofs.lemmas.Bool.{cases_lt}
 use Rattle.std.proofs.lemmas.Grind.{same_number_lists}
 use Rattle.std.proofs.lemmas.List.{length-map, get_or-map, get_or-set_same, get_or-set_other, get_or_past}
-use Rattle.std.proofs.lemmas.List.Elements.{All-nil, All-push, All-weaker, All-contains}
+use Rattle.std.proofs.lemmas.List.Elements.{All-push, All-weaker, All-contains}
 use Rattle.xdp_machine.specs.Arithmetic.{low}
 use Rattle.xdp_machine.specs.State.{PacketIn}
 use Rattle.xdp_machine.specs.Runs.{Leaves}
@@ -24,11 +24,8 @@ use Rattle.operator_cells.specs.declared.joining.Arm.{Arm}
 use Rattle.operator_cells.specs.Joining.{chosen, flat, ChoiceIsRight}
 use Rattle.operator_cells.specs.Making.{seen, Adds, Makes, MakesIf, operated}
 use Rattle.operator_cells.specs.Rising.{Rises}
-use Rattle.operator_cells.proofs.MakingLaws.{grown, grown_none}
+use Rattle.operator_cells.proofs.MakingLaws.{grown}
 use Rattle.operator_cells.specs.declared.held_cells.way.Exit.{Exit}
-use Rattle.operator_cells.specs.HeldCells.Held.{IsThere}
-use Rattle.kind_core.specs.declared.number.Number.{Number}
-use Rattle.kind_core.specs.declared.number.Number.TheVariants.{Known, Unknown}
 use Rattle.operator_cells.specs.HeldCells.Steps.{IsLeft}
 use Rattle.operator_cells.specs.HeldCells.Law.{IsPacket}
 use Rattle.predicate_core.specs.declared.closing.Output.{Output}
@@ -36,8 +33,8 @@ use Rattle.predicate_core.specs.declared.closing.Output.TheVariants.{Verdict, Ta
 use Rattle.predicate_core.specs.Buildable.{HasBits, AddsNoRow}
 use Rattle.predicate_core.specs.Making.{Answers}
 use Rattle.predicate_core.specs.Opening.{HaveBytes}
-use Rattle.predicate_core.specs.Closing.{output_of, bits_of, EndIsThere, SomeEnds, AreOutputs, Outputs, OutputsWithin, AreFrameBytes}
-use Rattle.predicate_core.proofs.LastRow.{no_row_none, no_row_then, no_row_more, flat_low, bits_later}
+use Rattle.predicate_core.specs.Closing.{output_of, bits_of, SomeEnds, AreOutputs, Outputs, OutputsWithin, AreFrameBytes}
+use Rattle.predicate_core.proofs.LastRow.{no_row_then, no_row_more, flat_low, bits_later}
 use Rattle.predicate_core.proofs.Opened.{byte_below}
 
 -- ---- what one end holds
@@ -70,20 +67,7 @@ added_bits old new c cell adds = record {
   width = let e : cell_at new c ≡ cell = ap (cell_at new) adds.at ∙ ap (λ (cells : List CellView). cell_at cells (length old)) adds.is ∙ get_or-append_seam old cell [] no_cell in omega (arith, ap (λ (x : CellView). x.width) e);
 }
 
-pub held_one : (cells : List CellView) (x : Exit) (o : Output) (c : ℕ) → c < length cells → ((v : ℕ → ℕ) → v c ≡ output_of v o x) → Makes cells cells c (λ packet v. output_of v o x)
-held_one cells x o c there same = record { grows = grown_none; there = there; value = λ packet v run. same v }
-
-pub end_later : (n m : ℕ) (x : Exit) → n ≤ m → EndIsThere n x → EndIsThere m x
-end_later n m x l h = (omega (arith, l, h.0), omega (arith, l, h.1), there x.verdict h.2, λ i b. omega (arith, l, h.3 i b))
-  where
-    there : (y : Number) → IsThere n y (slice_index x.held.registers 0) → IsThere m y (slice_index x.held.registers 0)
-    there (Known a) t = tt
-    there Unknown t = omega (arith, l, t)
-
 -- ---- what all ends hold
-
-pub outputs_none : (cells : List CellView) (exits : List Exit) (o : Output) → AreOutputs cells cells exits o 0 []
-outputs_none cells exits o = record { grows = grown_none; no_row = no_row_none cells; count = refl; there = All-nil _; each = λ packet v i a x l. absurd (omega (arith, l)) }
 
 pub outputs_more : (old mid new : List CellView) (exits : List Exit) (o : Output) (n : ℕ) (arms more : List Arm) (c : ℕ) (x : Exit) → n < length exits → AreOutputs old mid exits o n arms
     → x.guard < length old → Makes mid new c (λ packet v. output_of v o x) → AddsNoRow mid new → ((d : Exit) → get_or exits n d ≡ x) → more ≡ arms ++ record { bit = x.guard; cell = c } ∷ [] → AreOutputs old new exits o (n + 1) more
@@ -158,17 +142,6 @@ outputs_within old mid new exits o a c bits size whole made is no_row = record {
 more_bytes : (v : ℕ → ℕ) (f : List ℕ) (frame : List FrameByte) (b : FrameByte) → with_bytes v f (frame ++ b ∷ []) ≡ slice_set (with_bytes v f frame) b.at (v b.cell)
 more_bytes v f [] b = refl
 more_bytes v f (a ∷ frame) b = more_bytes v (slice_set f a.at (v a.cell)) frame b
-
-pub frame_none : (cells : List CellView) (exits : List Exit) (window : List ℕ) → AreFrameBytes cells cells exits window 0 []
-frame_none cells exits window = record {
-  grows = grown_none;
-  no_row = no_row_none cells;
-  bytes = All-nil _;
-  ascending = λ i j d l h. absurd (omega (arith, h));
-  size = λ packet v. refl;
-  rest = λ packet v i l. refl;
-  each = λ packet v e i l. absurd (omega (arith, l));
-}
 
 left_at : (packet : PacketIn) (v : ℕ → ℕ) (exits : List Exit) (e : Leaves) (x : SomeEnds v exits) → All (λ x. on (v x.guard) ≡ true → IsLeft packet v x e) exits → IsLeft packet v x.0 e
 left_at packet v exits e x all = All-contains (λ x. on (v x.guard) ≡ true → IsLeft packet v x e) exits x.0 all x.1 x.2

@@ -19,13 +19,13 @@ use Rattle.cell_core.specs.Rows.{last_row}
 use Rattle.cell_core.specs.Sites.{SiteView, no_site, ProgramView, IsCellRun, after, leaves, touched, with_bytes}
 use Rattle.operator_cells.proofs.MakingLaws.{reads_none}
 use Rattle.operator_cells.proofs.RisingLaws.{rows_before}
-use Rattle.operator_cells.specs.declared.held_cells.held.Held.{Held}
+use Rattle.operator_cells.specs.declared.held_cells.machine_cells.RegisterCells.{RegisterCells}
 use Rattle.operator_cells.specs.HeldCells.Paths.{GraphView, Stage, At, Over, Nowhere, before, stands_at, maps_in}
 use Rattle.operator_cells.specs.HeldCells.Steps.{ReadsOwn, IsGood, IsLeft}
 use Rattle.operator_cells.specs.HeldCells.Law.{IsPacket, AreAnswered, IsRight, made_at, sites_below, sites_at, Computes, IsLaw}
 use Rattle.operator_cells.specs.HeldCells.Pointing.{AccessesLookUp, AccessesStay}
 use Rattle.operator_cells.specs.HeldCells.Reading.{ReadsAreMade, ReadsWait}
-use Rattle.edge_cells.proofs.Growth.{followed_before}
+use Rattle.edge_cells.proofs.GrowthLaws.{followed_before}
 use Rattle.predicate_core.specs.Buildable.{IsBuildable}
 use Rattle.predicate_core.specs.Making.{Making, IsSoFar, IsCase, Answers, made_alone, held_in}
 use Rattle.predicate_core.specs.Laws.{WholesCompute}
@@ -56,7 +56,7 @@ few_sites n ss low pairs = by (length ss) refl
         let below = low m no_site last in
         omega (arith, above, below)
 
-module _ (starts : StartsInRange) (leave : RunsLeaveInRange) (g : GraphView) (hs : List Held) (t : Making) (cells : List CellView) (verdict target : ℕ) (frame : List FrameByte)
+module _ (starts : StartsInRange) (leave : RunsLeaveInRange) (g : GraphView) (hs : List RegisterCells) (t : Making) (cells : List CellView) (verdict target : ℕ) (frame : List FrameByte)
     (legal : All IsInsn g.code.insns) (so_far : IsSoFar g (length g.nodes) hs t) (apart : AllPairs (λ s r. s.node < r.node) t.sites) (accesses : AccessesLookUp g.decls (made_alone t)) (stays : AccessesStay (made_alone t)) (made : ReadsAreMade g.decls (made_alone t)) (waits : ReadsWait (made_alone t))
     (answers : Answers t.cells cells t.exits verdict target frame) where
   abbrev pub p : ProgramView

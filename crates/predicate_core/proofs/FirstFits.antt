@@ -22,7 +22,7 @@ use Rattle.operator_cells.proofs.row_rules_laws.PlaceRows.PlaceLaws.{place_at}
 use Rattle.operator_cells.specs.row_rules.declared.node_rows.stages.Stages.{Stages}
 use Rattle.operator_cells.specs.row_rules.NodeRows.Rows.{HasStages, insn_of, may_write}
 use Rattle.operator_cells.specs.declared.held_cells.way.Way.{Way}
-use Rattle.operator_cells.specs.HeldCells.Held.{PointerView, pointed}
+use Rattle.operator_cells.specs.HeldCells.RegisterCells.{PointerView, pointed}
 use Rattle.operator_cells.specs.HeldCells.Law.{made_at}
 use Rattle.operator_cells.specs.HeldCells.Rows.{kind_at, number_at, held_row}
 use Rattle.operator_cells.proofs.HeldCells.RowLaws.{byte_row, target_row}

@@ -8,10 +8,10 @@ use Rattle.kind_core.specs.declared.kind.Kinds.{Kinds}
 use Rattle.kind_core.specs.Kinds as kinds
 use Rattle.cell_core.specs.Cells.{on}
 use Rattle.operator_cells.specs.row_rules.PlaceRows.Origins.{is_open}
-use Rattle.operator_cells.specs.declared.held_cells.held.Held.{Held}
+use Rattle.operator_cells.specs.declared.held_cells.machine_cells.RegisterCells.{RegisterCells}
 use Rattle.operator_cells.specs.declared.held_cells.way.Way.{Way}
 use Rattle.operator_cells.specs.HeldCells.Rows.{kind_at, number_at}
-use Rattle.operator_cells.specs.HeldCells.Pointing.{Pointing, pointing_as, HoldsPointer, AreLookedUp, HeldAre}
+use Rattle.operator_cells.specs.HeldCells.Pointing.{Pointing, pointing_as, HoldsPointer, AreLookedUp, RegisterCellsAre}
 use Rattle.predicate_core.specs.Laws.{OpensPoint}
 use Rattle.predicate_core.proofs.FirstFits.{start_closed}
 use Rattle.predicate_core.proofs.Pointers.{low_place}
@@ -21,7 +21,7 @@ pointer_open (Maybe q n) c x e = refl
 pointer_open (Entry q o) c x e = refl
 pointer_open a c x e = cc
 
-holds_none : (k : Kinds) (h : Held) (x : Pointing) → k ≡ kinds.start → HoldsPointer k h x → ⊥
+holds_none : (k : Kinds) (h : RegisterCells) (x : Pointing) → k ≡ kinds.start → HoldsPointer k h x → ⊥
 holds_none k h x is (place, e) =
     let closed : is_open (kind_at k place) ≡ false = ap (λ (j : Kinds). is_open (kind_at j place)) is ∙ start_closed place (low_place k h place x e) in
     let open_there = pointer_open (kind_at k place) (number_at h place) x e in
@@ -36,7 +36,7 @@ opens_point decls t e ways_are none opens = record {
     held = all (λ w. 0 ≤ w.to → on (v w.bit) ≡ true → AreLookedUp decls t.cells t.sites v u t.pointers w.kinds w.held) (λ l o x holds. absurd (holds_none e.kinds e.held x opens.kinds_are holds));
     accesses = λ j l. absurd (let n = ap length none in omega (arith, l, n));
     into = λ m n founds. record {
-      held = all (λ w. HeldAre u m n t.pointers w.kinds w.held) (λ x holds. absurd (holds_none e.kinds e.held x opens.kinds_are holds));
+      held = all (λ w. RegisterCellsAre u m n t.pointers w.kinds w.held) (λ x holds. absurd (holds_none e.kinds e.held x opens.kinds_are holds));
       accesses = λ j l. absurd (let n = ap length none in omega (arith, l, n));
     };
   };

@@ -17,10 +17,10 @@ use Rattle.operator_cells.specs.row_rules.PlaceRows.Spans.{pending_place}
 use Rattle.operator_cells.specs.row_rules.PlaceRows.Origins.{is_open, has_data, row_of, row_at, every_row, by_place, origin_at_start}
 use Rattle.operator_cells.proofs.row_rules_laws.PlaceRows.PlaceLaws.{place_at, greatest_within, greatest_above}
 use Rattle.operator_cells.specs.row_rules.NodeRows.Joining.{brings, edge_row, all_bring, new_origin, met, first_brings, origin_at}
-use Rattle.operator_cells.specs.declared.held_cells.held.Held.{Held}
+use Rattle.operator_cells.specs.declared.held_cells.machine_cells.RegisterCells.{RegisterCells}
 use Rattle.operator_cells.specs.declared.held_cells.way.Way.{Way}
 use Rattle.operator_cells.specs.HeldCells.Paths.{EdgeView}
-use Rattle.operator_cells.specs.HeldCells.Held.{PointerView, pointed}
+use Rattle.operator_cells.specs.HeldCells.RegisterCells.{PointerView, pointed}
 use Rattle.operator_cells.specs.HeldCells.Rows.{kind_at, number_at, held_row, bits_row, brought_row, hold_one, chosen_row, met_row, choosing_row, JoinsTo}
 use Rattle.predicate_core.specs.ProgramGraph.Graphs.{node_view, edge_view, graph_of}
 use Rattle.predicate_core.specs.ProgramGraph.Sound.{IsSoundGraph, GraphsAreSound}
@@ -54,9 +54,6 @@ module _ (p : XdpProgram) (u : Unfolded) (k : ℕ) (t : Progress) (fit : FitSoFa
       (m, sym (target_at t.made.ways.items (get_or numbers i d) no_way m) ∙ x.1, waits (get_or numbers i d) [] (omega (arith, m, count)))
 
   module _ (q : ℕ) (l : q < length p.decls) where
-    arms : List Arm
-    arms = arms_of t.made.ways.items (pending_of t) numbers q no_way
-
     module _ (later : 0 < k) (origins : origins_met p u k ≡ by_place (origin_at (arrivals_at p u k) (k + 1) (kinds_of u k))) where
       later_rows : (row : ℕ → ℕ) → AreRows (seen t.made.cells.items) row → All (λ a. RowBrought (arrivals_at p u k) (pending_place q) (row a.bit) (row a.cell)) (arms_of t.made.ways.items (pending_of t) numbers q no_way)
       later_rows row rows = arms_all (λ a. RowBrought (arrivals_at p u k) (pending_place q) (row a.bit) (row a.cell)) t.made.ways.items (pending_of t) numbers q (λ i d m.
@@ -180,7 +177,7 @@ last_low : {a c : ℕ} (b : ℕ) → a ≤ c → a ≤ max b c
 last_low b x = omega (arith, x)
 
 -- ---- all of it
-module _ (p : XdpProgram) (u : Unfolded) (k : ℕ) (t : Progress) (cells cells2 : List CellView) (ps : List PointerView) (here : List Way) (guard : ℕ) (h : Held) (waiting : List ℕ) (numbers' : List ℕ)
+module _ (p : XdpProgram) (u : Unfolded) (k : ℕ) (t : Progress) (cells cells2 : List CellView) (ps : List PointerView) (here : List Way) (guard : ℕ) (h : RegisterCells) (waiting : List ℕ) (numbers' : List ℕ)
     (joins : JoinsTo (seen t.made.cells.items) cells (pointed t.made.pointers.items) ps here (kinds_of u k) guard h)
     (gathers : GathersTo cells cells2 t.made.ways.items (pending_of t) numbers' (length p.decls) waiting) (count : length waiting ≡ length p.decls) (few : length p.decls ≤ 16)
     (fit : FitSoFar p u k t) (some : 1 ≤ length here) (some_numbers : 1 ≤ length numbers')

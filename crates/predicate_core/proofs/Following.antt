@@ -12,11 +12,11 @@ use Rattle.cell_core.specs.Cells.{CellView, bit}
 use Rattle.cell_core.specs.Sites.{SiteView, after}
 use Rattle.operator_cells.specs.Making.{GrowsWith}
 use Rattle.operator_cells.proofs.MakingLaws.{grown_with, reads_none}
-use Rattle.operator_cells.specs.declared.held_cells.held.Held.{Held}
+use Rattle.operator_cells.specs.declared.held_cells.machine_cells.RegisterCells.{RegisterCells}
 use Rattle.operator_cells.specs.declared.held_cells.way.Way.{Way}
 use Rattle.operator_cells.specs.declared.held_cells.way.Exit.{Exit}
 use Rattle.operator_cells.specs.HeldCells.Paths.{GraphView, At, node_at, before, on_path, maps_in}
-use Rattle.operator_cells.specs.HeldCells.Held.{PointerView, AreInside, AreHeld}
+use Rattle.operator_cells.specs.HeldCells.RegisterCells.{PointerView, AreInside, AreHeld}
 use Rattle.operator_cells.specs.HeldCells.Steps.{Steps, ReadsOwn, IsGood, IsHere, DoAs}
 use Rattle.operator_cells.specs.HeldCells.Law.{made_at, sites_below, sites_at}
 use Rattle.edge_cells.specs.Meeting.{Extends}
@@ -30,7 +30,7 @@ use Rattle.predicate_core.proofs.Cases.{case_older, case_fewer, all_read}
 use Rattle.predicate_core.proofs.NodeLayout.{node_each, low_more, laid_more}
 use Rattle.predicate_core.proofs.Sited.{below_cells, sited_more}
 
-module _ (g : GraphView) (k : ℕ) (hs : List Held) (t : Making) (cells cells2 : List CellView) (ps ps2 : List PointerView) (sites2 : List SiteView) (ways : List Way) (exits : List Exit) (guard : ℕ) (h : Held)
+module _ (g : GraphView) (k : ℕ) (hs : List RegisterCells) (t : Making) (cells cells2 : List CellView) (ps ps2 : List PointerView) (sites2 : List SiteView) (ways : List Way) (exits : List Exit) (guard : ℕ) (h : RegisterCells)
     (so_far : IsSoFar g k hs t) (arrives : Arrives g k t cells ps guard h) (s : Steps g k guard h cells cells2 ps ps2 t.sites sites2 t.ways ways t.exits exits) where
   abbrev pub u : Making
   u = record { cells = cells2; pointers = ps2; sites = sites2; ways = ways; exits = exits; nodes = t.nodes ++ made_next g k guard t.cells cells2 ∷ [] }
@@ -85,7 +85,7 @@ module _ (g : GraphView) (k : ℕ) (hs : List Held) (t : Making) (cells cells2 :
   held_new = ap (held_in (hs ++ h ∷ [])) (sym so_far.held_count) ∙ get_or-append_seam hs h [] no_held
 
   -- what holds of what is held at each node
-  held_each : (P : ℕ → Held → Type 0) → ((j : ℕ) → j < k → P j (held_in hs j)) → P k h → (j : ℕ) → j < k + 1 → P j (held_in (hs ++ h ∷ []) j)
+  held_each : (P : ℕ → RegisterCells → Type 0) → ((j : ℕ) → j < k → P j (held_in hs j)) → P k h → (j : ℕ) → j < k + 1 → P j (held_in (hs ++ h ∷ []) j)
   held_each P old new j l = by (cases_lt j k)
     where
       by : (j < k) ⊎ (k ≤ j) → P j (held_in (hs ++ h ∷ []) j)

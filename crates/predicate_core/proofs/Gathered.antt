@@ -1,4 +1,4 @@
--- The cells that stand for the writes of maps, one map after another, and behind a node.
+-- The cells that stand for the writes of maps, one map after another, and after a node.
 use Rattle.std.proofs.Common.{◌≡◌, ◌∙◌, ℕ, suc, ◌+◌, ◌<◌, ◌≤◌, ◌⊎◌, inl, inr, List, [], ◌∷◌, ◌++◌, length, get_or, map, refl, sym, ap, arith, subst, take}
 use Rattle.std.specs.Prelude.{slice_index, slice_set, All}
 use Rattle.std.proofs.Math.ListN.{get_or-append}
@@ -24,15 +24,6 @@ flat_most : (rank : ℕ → ℕ) (arms : List Arm) → All (λ a. rank a.cell �
 flat_most rank [] = All-nil (λ a. rank a.cell ≤ greatest rank (flat []))
 flat_most rank (a ∷ more) = All-cons (λ b. rank b.cell ≤ greatest rank (flat (a ∷ more))) a more (omega arith)
     (All-weaker (λ b. rank b.cell ≤ greatest rank (flat more)) (λ b. rank b.cell ≤ greatest rank (flat (a ∷ more))) (λ b h. omega (arith, h)) more (flat_most rank more))
-
-pub gathers_none : (a : List CellView) (ways : List Way) (pending : List (List ℕ)) (numbers : List ℕ) → GathersTo a a ways pending numbers 0 []
-gathers_none a ways pending numbers = record {
-  rows = λ row rows. rows;
-  stays = λ q e d l all. absurd (omega (arith, l));
-  result = λ row q e rows l. absurd (omega (arith, l));
-  above = λ rank q e ranks l. absurd (omega (arith, l));
-  cells = λ row last e rows h c low high. absurd (omega (arith, low, high));
-}
 
 module _ (a b c : List CellView) (ways : List Way) (pending : List (List ℕ)) (numbers : List ℕ) (n : ℕ) (all more : List ℕ) (arms : List Arm) (x : ℕ)
     (g : GathersTo a b ways pending numbers n all) (are : (e : Way) → arms ≡ arms_of ways pending numbers n e) (new : Gathers b c arms x) (is : more ≡ all ++ x ∷ []) (count : length all ≡ n) where
@@ -95,7 +86,7 @@ pending_meets k cells cells2 ways beside numbers maps pending g count are rank n
     let h = g.above rank q d ranks (omega (arith, below, count)) c.0 (one n) (omega (arith, c.1, length-map numbers one)) in
     omega (arith, h, ap (λ (a : Arm). rank a.cell) (get_or-map one numbers c.0 n (one n) c.1 ∙ ap one c.2))
 
--- ---- behind a node
+-- ---- after a node
 pub passes_none : (a : List CellView) (sites : List SiteView) (number first : ℕ) (pending : List ℕ) → length sites ≤ number → PassesTo a a sites number first pending pending
 passes_none a sites number first pending h = record {
   none = λ l. (refl, refl);

@@ -46,7 +46,7 @@ last_more : (row : ℕ → ℕ) (nodes : List Node) (n : Node) → (last_row row
 last_more row [] n = (omega arith, omega arith)
 last_more row (m ∷ nodes) n = let x = last_more row nodes n in (omega (arith, x.0), omega (arith, x.1))
 
--- a node that has made the cells behind those of the nodes before it
+-- a node that has made the cells after those of the nodes before it
 pub rows_more : (R : ℕ → ℕ → Type 0) (old new : List CellView) (nodes : List Node) (n : Node) → n.first ≡ length old → n.end ≡ length new → GrowsWith R old new
     → ((row : ℕ → ℕ) → AreRows old row → (c : ℕ) → c < length old → row c ≤ last_row row nodes)
     → (row : ℕ → ℕ) → AreRows new row → (c : ℕ) → c < length new → row c ≤ last_row row (nodes ++ n ∷ [])

@@ -1,7 +1,6 @@
 -- What is known among more cells and pointers.
-use Rattle.std.proofs.Common.{◌≡◌, ℕ, suc, zero, Bool, true, false, List, [], ◌∷◌, length, get_or, sym, ◌∙◌, ap, subst, arith}
-use Rattle.std.specs.Prelude.{slice_index, Contains, cond}
-use Rattle.std.specs.List.{filter}
+use Rattle.std.proofs.Common.{ℕ, List, length, get_or}
+use Rattle.std.specs.Prelude.{slice_index}
 use Rattle.xdp_machine.specs.xdp_maps.declared.decl.MapDecl.{MapDecl}
 use Rattle.xdp_machine.specs.Values as is
 use Rattle.xdp_machine.specs.State.{Machine, PacketIn}
@@ -9,17 +8,17 @@ use Rattle.xdp_machine.specs.State as machine
 use Rattle.kind_core.specs.declared.kind.Kind.TheVariants.{Unset}
 use Rattle.kind_core.specs.declared.kind.Kinds.{Kinds}
 use Rattle.cell_core.specs.Cells.{CellView}
-use Rattle.operator_cells.specs.declared.held_cells.held.Held.{Held}
+use Rattle.operator_cells.specs.declared.held_cells.machine_cells.RegisterCells.{RegisterCells}
 use Rattle.operator_cells.specs.declared.held_cells.way.Way.{Way}
 use Rattle.operator_cells.specs.declared.held_cells.way.Exit.{Exit}
 use Rattle.operator_cells.specs.HeldCells.Paths.{GraphView, Stage}
-use Rattle.operator_cells.specs.HeldCells.Held.{PointerView, AreInside, AreHeld}
+use Rattle.operator_cells.specs.HeldCells.RegisterCells.{PointerView, AreInside, AreHeld}
 use Rattle.operator_cells.specs.HeldCells.Carrying.{IsKnown}
 use Rattle.operator_cells.specs.HeldCells.Steps.{IsGood, AreMade}
 use Rattle.edge_cells.specs.Meeting.{Extends}
 use Rattle.edge_cells.proofs.ExtendingLaws.{holds_later}
 
-pub held_later : (decls : List MapDecl) (packet : PacketIn) (v : ℕ → ℕ) (n : ℕ) (ps qs : List PointerView) (h : Held) (k : Kinds) (m : Machine)
+pub held_later : (decls : List MapDecl) (packet : PacketIn) (v : ℕ → ℕ) (n : ℕ) (ps qs : List PointerView) (h : RegisterCells) (k : Kinds) (m : Machine)
     → Extends ps qs → AreInside decls n ps h k → AreHeld decls packet v ps h k m → AreHeld decls packet v qs h k m
 held_later decls packet v n ps qs h k m e inside held = record {
   registers = λ r l. holds_later decls n v ps qs (get_or k.registers r Unset) (slice_index h.registers r) (machine.register m.registers r) e (inside.registers r l) (held.registers r l);
@@ -32,7 +31,7 @@ held_later decls packet v n ps qs h k m e inside held = record {
   time = held.time;
 }
 
-known_later : (decls : List MapDecl) (packet : PacketIn) (v : ℕ → ℕ) (n : ℕ) (ps qs : List PointerView) (node : ℕ) (k : Kinds) (h : Held) (m : Machine)
+known_later : (decls : List MapDecl) (packet : PacketIn) (v : ℕ → ℕ) (n : ℕ) (ps qs : List PointerView) (node : ℕ) (k : Kinds) (h : RegisterCells) (m : Machine)
     → Extends ps qs → AreInside decls n ps h k → IsKnown decls packet v ps node k h m → IsKnown decls packet v qs node k h m
 known_later decls packet v n ps qs node k h m e inside known = record {
   world = known.world;
@@ -57,14 +56,3 @@ good_later g packet v cells ps qs k ways exits s e made good = record {
   ended = good.ended;
   somewhere = good.somewhere;
 }
-
--- ---- edges that lead to a node
-
-pub contains_filter : {X : Type 0} (p : X → Bool) (xs : List X) (x : X) → p x ≡ true → Contains xs x → Contains (filter p xs) x
-contains_filter p [] x e c = absurd (omega (arith, c.1))
-contains_filter p (y ∷ ys) x e (zero, l, is) = subst (λ (t : Bool). Contains (cond t (y ∷ filter p ys) (filter p ys)) x) (sym (ap p is ∙ e)) (0, omega arith, is)
-contains_filter {X = X} p (y ∷ ys) x e (suc i, l, is) = by (p y) (contains_filter p ys x e (i, omega (arith, l), is))
-  where
-    by : (t : Bool) → Contains (filter p ys) x → Contains (cond t (y ∷ filter p ys) (filter p ys)) x
-    by true c = (suc c.0, omega (arith, c.1), c.2)
-    by false c = c

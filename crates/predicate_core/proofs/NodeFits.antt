@@ -1,4 +1,4 @@
--- A node more: its cells fit its row, and its edges bring what stands behind it.
+-- A node more: its cells fit its row, and its edges bring what stands after it.
 use Rattle.std.proofs.Common.{Global, Vec, ◌≡◌, ◌≢◌, ◌∙◌, ℕ, zero, suc, ◌+◌, ◌-◌, ◌<◌, ◌≤◌, ◌==◌, ◌⊎◌, inl, inr, nat_lt, Bool, true, false, if◌then◌else◌, Option, Some, None, List, [], ◌∷◌, ◌++◌, length, length-append, get_or, replicate, refl, sym, ap, arith, subst, max}
 use Rattle.std.specs.Prelude.{slice_index, slice_set, cond, is_some, take, count_by, All, Contains}
 use Rattle.std.specs.List.{list_any}
@@ -21,8 +21,9 @@ use Rattle.cell_core.specs.Cells.{CellView, cell_at, site_in, is_heavy, bit}
 use Rattle.cell_core.specs.Sites.{SiteView, site_at, no_site, records}
 use Rattle.cell_core.specs.Formed.{AreFormed, FitsMap}
 use Rattle.cell_core.specs.Rows.{AreRows, greatest, node_row, taken_by, record_count}
+use Rattle.cell_core.proofs.RowLaws.{greatest_append}
 use Rattle.operator_cells.specs.Making.{seen, Grows}
-use Rattle.operator_cells.proofs.RisingLaws.{rows_before, greatest_append}
+use Rattle.operator_cells.proofs.RisingLaws.{rows_before}
 use Rattle.operator_cells.specs.row_rules.declared.place_rows.origin.Origin.{Origin}
 use Rattle.operator_cells.specs.row_rules.declared.place_rows.recording.Record.{Record}
 use Rattle.operator_cells.specs.row_rules.PlaceRows.Spans.{pending_place, is_in}
@@ -30,15 +31,15 @@ use Rattle.operator_cells.specs.row_rules.PlaceRows.Origins.{has_data, row_of, r
 use Rattle.operator_cells.specs.row_rules.PlaceRows.Writing.{writes_as, taken_row}
 use Rattle.operator_cells.proofs.row_rules_laws.PlaceRows.PlaceLaws.{greatest_within}
 use Rattle.operator_cells.proofs.row_rules_laws.PlaceRows.SpanLaws.{one_row}
-use Rattle.operator_cells.specs.row_rules.declared.node_rows.node.Behind.{Behind}
+use Rattle.operator_cells.specs.row_rules.declared.node_rows.node.AfterNode.{AfterNode}
 use Rattle.operator_cells.specs.row_rules.NodeRows.Joining.{edge_row}
 use Rattle.operator_cells.specs.row_rules.NodeRows.Passing.{is_some_place, pending_row, leaving_row}
 use Rattle.operator_cells.specs.row_rules.NodeRows.Rows.{no_point, point_at, insn_of, known_behind, row_of_node, may_write}
-use Rattle.operator_cells.specs.declared.held_cells.held.Held.{Held}
-use Rattle.operator_cells.specs.declared.held_cells.held.Pointer.{Pointer}
+use Rattle.operator_cells.specs.declared.held_cells.machine_cells.RegisterCells.{RegisterCells}
+use Rattle.operator_cells.specs.declared.held_cells.machine_cells.Pointer.{Pointer}
 use Rattle.operator_cells.specs.declared.held_cells.way.Way.{Way}
 use Rattle.operator_cells.specs.HeldCells.Paths.{NodeView, EdgeView, no_node, node_at}
-use Rattle.operator_cells.specs.HeldCells.Held.{PointerView, pointed}
+use Rattle.operator_cells.specs.HeldCells.RegisterCells.{PointerView, pointed}
 use Rattle.operator_cells.specs.HeldCells.Law.{no_made, made_at}
 use Rattle.operator_cells.specs.HeldCells.Steps.{Steps}
 use Rattle.operator_cells.specs.HeldCells.Rows as cells
@@ -78,13 +79,13 @@ named_new named maker own m place e = let t : (m == maker) ≡ true = eq-eqb m m
 named_old : (named : ℕ → ℕ → ℕ) (maker : ℕ) (own : ℕ → ℕ) (m place : ℕ) → m ≢ maker → names_with named maker own m place ≡ named m place
 named_old named maker own m place e = let t : (m == maker) ≡ false = ne_eqb m maker e in rw t refl
 
-abbrev held_or_waiting : Held → List ℕ → ℕ → ℕ
+abbrev held_or_waiting : RegisterCells → List ℕ → ℕ → ℕ
 held_or_waiting h waiting place = if nat_lt place 332 then number_at h place else slice_index waiting (place - 332)
 
-own_held : (h : Held) (waiting : List ℕ) (place : ℕ) → place < 332 → held_or_waiting h waiting place ≡ number_at h place
+own_held : (h : RegisterCells) (waiting : List ℕ) (place : ℕ) → place < 332 → held_or_waiting h waiting place ≡ number_at h place
 own_held h waiting place l = rw (lt-ltb place 332 l) refl
 
-own_waiting : (h : Held) (waiting : List ℕ) (q : ℕ) → held_or_waiting h waiting (pending_place q) ≡ slice_index waiting q
+own_waiting : (h : RegisterCells) (waiting : List ℕ) (q : ℕ) → held_or_waiting h waiting (pending_place q) ≡ slice_index waiting q
 own_waiting h waiting q = let same : 332 + q - 332 ≡ q = omega arith in rw (le-ltb (332 + q) 332 (omega arith), same) refl
 
 pub trans_le : {a b c : ℕ} → a ≤ b → b ≤ c → a ≤ c
@@ -204,7 +205,7 @@ module _ (p : XdpProgram) (u : Unfolded) (k : ℕ) (i : Insn) (next jump : Optio
   record_is row rows l rec = recorded (node_write p u k i) (site_at (sited new.made.sites.items) (length (sited t.made.sites.items)))
       ((stand row rows).writes.write_is (length (sited t.made.sites.items)) (omega (arith, sites_mid)) l rec)
 
-  -- what waits behind a write stands in its row
+  -- what waits after a write stands in its row
   module _ (row : ℕ → ℕ) (rows : AreRows (seen q.made.cells.items) row) (l : length (sited t.made.sites.items) < length (sited new.made.sites.items))
       (rec : records (site_at (sited new.made.sites.items) (length (sited t.made.sites.items))).act ≡ true) (r : Record) (is : node_write p u k i ≡ Some r) (map_is : r.map ≡ (site_at (sited new.made.sites.items) (length (sited t.made.sites.items))).map) where
     answer_low : cells.written_row (row_at (origins_met p u k)) p.decls (kinds_of u k) (node_after p u k i) i ≤ pending_row (origins_met p u k) r (node_least p u k i)
@@ -430,13 +431,13 @@ module _ (p : XdpProgram) (u : Unfolded) (k : ℕ) (i : Insn) (next jump : Optio
             (sym (origin_there p u k i place (omega (arith, l)) ∙ held_is p u k i inside node place l) ∙ h))
           where
             own : o.maker ≡ k + 1 → (o.maker ≤ k + 1) × (number_at e.held place ≡ names_with fit.named (k + 1) (held_or_waiting nodes.next waiting2) o.maker place)
-            own f = (exactly o.maker f, ap (λ (x : Held). number_at x place) held_is_next ∙ sym (own_held nodes.next waiting2 place l) ∙ sym (named_new fit.named (k + 1) (held_or_waiting nodes.next waiting2) o.maker place f))
+            own f = (exactly o.maker f, ap (λ (x : RegisterCells). number_at x place) held_is_next ∙ sym (own_held nodes.next waiting2 place l) ∙ sym (named_new fit.named (k + 1) (held_or_waiting nodes.next waiting2) o.maker place f))
 
             old : list_any (is_in place) (writes_as (kinds_of u k) i i.op) ≡ false → (o.maker ≡ k + 1) ⊎ ((o.maker ≤ k) × (number_at here.held place ≡ fit.named o.maker place))
                 → (o.maker ≤ k + 1) × (number_at e.held place ≡ names_with fit.named (k + 1) (held_or_waiting nodes.next waiting2) o.maker place)
             old f (inl g) = own g
             old f (inr x) = let n = more_than o.maker x.0 in
-                (n.0, ap (λ (y : Held). number_at y place) held_is_next ∙ nodes.same place l f ∙ x.1 ∙ sym (named_old fit.named (k + 1) (held_or_waiting nodes.next waiting2) o.maker place n.1))
+                (n.0, ap (λ (y : RegisterCells). number_at y place) held_is_next ∙ nodes.same place l f ∙ x.1 ∙ sym (named_old fit.named (k + 1) (held_or_waiting nodes.next waiting2) o.maker place n.1))
 
             by : (o.maker ≡ k + 1) ⊎ ((list_any (is_in place) (writes_as (kinds_of u k) i i.op) ≡ false) × (get_or (origins_met p u k) place None ≡ Some o))
                 → (o.maker ≤ k + 1) × (number_at e.held place ≡ names_with fit.named (k + 1) (held_or_waiting nodes.next waiting2) o.maker place)
@@ -558,7 +559,7 @@ module _ (p : XdpProgram) (u : Unfolded) (k : ℕ) (i : Insn) (next jump : Optio
       longer = omega (arith, comes.arrives.grows.longer, steps.grows.longer, grows.longer)
 
       own : node_row row (made_next (graph_of p u) k here.guard (seen t.made.cells.items) (seen q.made.cells.items)) ≤ row_of_node p u.nodes.items u.edges.items k
-      own = subst (λ (b : Behind). node_row row (made_next (graph_of p u) k here.guard (seen t.made.cells.items) (seen q.made.cells.items)) ≤ b.row) (sym (behind_is p u k i inside node))
+      own = subst (λ (b : AfterNode). node_row row (made_next (graph_of p u) k here.guard (seen t.made.cells.items) (seen q.made.cells.items)) ≤ b.row) (sym (behind_is p u k i inside node))
           (greatest_within row (node_behind p u k i).row (length (seen t.made.cells.items)) (length (seen q.made.cells.items) - length (seen t.made.cells.items)) (λ c low high. new_cell row rows c low (omega (arith, high, longer))))
 
       by : (j < k) ⊎ (k ≤ j) → node_row row (made_at q.nodes.items j) ≤ row_of_node p u.nodes.items u.edges.items j

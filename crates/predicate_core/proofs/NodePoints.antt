@@ -20,16 +20,16 @@ use Rattle.cell_core.specs.Sites.{SiteView, no_site, site_at, bytes_of}
 use Rattle.operator_cells.specs.Making.{Grows, GrowsWith}
 use Rattle.operator_cells.specs.Following.{IsFollowed}
 use Rattle.operator_cells.proofs.MakingLaws.{grown_with, reads_none}
-use Rattle.operator_cells.specs.declared.held_cells.held.Held.{Held}
+use Rattle.operator_cells.specs.declared.held_cells.machine_cells.RegisterCells.{RegisterCells}
 use Rattle.operator_cells.specs.declared.held_cells.way.Way.{Way}
 use Rattle.operator_cells.specs.declared.held_cells.way.Exit.{Exit}
 use Rattle.operator_cells.specs.HeldCells.Paths.{GraphView, node_at}
-use Rattle.operator_cells.specs.HeldCells.Held.{PointerView, pointer_at}
+use Rattle.operator_cells.specs.HeldCells.RegisterCells.{PointerView, pointer_at}
 use Rattle.operator_cells.specs.HeldCells.Steps.{Steps, ReadsOwn}
-use Rattle.operator_cells.specs.HeldCells.Pointing.{Pointing, HoldsPointer, changes_keys, GoesThrough, IsFoundOf, LookupPoints, ChangePoints, AccessPoints, PointsAs, PlainPoints, InstructionPoints, AnswerAlike, WasHeld, EdgesPoint, IsSamePointer, IsLookedUp, AreLookedUp, is_access, IsLookupAccess, IsThrough, FoundsAre, HeldAre, PointerIs}
+use Rattle.operator_cells.specs.HeldCells.Pointing.{Pointing, HoldsPointer, changes_keys, GoesThrough, IsFoundOf, LookupPoints, ChangePoints, AccessPoints, PointsAs, PlainPoints, InstructionPoints, AnswerAlike, WasHeld, EdgesPoint, IsSamePointer, IsLookedUp, AreLookedUp, is_access, IsLookupAccess, IsThrough, FoundsAre, RegisterCellsAre, PointerIs}
 use Rattle.edge_cells.specs.declared.joining.Here.{Here}
 use Rattle.edge_cells.specs.Meeting.{Extends}
-use Rattle.edge_cells.proofs.Growth.{followed_before}
+use Rattle.edge_cells.proofs.GrowthLaws.{followed_before}
 use Rattle.edge_cells.proofs.ExtendingLaws.{extended, same_pointer, pointer_new}
 use Rattle.predicate_core.specs.StepCells.Stepping.{MadeView}
 use Rattle.predicate_core.specs.StepCells.Pointing.{AlongPoints, JumpPoints, NodePoints}
@@ -62,7 +62,7 @@ one_site ss i j pairs l m same = by (cases_lt i j) (cases_lt j i)
     by (inr a) (inr b) = omega (arith, a, b)
 
 -- so all answers of its lookup have one found bit
-answers_alike : (decls : List MapDecl) (cells : List CellView) (ss : List SiteView) (v u : ℕ → ℕ) (ps : List PointerView) (k : Kinds) (h : Held) → AllPairs (λ s r. s.node < r.node) ss → AreLookedUp decls cells ss v u ps k h → AnswerAlike v ps k h
+answers_alike : (decls : List MapDecl) (cells : List CellView) (ss : List SiteView) (v u : ℕ → ℕ) (ps : List PointerView) (k : Kinds) (h : RegisterCells) → AllPairs (λ s r. s.node < r.node) ss → AreLookedUp decls cells ss v u ps k h → AnswerAlike v ps k h
 answers_alike decls cells ss v u ps k h pairs looked x y n hx hy ex ey =
     let a = looked x hx in
     let b = looked y hy in
@@ -100,10 +100,10 @@ pub record Adds (decls : List MapDecl) (t : List Way) (before : List SiteView) (
   pub one : (e f : Way) → Contains more e → Contains more f → on (v e.bit) ≡ true → on (v f.bit) ≡ true → e.to ≡ f.to
   pub held : All (λ e. on (v e.bit) ≡ true → AreLookedUp decls new.cells new.sites v u new.pointers e.kinds e.held) more
   pub accesses : (j : ℕ) → length before ≤ j → j < length new.sites → is_access (site_at new.sites j).act ≡ true → on (v (site_at new.sites j).guard) ≡ true → IsLookupAccess decls new.cells new.sites v u j
-  pub into : (m n : ℕ) → FoundsAre new.cells new.sites u m n → All (λ e. HeldAre u m n new.pointers e.kinds e.held) more
+  pub into : (m n : ℕ) → FoundsAre new.cells new.sites u m n → All (λ e. RegisterCellsAre u m n new.pointers e.kinds e.held) more
   pub through : (m n : ℕ) → FoundsAre new.cells new.sites u m n → (j : ℕ) → length before ≤ j → j < length new.sites → is_access (site_at new.sites j).act ≡ true → (site_at new.sites j).map ≡ m → PointerIs new.sites u n j
 
-module _ (g : GraphView) (k : ℕ) (hs : List Held) (t : Making) (cells : List CellView) (ps : List PointerView) (new : MadeView) (here : Here) (exits : List Exit) (insn : Insn) (pending : List ℕ)
+module _ (g : GraphView) (k : ℕ) (hs : List RegisterCells) (t : Making) (cells : List CellView) (ps : List PointerView) (new : MadeView) (here : Here) (exits : List Exit) (insn : Insn) (pending : List ℕ)
     (so_far : IsSoFar g k hs t) (arrives : Arrives g k t cells ps here.guard here.held)
     (s : Steps g k here.guard here.held cells new.cells ps new.pointers t.sites new.sites t.ways new.ways exits new.exits)
     (comes : ArrivePoints g.decls k (node_at g.nodes k).kinds cells t.pointers ps t.ways here.guard here.held)
@@ -204,23 +204,23 @@ module _ (g : GraphView) (k : ℕ) (hs : List Held) (t : Making) (cells : List C
       pub into_before : PointInto (record { cells = t.cells; pointers = t.pointers; sites = t.sites; ways = t.ways; exits = t.exits }) u m n
       into_before = now.into m n founds_before
 
-      pub into_here : HeldAre u m n ps kinds here.held
+      pub into_here : RegisterCellsAre u m n ps kinds here.held
       into_here y holds into =
           let f = come.2 y holds in
-          f.goes ∙ All-contains (λ e. HeldAre u m n t.pointers e.kinds e.held) t.ways f.edge into_before.held f.among f.was f.holds (sym f.map ∙ into)
+          f.goes ∙ All-contains (λ e. RegisterCellsAre u m n t.pointers e.kinds e.held) t.ways f.edge into_before.held f.among f.was f.holds (sym f.map ∙ into)
 
-      pub into_still : HeldAre u m n new.pointers kinds here.held
+      pub into_still : RegisterCellsAre u m n new.pointers kinds here.held
       into_still y holds into = ap (λ (q : PointerView). u q.found) (same_pointer ps new.pointers y.pointer extends (there y holds)) ∙ into_here y holds into
 
-      pub into_passing : All (λ e. HeldAre u m n new.pointers e.kinds e.held) t.ways
+      pub into_passing : All (λ e. RegisterCellsAre u m n new.pointers e.kinds e.held) t.ways
       into_passing i d l x holds into =
           let e = get_or t.ways i d in
           ap (λ (q : PointerView). u q.found)
           (same_pointer t.pointers new.pointers x.pointer (extended arrives.extends extends) (inside_pointer g.decls (length t.cells) t.pointers e.kinds e.held x (so_far.made.each_way i d l).1 holds))
           ∙ into_before.held i d l x holds into
 
-      module _ (after : Kinds) (next : Held) where
-        new_into : (r : SiteView) → new.sites ≡ t.sites ++ r ∷ [] → LookupPoints kinds here.held after next cells new.cells ps new.pointers (length t.sites) r → HeldAre u m n new.pointers after next
+      module _ (after : Kinds) (next : RegisterCells) where
+        new_into : (r : SiteView) → new.sites ≡ t.sites ++ r ∷ [] → LookupPoints kinds here.held after next cells new.cells ps new.pointers (length t.sites) r → RegisterCellsAre u m n new.pointers after next
         new_into r is p y holds into = by (p.held y holds)
           where
             f : IsFoundOf new.cells (length t.sites) p.found
@@ -236,7 +236,7 @@ module _ (g : GraphView) (k : ℕ) (hs : List Held) (t : Making) (cells : List C
                 ∙ ap (λ (q : PointerView). u q.found) (pointer_new ps new.pointers (record { found = p.found; key = r.key }) (length ps) refl p.pointers_are)
                 ∙ founds p.found (length t.sites) f.there f.is (ap (λ (x : SiteView). x.map) at ∙ sym (ap (λ (x : Pointing). x.map) e) ∙ into)
 
-        acts_into : (r : SiteView) → new.sites ≡ t.sites ++ r ∷ [] → (a : Act) → PointsAs a g.decls kinds here.held after next cells new.cells ps new.pointers (length t.sites) r → HeldAre u m n new.pointers after next
+        acts_into : (r : SiteView) → new.sites ≡ t.sites ++ r ∷ [] → (a : Act) → PointsAs a g.decls kinds here.held after next cells new.cells ps new.pointers (length t.sites) r → RegisterCellsAre u m n new.pointers after next
         acts_into r is act.Lookup p = new_into r is p
         acts_into r is act.Update p = λ y holds. into_still y (p.kept y holds)
         acts_into r is act.Delete p = λ y holds. into_still y (p.kept y holds)
@@ -244,7 +244,7 @@ module _ (g : GraphView) (k : ℕ) (hs : List Held) (t : Making) (cells : List C
         acts_into r is (act.Store at size) p = λ y holds. into_still y (p.kept y holds)
         acts_into r is (act.Atomic at a) p = λ y holds. into_still y (p.kept y holds)
 
-        pub into_behind : InstructionPoints g.decls insn pending kinds here.held after next cells new.cells ps new.pointers t.sites new.sites → HeldAre u m n new.pointers after next
+        pub into_behind : InstructionPoints g.decls insn pending kinds here.held after next cells new.cells ps new.pointers t.sites new.sites → RegisterCellsAre u m n new.pointers after next
         into_behind (inl p) = λ y holds. into_still y (p.kept y holds)
         into_behind (inr p) = acts_into p.2.site p.2.sites_are p.2.site.act p.2.points
 
@@ -274,13 +274,13 @@ module _ (g : GraphView) (k : ℕ) (hs : List Held) (t : Making) (cells : List C
 
     -- ---- an instruction that leads on
 
-    module _ (after : Kinds) (next : Held) where
-      -- what is held behind it, and its access
-      abbrev Behind : Type 0
-      Behind = (on (v here.guard) ≡ true → AreLookedUp g.decls new.cells new.sites v u new.pointers after next)
+    module _ (after : Kinds) (next : RegisterCells) where
+      -- what is held after it, and its access
+      abbrev AfterNode : Type 0
+      AfterNode = (on (v here.guard) ≡ true → AreLookedUp g.decls new.cells new.sites v u new.pointers after next)
           × ((j : ℕ) → length t.sites ≤ j → j < length new.sites → is_access (site_at new.sites j).act ≡ true → on (v (site_at new.sites j).guard) ≡ true → IsLookupAccess g.decls new.cells new.sites v u j)
 
-      plain : PlainPoints kinds here.held after next ps new.pointers t.sites new.sites → Behind
+      plain : PlainPoints kinds here.held after next ps new.pointers t.sites new.sites → AfterNode
       plain p = (
         λ path x holds. still path x (none_new (Keeps x) p.sites_are) (p.kept x holds),
         λ j low high. absurd (let n = ap length p.sites_are in omega (arith, low, high, n)),
@@ -320,20 +320,20 @@ module _ (g : GraphView) (k : ℕ) (hs : List Held) (t : Making) (cells : List C
             pointer : pointer_at new.pointers (length ps) ≡ record { found = p.found; key = r.key }
             pointer = pointer_new ps new.pointers (record { found = p.found; key = r.key }) (length ps) refl p.pointers_are
 
-        lookup : r.act ≡ act.Lookup → LookupPoints kinds here.held after next cells new.cells ps new.pointers (length t.sites) r → Behind
+        lookup : r.act ≡ act.Lookup → LookupPoints kinds here.held after next cells new.cells ps new.pointers (length t.sites) r → AfterNode
         lookup looks p = (λ path x holds. by path x (p.held x holds), no_access (ap is_access looks))
           where
             by : on (v here.guard) ≡ true → (x : Pointing) → (x ≡ record { map = r.map; node = Some r.node; pointer = length ps }) ⊎ HoldsPointer kinds here.held x → IsLookedUp g.decls new.cells new.sites v u new.pointers x
             by path x (inl e) = subst (IsLookedUp g.decls new.cells new.sites v u new.pointers) (sym e) (new_pointer looks p path)
             by path x (inr h) = still path x (each_new (Keeps x) r is (λ m o q. ap changes_keys looks)) h
 
-        change : is_access r.act ≡ false → ChangePoints g.decls kinds here.held after next ps new.pointers r → Behind
+        change : is_access r.act ≡ false → ChangePoints g.decls kinds here.held after next ps new.pointers r → AfterNode
         change none p = (
           λ path x holds. still path x (each_new (Keeps x) r is (λ m o hash. absurd (p.none (ap (is_hash g.decls) m ∙ hash) x holds (sym m)))) (p.kept x holds),
           no_access none,
         )
 
-        access : changes_keys r.act ≡ false → AccessPoints kinds here.held after next ps new.pointers r → Behind
+        access : changes_keys r.act ≡ false → AccessPoints kinds here.held after next ps new.pointers r → AfterNode
         access keeps p = (λ path x holds. still path x (all_kept x) (p.kept x holds), through)
           where
             all_kept : (x : Pointing) → All (Keeps x) s.more
@@ -347,7 +347,7 @@ module _ (g : GraphView) (k : ℕ) (hs : List Held) (t : Making) (cells : List C
                 let x : Pointing = record { map = (site_at new.sites j).map; node = None; pointer = goes.pointer } in
                 access_at g.decls new.cells new.sites v u new.pointers goes.pointer j (let n = ap length is in omega (arith, low, high, n, length-append t.sites (r ∷ []))) a goes.key goes.through (still path x (all_kept x) goes.holds)
 
-        by_act : (a : Act) → r.act ≡ a → PointsAs a g.decls kinds here.held after next cells new.cells ps new.pointers (length t.sites) r → Behind
+        by_act : (a : Act) → r.act ≡ a → PointsAs a g.decls kinds here.held after next cells new.cells ps new.pointers (length t.sites) r → AfterNode
         by_act act.Lookup e p = lookup e p
         by_act act.Update e p = change (ap is_access e) p
         by_act act.Delete e p = change (ap is_access e) p
@@ -355,7 +355,7 @@ module _ (g : GraphView) (k : ℕ) (hs : List Held) (t : Making) (cells : List C
         by_act (act.Store at size) e p = access (ap changes_keys e) p
         by_act (act.Atomic at a) e p = access (ap changes_keys e) p
 
-      instruction : InstructionPoints g.decls insn pending kinds here.held after next cells new.cells ps new.pointers t.sites new.sites → Behind
+      instruction : InstructionPoints g.decls insn pending kinds here.held after next cells new.cells ps new.pointers t.sites new.sites → AfterNode
       instruction (inl p) = plain p
       instruction (inr p) = by_act p.2.site p.2.sites_are p.2.site.act refl p.2.points
 
@@ -368,12 +368,12 @@ module _ (g : GraphView) (k : ℕ) (hs : List Held) (t : Making) (cells : List C
       one = λ e f c d o p. let to = λ (x : Way) (h : Contains a.more x). (All-contains (λ x. (x.to ≡ a.to) × (x.bit ≡ here.guard) × (x.kinds ≡ a.after) × (x.held ≡ a.next)) a.more x a.edges h).0 in to e c ∙ sym (to f d);
       held = λ i d l o.
           let e = a.edges i d l in
-          subst (λ (h : Held). AreLookedUp g.decls new.cells new.sites v u new.pointers (get_or a.more i d).kinds h) (sym e.3)
+          subst (λ (h : RegisterCells). AreLookedUp g.decls new.cells new.sites v u new.pointers (get_or a.more i d).kinds h) (sym e.3)
           (subst (λ (ks : Kinds). AreLookedUp g.decls new.cells new.sites v u new.pointers ks a.next) (sym e.2) ((instruction a.after a.next a.points).0 (ap (λ (b : ℕ). on (v b)) (sym e.1) ∙ o)));
       accesses = (instruction a.after a.next a.points).1;
       into = λ m n founds i d l.
           let e = a.edges i d l in
-          subst (λ (h : Held). HeldAre u m n new.pointers (get_or a.more i d).kinds h) (sym e.3) (subst (λ (ks : Kinds). HeldAre u m n new.pointers ks a.next) (sym e.2) (into_behind m n founds a.after a.next a.points));
+          subst (λ (h : RegisterCells). RegisterCellsAre u m n new.pointers (get_or a.more i d).kinds h) (sym e.3) (subst (λ (ks : Kinds). RegisterCellsAre u m n new.pointers ks a.next) (sym e.2) (into_behind m n founds a.after a.next a.points));
       through = λ m n founds. into_access m n founds a.after a.next a.points;
     }
 
@@ -411,8 +411,8 @@ module _ (g : GraphView) (k : ℕ) (hs : List Held) (t : Making) (cells : List C
       held = subst (All Held_with) (sym a.ways_are) (All-append Held_with t.ways a.more passing (λ i d l low o. a.held i d l o));
       accesses = λ j l is o. by j l is o (cases_lt j (length t.sites));
       into = λ m n founds. record {
-        held = subst (All (λ e. HeldAre u m n new.pointers e.kinds e.held)) (sym a.ways_are)
-            (All-append (λ e. HeldAre u m n new.pointers e.kinds e.held) t.ways a.more (into_passing m n founds) (a.into m n founds));
+        held = subst (All (λ e. RegisterCellsAre u m n new.pointers e.kinds e.held)) (sym a.ways_are)
+            (All-append (λ e. RegisterCellsAre u m n new.pointers e.kinds e.held) t.ways a.more (into_passing m n founds) (a.into m n founds));
         accesses = λ j l is into. into_each m n founds j l is into (cases_lt j (length t.sites));
       };
     }

@@ -16,11 +16,11 @@ use Rattle.cell_core.specs.Rows.{greatest, taken_by}
 use Rattle.operator_cells.specs.Making.{Grows, GrowsWith}
 use Rattle.operator_cells.specs.Following.{picked, Goes, IsFollowed}
 use Rattle.operator_cells.proofs.MakingLaws.{grown_with, reads_none}
-use Rattle.operator_cells.specs.declared.held_cells.held.Held.{Held}
+use Rattle.operator_cells.specs.declared.held_cells.machine_cells.RegisterCells.{RegisterCells}
 use Rattle.operator_cells.specs.declared.held_cells.way.Way.{Way}
 use Rattle.operator_cells.specs.declared.held_cells.way.Exit.{Exit}
 use Rattle.operator_cells.specs.HeldCells.Paths.{GraphView, node_at}
-use Rattle.operator_cells.specs.HeldCells.Held.{PointerView}
+use Rattle.operator_cells.specs.HeldCells.RegisterCells.{PointerView}
 use Rattle.operator_cells.specs.HeldCells.Rows.{map_used}
 use Rattle.operator_cells.specs.HeldCells.Steps.{Steps, ReadsOwn}
 use Rattle.operator_cells.specs.HeldCells.Pointing.{InstructionPoints}
@@ -56,7 +56,7 @@ followed_zero cells v = record { each = λ k l. by (cell_at cells k).op (cell_at
     by Phi ins = picked_zero v ins
     by op ins = tt
 
-module _ (g : GraphView) (k : ℕ) (hs : List Held) (t : Making) (cells : List CellView) (ps : List PointerView) (new : MadeView) (here : Here) (exits : List Exit) (insn : Insn) (pending : List ℕ)
+module _ (g : GraphView) (k : ℕ) (hs : List RegisterCells) (t : Making) (cells : List CellView) (ps : List PointerView) (new : MadeView) (here : Here) (exits : List Exit) (insn : Insn) (pending : List ℕ)
     (so_far : IsSoFar g k hs t) (arrives : Arrives g k t cells ps here.guard here.held)
     (s : Steps g k here.guard here.held cells new.cells ps new.pointers t.sites new.sites t.ways new.ways exits new.exits)
     (comes : ArrivePoints g.decls k (node_at g.nodes k).kinds cells t.pointers ps t.ways here.guard here.held)
@@ -74,7 +74,7 @@ module _ (g : GraphView) (k : ℕ) (hs : List Held) (t : Making) (cells : List C
   abbrev R : ℕ → ℕ → Type 0
   R = ReadsOwn t.sites new.sites
 
-  -- cells of the node read its site, and none behind it
+  -- cells of the node read its site, and none after it
   stepped : GrowsWith R t.cells new.cells
   stepped = grown_with R t.cells cells new.cells (reads_none R t.cells cells arrives.grows) s.grows
 
@@ -106,7 +106,7 @@ module _ (g : GraphView) (k : ℕ) (hs : List Held) (t : Making) (cells : List C
       by (inl p) = inl p.sites_are
       by (inr p) = inr (record { site = p.2.site; is = p.2.sites_are; cell = p.0; cell_is = p.1; reads = p.2.reads })
 
-  -- a new site is behind the guard of the node
+  -- a new site is after the guard of the node
   guard_is : (j : ℕ) → length t.sites ≤ j → j < length new.sites → (site_at new.sites j).guard ≡ here.guard
   guard_is j low high =
       ap (λ (ss : List SiteView). (site_at ss j).guard) s.sites_are ∙ ap (λ (x : SiteView). x.guard) (get_or-append_right t.sites s.more j no_site low)
@@ -215,7 +215,7 @@ module _ (g : GraphView) (k : ℕ) (hs : List Held) (t : Making) (cells : List C
           let m = meets rank n a.edge (site_at t.sites i).map ranks_here there to (omega (arith, f.map, maps)) in
           omega (arith, h, m)
 
-      -- ---- behind the node, by the cell that waits for its site
+      -- ---- after the node, by the cell that waits for its site
 
       module _ (there : length t.sites < length new.sites) (writes : records (site_at new.sites (length t.sites)).act ≡ true) where
         abbrev site : SiteView
@@ -264,7 +264,7 @@ module _ (g : GraphView) (k : ℕ) (hs : List Held) (t : Making) (cells : List C
             let e = ap (λ (xs : List ℕ). slice_index xs q) (passed.waits there writes).1 ∙ get_or-set_other pending site.map q waiting 0 other in
             omega (arith, ap rank e)
 
-      -- the cells behind the node are no lower
+      -- the cells after the node are no lower
       passes_on : (q : ℕ) → q < length pending → rank (slice_index pending q) ≤ rank (slice_index pending2 q)
       passes_on q l = by (cases_lt (length t.sites) (length new.sites))
         where
@@ -282,7 +282,7 @@ module _ (g : GraphView) (k : ℕ) (hs : List Held) (t : Making) (cells : List C
       site_was : (i : ℕ) → i < length t.sites → site_at new.sites i ≡ site_at t.sites i
       site_was = site_kept R (reading_of old) (reading_of next) s.more all later s.sites_are
 
-      -- of a site on the path behind the node, which is on the path
+      -- of a site on the path after the node, which is on the path
       behind_pending : on (v here.guard) ≡ true → (i x : ℕ) → i < length new.sites → records (site_at new.sites i).act ≡ true → on (v (site_at new.sites i).guard) ≡ true → BelongsTo last i (site_at new.sites i) x
           → (i < length t.sites) ⊎ (length t.sites ≤ i) → rank x ≤ rank (slice_index pending2 (site_at new.sites i).map)
       behind_pending path i x l writes first belongs (inl low) =

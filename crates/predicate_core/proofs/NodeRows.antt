@@ -1,4 +1,4 @@
--- The rows of a node's own cells, and of what its edges bring, against what stands behind it in the graph.
+-- The rows of a node's own cells, and of what its edges bring, against what stands after it in the graph.
 use Rattle.std.proofs.Common.{◌≡◌, ◌∙◌, ℕ, zero, suc, ◌+◌, ◌-◌, ◌<◌, ◌≤◌, ◌==◌, ◌||◌, ◌⊎◌, inl, inr, Bool, true, false, if◌then◌else◌, Option, Some, None, List, [], ◌∷◌, length, get_or, refl, sym, ap, arith, max}
 use Rattle.std.specs.Prelude.{slice_index}
 use Rattle.std.specs.List.{list_any}
@@ -19,17 +19,17 @@ use Rattle.operator_cells.specs.row_rules.declared.place_rows.origin.Origin.{Ori
 use Rattle.operator_cells.specs.row_rules.declared.place_rows.span.Span.{Span}
 use Rattle.operator_cells.specs.row_rules.declared.place_rows.recording.Record.{Record}
 use Rattle.operator_cells.specs.row_rules.PlaceRows.Spans.{pending_place, is_in}
-use Rattle.operator_cells.specs.row_rules.PlaceRows.Origins.{has_data, row_of, row_at, every_row, origin_at_start}
+use Rattle.operator_cells.specs.row_rules.PlaceRows.Origins.{has_data, row_of, row_at, every_row}
 use Rattle.operator_cells.specs.row_rules.PlaceRows.Writing.{writes_as, record_as, is_open_in, taken_row, made_row}
-use Rattle.operator_cells.proofs.row_rules_laws.PlaceRows.PlaceLaws.{place_at, count_places, spans_low}
+use Rattle.operator_cells.proofs.row_rules_laws.PlaceRows.PlaceLaws.{place_at, spans_low}
 use Rattle.operator_cells.proofs.row_rules_laws.PlaceRows.SpanLaws.{is_inside}
-use Rattle.operator_cells.specs.row_rules.declared.node_rows.joining.Arrival.{Arrival}
-use Rattle.operator_cells.specs.row_rules.declared.node_rows.node.Behind.{Behind}
-use Rattle.operator_cells.specs.row_rules.NodeRows.Joining.{edge_row, origin_at, origins_at}
+use Rattle.operator_cells.proofs.row_rules_laws.NodeRows.CountLaws.{count_origins}
+use Rattle.operator_cells.specs.row_rules.declared.node_rows.node.AfterNode.{AfterNode}
+use Rattle.operator_cells.specs.row_rules.NodeRows.Joining.{edge_row}
 use Rattle.operator_cells.specs.row_rules.NodeRows.Passing.{result_row, written, is_some_place, pending_row, noted, behind}
 use Rattle.operator_cells.specs.row_rules.NodeRows.Rows.{no_point, point_at, insn_of, behind_by}
-use Rattle.operator_cells.specs.declared.held_cells.held.Held.{Held}
-use Rattle.operator_cells.specs.HeldCells.Held.{PointerView, Counts, AreInside}
+use Rattle.operator_cells.specs.declared.held_cells.machine_cells.RegisterCells.{RegisterCells}
+use Rattle.operator_cells.specs.HeldCells.RegisterCells.{PointerView, Counts, AreInside}
 use Rattle.operator_cells.specs.HeldCells.Paths.{NodeView, no_node, node_at}
 use Rattle.operator_cells.specs.HeldCells.Rows.{cells_of_pointer, value_row, held_row}
 use Rattle.edge_cells.specs.Meeting.{Extends}
@@ -42,7 +42,7 @@ use Rattle.predicate_core.proofs.Behind.{noted_other, noted_here, noted_above, w
 use Rattle.predicate_core.proofs.Fits.{row_every}
 use Rattle.predicate_core.proofs.Progressing.{insn_legal}
 
--- ---- what stands behind a node
+-- ---- what stands after a node
 abbrev pub node_after : XdpProgram → Unfolded → ℕ → Insn → Kinds
 node_after p u k i = transferred p.decls (kinds_of u k) i k (is_reference (graph_of p u) k) false
 
@@ -64,7 +64,7 @@ node_written p u k i place = written (node_after p u k i) (writes_as (kinds_of u
 abbrev pub node_origin : XdpProgram → Unfolded → ℕ → Insn → ℕ → Option Origin
 node_origin p u k i place = noted (origins_met p u k) (node_write p u k i) (k + 1) (node_least p u k i) place (node_written p u k i place)
 
-abbrev pub node_behind : XdpProgram → Unfolded → ℕ → Insn → Behind
+abbrev pub node_behind : XdpProgram → Unfolded → ℕ → Insn → AfterNode
 node_behind p u k i = behind p.decls (kinds_of u k) (node_after p u k i) i (k + 1) (edge_row (arrivals_at p u k)) (origins_met p u k)
 
 module _ (p : XdpProgram) (u : Unfolded) (k : ℕ) (i : Insn) (inside : k < length u.nodes.items) (node : IsNode (graph_of p u) k i (kinds_of u k)) where
@@ -83,10 +83,6 @@ module _ (p : XdpProgram) (u : Unfolded) (k : ℕ) (i : Insn) (inside : k < leng
 
 pub origin_there : (p : XdpProgram) (u : Unfolded) (k : ℕ) (i : Insn) (place : ℕ) → place < 348 → get_or (node_behind p u k i).origins.places place None ≡ node_origin p u k i place
 origin_there p u k i place l = place_at (node_origin p u k i) place l
-
-count_origins : (es : List Arrival) (maker : ℕ) (k : Kinds) → length (origins_at es maker k) ≡ 348
-count_origins [] maker k = count_places origin_at_start
-count_origins (a ∷ es) maker k = count_places (origin_at (a ∷ es) maker k)
 
 -- ---- which places have data
 open_number : (f : ℕ → Bool) (from n : ℕ) → list_any f (numbers from n) ≡ true → (place : ℕ) × (from ≤ place) × (place < from + n) × (f place ≡ true)
@@ -192,7 +188,7 @@ value_more row decls n ps qs Unset c e h = refl
 value_more row decls n ps qs Stale c e h = refl
 value_more row decls n ps qs Mixed c e h = refl
 
-pub held_more : (row : ℕ → ℕ) (decls : List MapDecl) (n : ℕ) (ps qs : List PointerView) (h : Held) (k : Kinds) (place : ℕ) → Extends ps qs → AreInside decls n ps h k → held_row row qs h k place ≡ held_row row ps h k place
+pub held_more : (row : ℕ → ℕ) (decls : List MapDecl) (n : ℕ) (ps qs : List PointerView) (h : RegisterCells) (k : Kinds) (place : ℕ) → Extends ps qs → AreInside decls n ps h k → held_row row qs h k place ≡ held_row row ps h k place
 held_more row decls n ps qs h k place e inside = by (cases_lt place 11) (cases_lt place 75) (cases_lt place 332)
   where
     by : (place < 11) ⊎ (11 ≤ place) → (place < 75) ⊎ (75 ≤ place) → (place < 332) ⊎ (332 ≤ place) → held_row row qs h k place ≡ held_row row ps h k place

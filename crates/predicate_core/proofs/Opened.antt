@@ -22,10 +22,10 @@ use Rattle.cell_core.specs.Cells.{CellView, IsRun, bits_from, bit, on}
 use Rattle.operator_cells.specs.Making.{Grows, Makes, operated}
 use Rattle.operator_cells.specs.Rising.{Rises}
 use Rattle.operator_cells.proofs.MakingLaws.{grown, grown_none}
-use Rattle.operator_cells.specs.declared.held_cells.held.Held.{Held}
+use Rattle.operator_cells.specs.declared.held_cells.machine_cells.RegisterCells.{RegisterCells}
 use Rattle.operator_cells.specs.declared.held_cells.way.Way.{Way}
 use Rattle.operator_cells.specs.HeldCells.Paths.{GraphView, At, node_at, before, maps_in}
-use Rattle.operator_cells.specs.HeldCells.Held.{PointerView, Holds, Counts, AreInside}
+use Rattle.operator_cells.specs.HeldCells.RegisterCells.{PointerView, Holds, Counts, AreInside}
 use Rattle.operator_cells.specs.HeldCells.Carrying.{IsKnown}
 use Rattle.operator_cells.specs.HeldCells.Steps.{Leads, IsGood}
 use Rattle.operator_cells.specs.HeldCells.Law.{IsPacket}
@@ -81,7 +81,7 @@ bytes_later a b n window g h = record { there = λ i l. omega (arith, h.there i 
 
 -- ---- the edge to the first node
 
-pub opened : (a b c d : List CellView) (bit target : ℕ) (k : Kinds) (held : Held) → k ≡ kinds.start → Makes a b bit (operated (Constant 1) [] 0 1) → Rises a b bit (λ row. 0) → AreBytes b c 256 held.window → Makes c d target (operated (Constant 0) [] 0 32) → Rises c d target (λ row. 0)
+pub opened : (a b c d : List CellView) (bit target : ℕ) (k : Kinds) (held : RegisterCells) → k ≡ kinds.start → Makes a b bit (operated (Constant 1) [] 0 1) → Rises a b bit (λ row. 0) → AreBytes b c 256 held.window → Makes c d target (operated (Constant 0) [] 0 32) → Rises c d target (λ row. 0)
     → held.target ≡ target → Opens a d (record { to = 0; bit = bit; kinds = k; held = held })
 opened a b c d bit target k held first one one_row bytes zeros zeros_row is = record {
   grows = grown one.grows (grown bytes.grows zeros.grows);
@@ -114,7 +114,7 @@ start_register P u c s (suc (suc (suc (suc (suc (suc (suc (suc (suc (suc (suc r)
 start_slot : (s : ℕ) → s < 64 → get_or kinds.start.slots s Unset ≡ Num (Known 0)
 start_slot s l = get_or-replicate 64 s (Num (Known 0)) Unset l
 
-inside_start : (decls : List MapDecl) (n : ℕ) (ps : List PointerView) (h : Held) → ((i : ℕ) → i < 256 → slice_index h.window i < n) → h.target < n → AreInside decls n ps h kinds.start
+inside_start : (decls : List MapDecl) (n : ℕ) (ps : List PointerView) (h : RegisterCells) → ((i : ℕ) → i < 256 → slice_index h.window i < n) → h.target < n → AreInside decls n ps h kinds.start
 inside_start decls n ps h window target = record {
   registers = λ r l. start_register (λ k. Counts decls n ps k (slice_index h.registers r)) tt tt tt r;
   slots = λ s l. subst (λ (k : Kind). Counts decls n ps k (slice_index h.slots s)) (sym (start_slot s l)) tt;
@@ -122,7 +122,7 @@ inside_start decls n ps h window target = record {
   target = target;
 }
 
-known_start : StartIsDescribed → StartsInRange → (g : GraphView) (packet : PacketIn) (maps : MapState) (v : ℕ → ℕ) (ps : List PointerView) (h : Held) → IsPacket packet → IsSound maps → maps.decls ≡ g.decls
+known_start : StartIsDescribed → StartsInRange → (g : GraphView) (packet : PacketIn) (maps : MapState) (v : ℕ → ℕ) (ps : List PointerView) (h : RegisterCells) → IsPacket packet → IsSound maps → maps.decls ≡ g.decls
     → ((q : ℕ) → value_bytes g.decls q ≤ 64) → ((i : ℕ) → i < 256 → v (slice_index h.window i) ≡ slice_index packet.frame i) → v h.target ≡ 0
     → IsKnown g.decls packet v ps 0 kinds.start h (start packet maps)
 known_start described starts g packet maps v ps h came sound decls values window target = record {

@@ -16,10 +16,10 @@ use Rattle.operator_cells.specs.row_rules.PlaceRows.Origins.{has_data, row_of, b
 use Rattle.operator_cells.specs.row_rules.PlaceRows.Reading.{is_known}
 use Rattle.operator_cells.proofs.row_rules_laws.PlaceRows.PlaceLaws.{place_at}
 use Rattle.operator_cells.specs.row_rules.declared.node_rows.joining.Arrival.{Arrival}
-use Rattle.operator_cells.specs.row_rules.declared.node_rows.node.Behind.{Behind}
+use Rattle.operator_cells.specs.row_rules.declared.node_rows.node.AfterNode.{AfterNode}
 use Rattle.operator_cells.specs.row_rules.NodeRows.Joining.{brings, edge_row, all_bring, new_origin, met, first_brings, origin_at, origins_at}
 use Rattle.operator_cells.specs.declared.held_cells.way.Way.{Way}
-use Rattle.operator_cells.specs.HeldCells.Held.{PointerView, pointed}
+use Rattle.operator_cells.specs.HeldCells.RegisterCells.{PointerView, pointed}
 use Rattle.operator_cells.specs.HeldCells.Rows.{kind_at, number_at, held_row, bits_row, brought_row, hold_one, chosen_row}
 use Rattle.edge_cells.specs.Joining.{LeadTo}
 use Rattle.predicate_core.specs.declared.making.Progress.{Progress}
@@ -49,7 +49,7 @@ origin_is es maker place at m is here o e = some_is o m (sym e ∙ here ∙ is)
 chosen_low : (row : ℕ → ℕ) (ps : List PointerView) (here : List Way) (place n : ℕ) → All (λ e. (row e.bit ≤ n) × (held_row row ps e.held e.kinds place ≤ n)) here → chosen_row row ps here place ≤ n
 chosen_low row ps here place n h = omega (arith, bits_low row ps n here (λ i d l. (h i d l).0), brought_low row ps n here place (λ i d l. (h i d l).1))
 
-pub start_of : (p : XdpProgram) (u : Unfolded) (k : ℕ) → k ≡ 0 → (e : Way) (b : Behind) → StandsBehind p u k e b → b ≡ behind_start
+pub start_of : (p : XdpProgram) (u : Unfolded) (k : ℕ) → k ≡ 0 → (e : Way) (b : AfterNode) → StandsBehind p u k e b → b ≡ behind_start
 start_of p u k first e b (inl x) = x.1
 start_of p u k first e b (inr x) = absurd (omega (arith, first, x.2))
 

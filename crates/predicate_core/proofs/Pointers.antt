@@ -13,8 +13,8 @@ use Rattle.cell_core.specs.declared.operator.Operator.TheVariants.{Found}
 use Rattle.cell_core.specs.Cells.{CellView, cell_at, site_in, on}
 use Rattle.cell_core.specs.Sites.{SiteView, no_site, site_at, bytes_of}
 use Rattle.operator_cells.specs.Making.{GrowsWith}
-use Rattle.operator_cells.specs.declared.held_cells.held.Held.{Held}
-use Rattle.operator_cells.specs.HeldCells.Held.{PointerView, pointer_at, key_of, Counts, AreInside}
+use Rattle.operator_cells.specs.declared.held_cells.machine_cells.RegisterCells.{RegisterCells}
+use Rattle.operator_cells.specs.HeldCells.RegisterCells.{PointerView, pointer_at, key_of, Counts, AreInside}
 use Rattle.operator_cells.specs.HeldCells.Pointing.{Pointing, pointing_as, pointing_at, HoldsPointer, changes_keys, IsThrough, IsFoundOf, IsSamePointer, IsLookedUp, is_access, IsLookupAccess}
 use Rattle.edge_cells.specs.Meeting.{Extends}
 use Rattle.edge_cells.proofs.ExtendingLaws.{same_pointer}
@@ -22,7 +22,7 @@ use Rattle.edge_cells.proofs.ExtendingLaws.{same_pointer}
 -- ---- where pointers are held
 
 -- a register or a slot holds it
-pub low_place : (k : Kinds) (h : Held) (place : ℕ) (x : Pointing) → pointing_at k h place ≡ Some x → place < 75
+pub low_place : (k : Kinds) (h : RegisterCells) (place : ℕ) (x : Pointing) → pointing_at k h place ≡ Some x → place < 75
 low_place k h place x is = by (nat_lt place 75) refl (nat_lt place 332) refl
   where
     by : (a : Bool) → nat_lt place 75 ≡ a → (b : Bool) → nat_lt place 332 ≡ b → place < 75
@@ -36,7 +36,7 @@ counted decls n ps (Maybe q j) c x h e = let same : record { map = q; node = Som
 counted decls n ps (Entry q o) c x h e = let same : record { map = q; node = None; pointer = c } ≡ x = cc in omega (arith, h.0, ap (λ (p : Pointing). p.pointer) same)
 counted decls n ps a c x h e = cc
 
-pub inside_pointer : (decls : List MapDecl) (n : ℕ) (ps : List PointerView) (k : Kinds) (h : Held) (x : Pointing) → AreInside decls n ps h k → HoldsPointer k h x → x.pointer < length ps
+pub inside_pointer : (decls : List MapDecl) (n : ℕ) (ps : List PointerView) (k : Kinds) (h : RegisterCells) (x : Pointing) → AreInside decls n ps h k → HoldsPointer k h x → x.pointer < length ps
 inside_pointer decls n ps k h x inside (place, is) = by (nat_lt place 11) refl
   where
     low : place < 75

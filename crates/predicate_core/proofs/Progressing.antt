@@ -17,16 +17,15 @@ use Rattle.kind_core.specs.declared.kind.Kinds.{Kinds}
 use Rattle.unfold_core.specs.declared.edges.Point.{Point}
 use Rattle.unfold_core.specs.declared.unfolding.Unfolded.{Unfolded}
 use Rattle.cell_core.specs.declared.program.Node.{Node}
-use Rattle.cell_core.specs.declared.cell.Cell.{Cell}
 use Rattle.cell_core.specs.declared.site.Site.{Site}
 use Rattle.cell_core.specs.Cells.{CellView}
 use Rattle.cell_core.specs.Sites.{SiteView, no_site, site_at}
-use Rattle.cell_core.specs.View.{cell_of, site_of}
+use Rattle.cell_core.specs.View.{site_of}
 use Rattle.operator_cells.specs.Making.{seen, Grows, GrowsWith}
 use Rattle.operator_cells.specs.declared.held_cells.way.Way.{Way}
 use Rattle.operator_cells.specs.declared.held_cells.way.Exit.{Exit}
 use Rattle.operator_cells.specs.HeldCells.Paths.{GraphView, no_node, node_at}
-use Rattle.operator_cells.specs.HeldCells.Held.{PointerView, pointed, AreInside}
+use Rattle.operator_cells.specs.HeldCells.RegisterCells.{PointerView, pointed, AreInside}
 use Rattle.operator_cells.specs.HeldCells.Steps.{AreMade, Steps}
 use Rattle.edge_cells.specs.declared.joining.Here.{Here}
 use Rattle.edge_cells.specs.Joining.{LeadTo}
@@ -75,7 +74,7 @@ leads_at g k p ws here ns ready l ways_are numbers_are leads =
     subst (λ (xs : List Way). LeadTo k xs here) ways_are (leads k (subst (λ (xs : List Way). AreNumbers k (targets xs) ns) (sym ways_are)
     (subst (AreNumbers k (targets p.made.ways.items)) (sym numbers_are) (ready.kept.entered k l))))
 
--- ---- behind it
+-- ---- after it
 
 waiting_later : (maps n m : ℕ) (rows : List (List ℕ)) → n ≤ m → All (AreWaiting maps n) rows → All (AreWaiting maps m) rows
 waiting_later maps n m rows l = All-weaker (AreWaiting maps n) (AreWaiting maps m) (λ row x. (x.0, All-weaker (λ c. c < n) (λ c. c < m) (λ c h. omega (arith, h, l)) row x.1)) rows
@@ -245,14 +244,6 @@ targets_inside g k p mid here row more ways ready comes high is = subst (All (λ
   where
     count : length mid.entries.items ≡ length g.nodes
     count = ap (λ (es : Vec (SmallVec ℕ 2 Global) Global). length es.items) comes.entries ∙ entry_count g k p ready
-
-pub seen_count : (cells : List Cell) → length (seen cells) ≡ length cells
-unfolding seen
-seen_count cells = length-map cells cell_of
-
-pub sited_length : (sites : List Site) → length (sited sites) ≡ length sites
-unfolding sited
-sited_length sites = length-map sites site_of
 
 pub sited_at : (sites : List Site) (n : ℕ) (d : Site) → n < length sites → site_at (sited sites) n ≡ site_of (get_or sites n d)
 unfolding sited

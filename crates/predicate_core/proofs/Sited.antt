@@ -1,4 +1,4 @@
--- Sites of more nodes fit their maps, and reads stand behind the cells that the sites take.
+-- Sites of more nodes fit their maps, and reads stand after the cells that the sites take.
 use Rattle.std.proofs.Common.{◌≡◌, ℕ, ◌-◌, ◌<◌, ◌≤◌, ◌⊎◌, inl, inr, Some, List, ◌++◌, length, length-append, sym, ◌∙◌, ap, subst, arith}
 use Rattle.std.specs.Prelude.{All}
 use Rattle.std.proofs.Math.ListN.{get_or-append}

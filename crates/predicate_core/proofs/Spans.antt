@@ -16,7 +16,7 @@ use Rattle.xdp_machine.specs.Atomics.{fetches}
 use Rattle.kind_core.specs.declared.kind.Kind.{Kind}
 use Rattle.kind_core.specs.declared.kind.Kind.TheVariants as kind
 use Rattle.kind_core.specs.declared.kind.Kinds.{Kinds}
-use Rattle.kind_core.specs.declared.why.Why.{Why}
+use Rattle.xdp_state.specs.declared.refusal.Why.{Why}
 use Rattle.kind_core.specs.Kinds.{register}
 use Rattle.kind_core.specs.Tests.{◌>>=◌, passed, within, aligned}
 use Rattle.kind_core.specs.Places.{accessed}
@@ -29,7 +29,7 @@ use Rattle.operator_cells.specs.row_rules.declared.place_rows.span.Span.{Span}
 use Rattle.operator_cells.specs.row_rules.PlaceRows.Spans.{no_place, one, target, slots_of, bytes_of, region, is_in}
 use Rattle.operator_cells.specs.row_rules.PlaceRows.Origins.{row_at}
 use Rattle.operator_cells.specs.row_rules.PlaceRows.Writing.{writes_as}
-use Rattle.operator_cells.proofs.row_rules_laws.PlaceRows.SpanLaws.{in_none, not_beyond}
+use Rattle.operator_cells.proofs.row_rules_laws.PlaceRows.SpanLaws.{in_none, not_beyond, no_places}
 use Rattle.operator_cells.specs.row_rules.NodeRows.Passing as graph
 use Rattle.edge_cells.specs.NodeCells.Ends.{AreEnds}
 use Rattle.operator_cells.specs.HeldCells.Rows as cells
@@ -66,9 +66,6 @@ effect_is decls k i h = (bind_next (profiled i k) (λ _. effect_as decls k i i.o
 -- ---- places
 neither : (place : ℕ) (a b : Span) → is_in place a ≡ false → is_in place b ≡ false → list_any (is_in place) (a ∷ b ∷ []) ≡ false
 neither place a b e f = rw (e, f) refl
-
-pub no_places : (place : ℕ) → list_any (is_in place) (no_place ∷ no_place ∷ []) ≡ false
-no_places place = neither place no_place no_place (in_none place) (in_none place)
 
 first_alone : (place : ℕ) (a : Span) → is_in place a ≡ false → list_any (is_in place) (a ∷ no_place ∷ []) ≡ false
 first_alone place a e = neither place a no_place e (in_none place)

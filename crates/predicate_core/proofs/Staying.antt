@@ -1,18 +1,17 @@
--- Cells that read no site, behind an arrival and behind the code of a node.
+-- Cells that read no site, after an arrival and after the code of a node.
 use Rattle.std.proofs.Common.{◌≡◌, ℕ, ◌≤◌, List, length, take, ◌∙◌, ap, subst, arith}
 use Rattle.std.proofs.lemmas.List.Elements.{All-weaker}
 use Rattle.xdp_machine.specs.xdp_maps.State.{MapState}
-use Rattle.kind_core.specs.declared.number.Number.{Number}
-use Rattle.kind_core.specs.declared.number.Number.TheVariants.{Known, Unknown}
 use Rattle.cell_core.specs.Cells.{CellView, site_in, bits_from}
 use Rattle.cell_core.specs.Sites.{SiteView, site_at, after, read_on}
 use Rattle.cell_core.specs.Formed.{IsBelow}
 use Rattle.operator_cells.specs.Making.{Grows}
 use Rattle.operator_cells.proofs.MakingLaws.{grown, grown_with, reads_none}
+use Rattle.operator_cells.proofs.HeldCells.PointerLaws.{there_later}
 use Rattle.operator_cells.specs.declared.held_cells.way.Way.{Way}
 use Rattle.operator_cells.specs.declared.held_cells.way.Exit.{Exit}
 use Rattle.operator_cells.specs.HeldCells.Paths.{GraphView, node_at}
-use Rattle.operator_cells.specs.HeldCells.Held.{PointerView, IsThere}
+use Rattle.operator_cells.specs.HeldCells.RegisterCells.{PointerView}
 use Rattle.operator_cells.specs.HeldCells.Steps.{AreMade, AreRead, ReadsOwn}
 use Rattle.edge_cells.proofs.ExtendingLaws.{extends_none, inside_later}
 use Rattle.predicate_core.specs.Laws.{ArrivalsStay, StepsStay}
@@ -32,10 +31,6 @@ reads_fewer : (maps : MapState) (a b : List CellView) (sites : List SiteView) (v
 reads_fewer maps a b sites v more read c j l in_sites is on_guard =
     subst (λ (x : CellView). v c ≡ bits_from (read_on v (after v maps (take j sites)) (site_at sites j) x.op) x.from x.width) (more.kept c l)
     (read c j (omega (arith, l, more.longer)) in_sites (ap (λ (x : CellView). site_in x.op) (more.kept c l) ∙ is) on_guard)
-
-there_later : (n m : ℕ) (x : Number) (c : ℕ) → n ≤ m → IsThere n x c → IsThere m x c
-there_later n m (Known a) c l h = tt
-there_later n m Unknown c l h = omega (arith, l, h)
 
 pub made_later : (g : GraphView) (a b : List CellView) (ps : List PointerView) (ways : List Way) (exits : List Exit) → length a ≤ length b → AreMade g a ps ways exits → AreMade g b ps ways exits
 made_later g a b ps ways exits longer made = record {

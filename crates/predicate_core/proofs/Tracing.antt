@@ -63,10 +63,6 @@ touched_first : (code : Code) (n : ℕ) (m : Machine) (o : Outcome) → step cod
 unfolding machine.touched
 touched_first code n m o e = ap (machine.and_then (touched_at code m) (machine.touched code n)) e
 
-touched_none : (code : Code) (m : Machine) → machine.touched code 0 m ≡ nothing
-unfolding machine.touched
-touched_none code m = refl
-
 -- ---- an end operates on no map
 
 never : {X : Type 0} (insns : List Insn) (place : ℤ) (m : Machine) (verdict : ℕ) → goes_to insns place m ≡ Ends verdict → X

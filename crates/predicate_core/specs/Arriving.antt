@@ -5,10 +5,10 @@ use Rattle.xdp_machine.specs.State.{PacketIn}
 use Rattle.kind_core.specs.declared.kind.Kinds.{Kinds}
 use Rattle.cell_core.specs.Cells.{CellView, IsRun}
 use Rattle.operator_cells.specs.Making.{Grows}
-use Rattle.operator_cells.specs.declared.held_cells.held.Held.{Held}
+use Rattle.operator_cells.specs.declared.held_cells.machine_cells.RegisterCells.{RegisterCells}
 use Rattle.operator_cells.specs.declared.held_cells.way.Way.{Way}
 use Rattle.operator_cells.specs.HeldCells.Paths.{GraphView, node_at}
-use Rattle.operator_cells.specs.HeldCells.Held.{PointerView}
+use Rattle.operator_cells.specs.HeldCells.RegisterCells.{PointerView}
 use Rattle.predicate_core.specs.Making.{Making, Arrives}
 
 -- More cells, and a bit among them that a node makes itself.
@@ -19,6 +19,6 @@ pub record IsOwn (old new : List CellView) (first bit c : ℕ) : Type 0 where
   pub value : (packet : PacketIn) (v : ℕ → ℕ) → IsRun packet new v → v bit < 2 → v c ≡ v bit
 
 -- What has been made arrives at a node of a graph where this is known.
-abbrev pub ArrivesAt : List MapDecl → ℕ → Kinds → List CellView → List PointerView → List Way → List CellView → List PointerView → ℕ → Held → Type 0
+abbrev pub ArrivesAt : List MapDecl → ℕ → Kinds → List CellView → List PointerView → List Way → List CellView → List PointerView → ℕ → RegisterCells → Type 0
 ArrivesAt decls node kinds cells pointers ways cells2 pointers2 guard h =
     (g : GraphView) (t : Making) → g.decls ≡ decls → (node_at g.nodes node).kinds ≡ kinds → t.cells ≡ cells → t.pointers ≡ pointers → t.ways ≡ ways → Arrives g node t cells2 pointers2 guard h

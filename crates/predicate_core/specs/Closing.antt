@@ -11,7 +11,7 @@ use Rattle.cell_core.specs.Sites.{with_bytes}
 use Rattle.operator_cells.specs.declared.joining.Arm.{Arm}
 use Rattle.operator_cells.specs.Making.{Grows}
 use Rattle.operator_cells.specs.declared.held_cells.way.Exit.{Exit}
-use Rattle.operator_cells.specs.HeldCells.Held.{number_of, IsThere}
+use Rattle.operator_cells.specs.HeldCells.RegisterCells.{number_of, IsThere}
 use Rattle.operator_cells.specs.HeldCells.Steps.{IsLeft}
 use Rattle.operator_cells.specs.HeldCells.Law.{IsPacket}
 use Rattle.predicate_core.specs.Buildable.{HasBits, AddsNoRow}

@@ -6,9 +6,9 @@ use Rattle.unfold_core.specs.declared.unfolding.Unfolded.{Unfolded}
 use Rattle.unfold_core.specs.Unfolding.{IsUnfolded}
 use Rattle.cell_core.specs.Cells.{CellView}
 use Rattle.operator_cells.specs.Making.{seen, Grows}
-use Rattle.operator_cells.specs.declared.held_cells.held.Held.{Held}
+use Rattle.operator_cells.specs.declared.held_cells.machine_cells.RegisterCells.{RegisterCells}
 use Rattle.operator_cells.specs.declared.held_cells.way.Way.{Way}
-use Rattle.operator_cells.specs.HeldCells.Held.{PointerView, pointed}
+use Rattle.operator_cells.specs.HeldCells.RegisterCells.{PointerView, pointed}
 use Rattle.operator_cells.specs.HeldCells.Rows.{JoinsTo}
 use Rattle.operator_cells.specs.HeldCells.Steps.{Steps}
 use Rattle.edge_cells.specs.declared.joining.Here.{Here}
@@ -29,7 +29,7 @@ use Rattle.predicate_core.specs.Stages.{kinds_of, FitSoFar, ComesWithin}
 -- Where the edges that lead to a node have been joined, and the cells beside them gathered, what is held there fits the origins.
 abbrev pub ArrivalsFit : Type 0
 ArrivalsFit =
-    (p : XdpProgram) (u : Unfolded) (k : ℕ) (t : Progress) (cells cells2 : List CellView) (ps : List PointerView) (meeting : List Way) (guard : ℕ) (h : Held) (pending : List ℕ)
+    (p : XdpProgram) (u : Unfolded) (k : ℕ) (t : Progress) (cells cells2 : List CellView) (ps : List PointerView) (meeting : List Way) (guard : ℕ) (h : RegisterCells) (pending : List ℕ)
     → IsProgram p → IsUnfolded p u → k < length u.nodes.items → IsReady (graph_of p u) k t → LeadTo k t.made.ways.items meeting
     → JoinsTo (seen t.made.cells.items) cells (pointed t.made.pointers.items) ps meeting (kinds_of u k) guard h → Grows cells cells2
     → GathersTo cells cells2 t.made.ways.items (pending_of t) (get_or (entries_of t) k []) (length p.decls) pending → length pending ≡ length p.decls

@@ -1,4 +1,4 @@
--- The cells that stand for the writes of maps, where edges meet and behind a node.
+-- The cells that stand for the writes of maps, where edges meet and after a node.
 use Rattle.std.specs.Prelude.{ℕ, ◌≡◌, ◌<◌, ◌≤◌, ◌⊎◌, true, false, List, [], length, slice_index, slice_set, get_or, map as map_list, All}
 use Rattle.cell_core.specs.Cells.{CellView}
 use Rattle.cell_core.specs.Sites.{SiteView, site_at, records}
@@ -27,7 +27,7 @@ pub record GathersTo (old new : List CellView) (ways : List Way) (pending : List
       → ((q : ℕ) → q < maps → ((d : ℕ) × All (λ a. a.cell ≡ d) (arms_of ways pending numbers q e)) ⊎ (greatest row (flat (arms_of ways pending numbers q e)) ≤ last))
       → (c : ℕ) → length old ≤ c → c < length new → row c ≤ last
 
--- Behind a node: for the map of the site of this number, if there is one that may write, a cell more that waits for it; else all stays.
+-- After a node: for the map of the site of this number, if there is one that may write, a cell more that waits for it; else all stays.
 pub record PassesTo (old new : List CellView) (sites : List SiteView) (number first : ℕ) (pending pending2 : List ℕ) : Type 0 where
   pub none : length sites ≤ number → (pending2 ≡ pending) × (new ≡ old)
   pub stays : number < length sites → records (site_at sites number).act ≡ false → (pending2 ≡ pending) × (new ≡ old)

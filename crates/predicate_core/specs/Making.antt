@@ -13,11 +13,11 @@ use Rattle.cell_core.specs.Sites.{SiteView, ProgramView, site_at, after, read_on
 use Rattle.cell_core.specs.Formed.{AreFormed, AreSited, IsBelow}
 use Rattle.cell_core.specs.Rows.{AreRows, last_row}
 use Rattle.operator_cells.specs.Making.{Grows, NumbersAreAlone}
-use Rattle.operator_cells.specs.declared.held_cells.held.Held.{Held}
+use Rattle.operator_cells.specs.declared.held_cells.machine_cells.RegisterCells.{RegisterCells}
 use Rattle.operator_cells.specs.declared.held_cells.way.Way.{Way}
 use Rattle.operator_cells.specs.declared.held_cells.way.Exit.{Exit}
 use Rattle.operator_cells.specs.HeldCells.Paths.{GraphView, Stage, At, node_at, before, on_path, maps_in}
-use Rattle.operator_cells.specs.HeldCells.Held.{PointerView, AreInside, AreHeld}
+use Rattle.operator_cells.specs.HeldCells.RegisterCells.{PointerView, AreInside, AreHeld}
 use Rattle.operator_cells.specs.HeldCells.Steps.{IsGood, IsHere, AreMade, IsLeft, DoAs}
 use Rattle.operator_cells.specs.HeldCells.Law.{IsPacket, made_at, sites_below, sites_at}
 use Rattle.edge_cells.specs.Meeting.{Extends}
@@ -37,10 +37,10 @@ abbrev pub made_alone : Making → ProgramView
 made_alone t = record { cells = t.cells; nodes = t.nodes; sites = t.sites; verdict = 0; target = 0; frame = [] }
 
 -- what stands for what is held at a node that is not done
-abbrev pub no_held : Held
+abbrev pub no_held : RegisterCells
 no_held = record { registers = replicate 11 0; slots = replicate 64 0; window = replicate 256 0; target = 0 }
 
-abbrev pub held_in : List Held → ℕ → Held
+abbrev pub held_in : List RegisterCells → ℕ → RegisterCells
 held_in hs j = get_or hs j no_held
 
 -- the reads of the sites of nodes below k, where their guards are on, answer as the maps after the operations before them do
@@ -58,7 +58,7 @@ pub record IsCase (g : GraphView) (t : Making) (packet : PacketIn) (maps : MapSt
 
 -- The cells are right as far as node k, which is next: guards of the nodes before it and what is held there; sites do what the steps of these
 -- nodes do, and leave the maps of the run; and the edges and ends so far are good.
-pub record AreRight (g : GraphView) (k : ℕ) (hs : List Held) (t : Making) : Type 0 where
+pub record AreRight (g : GraphView) (k : ℕ) (hs : List RegisterCells) (t : Making) : Type 0 where
   pub guards : (packet : PacketIn) (maps : MapState) (v : ℕ → ℕ) (j : ℕ) → j < k → IsCase g t packet maps v j → v (made_at t.nodes j).guard ≡ bit (on_path g packet maps j)
   pub holds : (packet : PacketIn) (maps : MapState) (v : ℕ → ℕ) (j : ℕ) (m : Machine) → j < k → IsCase g t packet maps v j → before g packet maps j ≡ At j m
       → AreHeld g.decls packet v t.pointers (held_in hs j) (node_at g.nodes j).kinds m
@@ -80,7 +80,7 @@ pub record AreLaid (g : GraphView) (k : ℕ) (t : Making) : Type 0 where
   pub below : All (λ s. IsBelow (made_at t.nodes s.node).end s) t.sites
 
 -- The nodes below k are done, and this is held at them.
-pub record IsSoFar (g : GraphView) (k : ℕ) (hs : List Held) (t : Making) : Type 0 where
+pub record IsSoFar (g : GraphView) (k : ℕ) (hs : List RegisterCells) (t : Making) : Type 0 where
   pub formed : AreFormed t.cells
   pub numbers : NumbersAreAlone t.cells
   pub made : AreMade g t.cells t.pointers t.ways t.exits
@@ -92,14 +92,14 @@ pub record IsSoFar (g : GraphView) (k : ℕ) (hs : List Held) (t : Making) : Typ
   pub right : AreRight g k hs t
 
 -- Before the step of node k: more cells and pointers, among them its guard and what is held there, right wherever things are good before the node.
-pub record Arrives (g : GraphView) (k : ℕ) (t : Making) (cells : List CellView) (pointers : List PointerView) (guard : ℕ) (h : Held) : Type 0 where
+pub record Arrives (g : GraphView) (k : ℕ) (t : Making) (cells : List CellView) (pointers : List PointerView) (guard : ℕ) (h : RegisterCells) : Type 0 where
   pub grows : Grows t.cells cells
   pub extends : Extends t.pointers pointers
   pub own : (length t.cells ≤ guard) × (guard < length cells)
   pub inside : AreInside g.decls (length cells) pointers h (node_at g.nodes k).kinds
   pub here : (packet : PacketIn) (v : ℕ → ℕ) (s : Stage) → IsRun packet cells v → IsGood g packet v t.pointers k t.ways t.exits s → IsHere g packet v pointers k guard h s
 
--- More cells behind all nodes, and those of the answer: where the ends that are on hold what a packet leaves, so do these.
+-- More cells after all nodes, and those of the answer: where the ends that are on hold what a packet leaves, so do these.
 pub record Answers (old new : List CellView) (exits : List Exit) (verdict target : ℕ) (frame : List FrameByte) : Type 0 where
   pub grows : Grows old new
   pub no_row : AddsNoRow old new

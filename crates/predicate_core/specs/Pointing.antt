@@ -7,15 +7,15 @@ use Rattle.kind_core.specs.declared.kind.Kinds.{Kinds}
 use Rattle.cell_core.specs.Cells.{CellView, IsRun, on}
 use Rattle.cell_core.specs.Sites.{site_at}
 use Rattle.operator_cells.specs.Following.{IsFollowed}
-use Rattle.operator_cells.specs.declared.held_cells.held.Held.{Held}
+use Rattle.operator_cells.specs.declared.held_cells.machine_cells.RegisterCells.{RegisterCells}
 use Rattle.operator_cells.specs.declared.held_cells.way.Way.{Way}
-use Rattle.operator_cells.specs.HeldCells.Held.{PointerView, pointer_at}
-use Rattle.operator_cells.specs.HeldCells.Pointing.{Pointing, HoldsPointer, IsSamePointer, AreLookedUp, is_access, IsLookupAccess, FoundsAre, HeldAre, PointerIs}
+use Rattle.operator_cells.specs.HeldCells.RegisterCells.{PointerView, pointer_at}
+use Rattle.operator_cells.specs.HeldCells.Pointing.{Pointing, HoldsPointer, IsSamePointer, AreLookedUp, is_access, IsLookupAccess, FoundsAre, RegisterCellsAre, PointerIs}
 use Rattle.predicate_core.specs.StepCells.Stepping.{MadeView}
 
 -- With these numbers pointers into map m, those that are held and those of accesses, have number n.
 pub record PointInto (t : MadeView) (u : ℕ → ℕ) (m n : ℕ) : Type 0 where
-  pub held : All (λ e. HeldAre u m n t.pointers e.kinds e.held) t.ways
+  pub held : All (λ e. RegisterCellsAre u m n t.pointers e.kinds e.held) t.ways
   pub accesses : (j : ℕ) → j < length t.sites → is_access (site_at t.sites j).act ≡ true → (site_at t.sites j).map ≡ m → PointerIs t.sites u n j
 
 -- For these values of cells, before node k: bits of edges are bits; those that are on and lead to this node or a later one lead to one, and
@@ -34,7 +34,7 @@ pub record PointSoFar (decls : List MapDecl) (k : ℕ) (t : MadeView) : Type 0 w
   pub each : (packet : PacketIn) (v u : ℕ → ℕ) → IsRun packet t.cells v → IsFollowed t.cells v u → PointWith decls k t v u
 
 -- For these values of cells an edge that leads to node k is on, and holds each pointer that is held there.
-pub record ComesAlong (decls : List MapDecl) (k : ℕ) (kinds : Kinds) (h : Held) (ps qs : List PointerView) (ways : List Way) (v u : ℕ → ℕ) : Type 0 where
+pub record ComesAlong (decls : List MapDecl) (k : ℕ) (kinds : Kinds) (h : RegisterCells) (ps qs : List PointerView) (ways : List Way) (v u : ℕ → ℕ) : Type 0 where
   pub edge : Way
   pub among : Contains ways edge
   pub to : edge.to ≡ k
@@ -52,7 +52,7 @@ pub record WasBrought (ps qs : List PointerView) (ways : List Way) (u : ℕ → 
 
 -- Before the step of node k: for any values of the cells its guard is a bit, and where it is on such an edge is; on or not, edges bring what is
 -- held there.
-abbrev pub ArrivePoints : List MapDecl → ℕ → Kinds → List CellView → List PointerView → List PointerView → List Way → ℕ → Held → Type 0
+abbrev pub ArrivePoints : List MapDecl → ℕ → Kinds → List CellView → List PointerView → List PointerView → List Way → ℕ → RegisterCells → Type 0
 ArrivePoints decls k kinds cells ps qs ways guard h =
     (packet : PacketIn) (v u : ℕ → ℕ) → IsRun packet cells v → IsFollowed cells v u → All (λ e. v e.bit < 2) ways
     → (v guard < 2) × (on (v guard) ≡ true → ComesAlong decls k kinds h ps qs ways v u) × ((y : Pointing) → HoldsPointer kinds h y → WasBrought ps qs ways u y)

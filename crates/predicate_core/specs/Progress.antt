@@ -1,10 +1,10 @@
 -- Programs in memory, node by node.
 use Rattle.std.specs.Prelude.{ℕ, ◌≡◌, ◌-◌, ◌<◌, List, [], ◌∷◌, ◌++◌, length, replicate, slice_index, get_or, map as map_list, All, Contains}
 use Rattle.operator_cells.specs.Making.{seen}
-use Rattle.operator_cells.specs.declared.held_cells.held.Held.{Held}
+use Rattle.operator_cells.specs.declared.held_cells.machine_cells.RegisterCells.{RegisterCells}
 use Rattle.operator_cells.specs.declared.held_cells.way.Way.{Way}
 use Rattle.operator_cells.specs.HeldCells.Paths.{GraphView}
-use Rattle.operator_cells.specs.HeldCells.Held.{pointed}
+use Rattle.operator_cells.specs.HeldCells.RegisterCells.{pointed}
 use Rattle.edge_cells.specs.declared.joining.Here.{Here}
 use Rattle.site_cells.specs.Sited.{sited}
 use Rattle.predicate_core.specs.declared.making.Progress.{Progress}
@@ -58,7 +58,7 @@ pub record AreKept (nodes maps n : ℕ) (tos : List ℕ) (entries pending : List
 
 -- The nodes below k are done, and what leads to the others is known.
 pub record IsReady (g : GraphView) (k : ℕ) (p : Progress) : Type 0 where
-  pub held : List Held
+  pub held : List RegisterCells
   pub so_far : IsSoFar g k held (making_of p)
   pub fed : AreFed g k p.made.ways.items
   pub bytes : HaveBytes (seen p.made.cells.items) 256 p.window

@@ -10,13 +10,13 @@ use Rattle.operator_cells.specs.row_rules.declared.place_rows.origin.Origin.{Ori
 use Rattle.operator_cells.specs.row_rules.PlaceRows.Spans.{pending_place}
 use Rattle.operator_cells.specs.row_rules.PlaceRows.Origins.{row_at, every_row, by_place, origin_at_start}
 use Rattle.operator_cells.specs.row_rules.declared.node_rows.joining.Arrival.{Arrival}
-use Rattle.operator_cells.specs.row_rules.declared.node_rows.node.Behind.{Behind}
+use Rattle.operator_cells.specs.row_rules.declared.node_rows.node.AfterNode.{AfterNode}
 use Rattle.operator_cells.specs.row_rules.NodeRows.Joining.{edge_row, origins_at}
 use Rattle.operator_cells.specs.row_rules.NodeRows.Rows.{point_at, insn_of, known_behind, arrivals_of, behind_node, rows_of, row_of_node, may_write}
 use Rattle.operator_cells.specs.Making.{seen}
-use Rattle.operator_cells.specs.declared.held_cells.held.Held.{Held}
+use Rattle.operator_cells.specs.declared.held_cells.machine_cells.RegisterCells.{RegisterCells}
 use Rattle.operator_cells.specs.declared.held_cells.way.Way.{Way}
-use Rattle.operator_cells.specs.HeldCells.Held.{PointerView, pointed}
+use Rattle.operator_cells.specs.HeldCells.RegisterCells.{PointerView, pointed}
 use Rattle.operator_cells.specs.HeldCells.Law.{made_at}
 use Rattle.operator_cells.specs.HeldCells.Rows.{number_at, held_row}
 use Rattle.site_cells.specs.Sited.{sited}
@@ -26,12 +26,12 @@ use Rattle.predicate_core.specs.Progress.{pending_of}
 
 -- ---- on the graph
 
--- what stands behind a node
-abbrev pub behind_at : XdpProgram → Unfolded → ℕ → Behind
+-- what stands after a node
+abbrev pub behind_at : XdpProgram → Unfolded → ℕ → AfterNode
 behind_at p u n = behind_node p u.nodes.items u.edges.items (rows_of p u.nodes.items u.edges.items n) n
 
--- and behind the edge with which a run begins
-abbrev pub behind_start : Behind
+-- and after the edge with which a run begins
+abbrev pub behind_start : AfterNode
 behind_start = record { edge = 0; origins = record { places = by_place origin_at_start }; row = 0 }
 
 -- what is known on an edge
@@ -54,31 +54,31 @@ writing_nodes p u k = count_by (λ at. may_write p at (insn_of p at)) (take k u.
 
 -- ---- on the cells
 
--- The nodes below k are done. This stands behind an edge: it is that with which a run begins, or leaves one of them.
-abbrev pub StandsBehind : XdpProgram → Unfolded → ℕ → Way → Behind → Type 0
+-- The nodes below k are done. This stands after an edge: it is that with which a run begins, or leaves one of them.
+abbrev pub StandsBehind : XdpProgram → Unfolded → ℕ → Way → AfterNode → Type 0
 StandsBehind p u k e b = ((e.to ≡ 0) × (b ≡ behind_start))
     ⊎ ((x : Edge) × Contains u.edges.items x × (x.from < k) × (x.to ≡ e.to) × (e.kinds ≡ known_along p u x) × (b ≡ behind_at p u x.from))
 
 -- An origin says which number is held at its place, and which cell waits there: by its maker each has a name.
-pub record AreNamed (named : ℕ → ℕ → ℕ) (k : ℕ) (e : Way) (waiting : List ℕ) (b : Behind) : Type 0 where
+pub record AreNamed (named : ℕ → ℕ → ℕ) (k : ℕ) (e : Way) (waiting : List ℕ) (b : AfterNode) : Type 0 where
   pub held : (place : ℕ) (o : Origin) → place < 332 → get_or b.origins.places place None ≡ Some o → (o.maker ≤ k) × (number_at e.held place ≡ named o.maker place)
   pub pending : (q : ℕ) (o : Origin) → q < length waiting → get_or b.origins.places (pending_place q) None ≡ Some o → (o.maker ≤ k) × (slice_index waiting q ≡ named o.maker (pending_place q))
 
--- No cell of an edge stands in a later row than what stands behind it.
-pub record StandWithin (row : ℕ → ℕ) (ps : List PointerView) (e : Way) (waiting : List ℕ) (b : Behind) : Type 0 where
+-- No cell of an edge stands in a later row than what stands after it.
+pub record StandWithin (row : ℕ → ℕ) (ps : List PointerView) (e : Way) (waiting : List ℕ) (b : AfterNode) : Type 0 where
   pub bit : row e.bit ≤ b.edge
   pub held : (place : ℕ) → place < 332 → held_row row ps e.held e.kinds place ≤ row_at b.origins.places place
   pub pending : (q : ℕ) → q < length waiting → row (slice_index waiting q) ≤ row_at b.origins.places (pending_place q)
 
 -- all of it
 pub record Brings (p : XdpProgram) (u : Unfolded) (named : ℕ → ℕ → ℕ) (k : ℕ) (cells : List CellView) (ps : List PointerView) (e : Way) (pending : List ℕ) : Type 0 where
-  pub behind : Behind
+  pub behind : AfterNode
   pub stands : StandsBehind p u k e behind
   pub names : AreNamed named k e pending behind
   pub within : (row : ℕ → ℕ) → AreRows cells row → StandWithin row ps e pending behind
 
 -- The nodes below k make no cell in a later row than they have in the graph, and no more sites that may write than there are nodes that may; each edge so far brings what
--- stands behind it.
+-- stands after it.
 pub record FitSoFar (p : XdpProgram) (u : Unfolded) (k : ℕ) (t : Progress) : Type 0 where
   pub named : ℕ → ℕ → ℕ
   pub records : record_count (sited t.made.sites.items) ≤ writing_nodes p u k
@@ -86,7 +86,7 @@ pub record FitSoFar (p : XdpProgram) (u : Unfolded) (k : ℕ) (t : Progress) : T
   pub ways : (i : ℕ) (d : Way) → i < length t.made.ways.items → Brings p u named k (seen t.made.cells.items) (pointed t.made.pointers.items) (get_or t.made.ways.items i d) (get_or (pending_of t) i [])
 
 -- What is held at node k, whose turn it is: where an origin is not the node's own its name holds; the rows are those of the origins.
-pub record ComesWithin (p : XdpProgram) (u : Unfolded) (named : ℕ → ℕ → ℕ) (k : ℕ) (old new : List CellView) (ps : List PointerView) (guard : ℕ) (h : Held) (waiting : List ℕ) : Type 0 where
+pub record ComesWithin (p : XdpProgram) (u : Unfolded) (named : ℕ → ℕ → ℕ) (k : ℕ) (old new : List CellView) (ps : List PointerView) (guard : ℕ) (h : RegisterCells) (waiting : List ℕ) : Type 0 where
   pub held : (place : ℕ) (o : Origin) → place < 332 → get_or (origins_met p u k) place None ≡ Some o → (o.maker ≡ k + 1) ⊎ ((o.maker ≤ k) × (number_at h place ≡ named o.maker place))
   pub pending : (q : ℕ) (o : Origin) → q < length waiting → get_or (origins_met p u k) (pending_place q) None ≡ Some o → (o.maker ≡ k + 1) ⊎ ((o.maker ≤ k) × (slice_index waiting q ≡ named o.maker (pending_place q)))
   pub rows : (row : ℕ → ℕ) → AreRows new row → AreRows old row

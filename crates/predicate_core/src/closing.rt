@@ -1,11 +1,11 @@
-//! What a packet leaves, behind all nodes.
+//! What a packet leaves, after all nodes.
 
 ghost use Rattle.std.specs.Prelude.{◌≡◌, ◌<◌, ◌≤◌, ◌^◌, false, length, slice_index, IfOk, All};
 ghost use Rattle.xdp_machine.specs.Arithmetic.{low};
 ghost use Rattle.cell_core.specs.Formed.{AreFormed};
 ghost use Rattle.cell_core.specs.Cells.{cell_at};
 ghost use Rattle.operator_cells.specs.Making.{seen, Makes, MakesIf};
-ghost use Rattle.operator_cells.specs.HeldCells.Held.{number_of, IsThere};
+ghost use Rattle.operator_cells.specs.HeldCells.RegisterCells.{number_of, IsThere};
 ghost use Rattle.predicate_core.specs.Buildable.{HasBits, AddsNoRow};
 ghost use Rattle.predicate_core.specs.Making.{Answers};
 ghost use Rattle.predicate_core.specs.Opening.{HaveBytes};

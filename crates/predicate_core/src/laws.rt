@@ -43,7 +43,7 @@ pub fn arrivals_stay()
     ensures { ArrivalsStay }
 {}
 
-/// The same behind the code of a node.
+/// The same after the code of a node.
 pub fn steps_stay()
     ensures { StepsStay }
 {}
@@ -56,7 +56,7 @@ pub fn arrivals_fit()
     sound_graphs_feed();
 }
 
-/// A node more: its cells fit its row, and its edges bring what stands behind it.
+/// A node more: its cells fit its row, and its edges bring what stands after it.
 pub fn nodes_fit()
     ensures { NodesFit }
 {}

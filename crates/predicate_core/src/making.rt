@@ -7,7 +7,7 @@ ghost use Rattle.cell_core.specs.Formed.{IsBelow};
 ghost use Rattle.operator_cells.specs.Making.{seen, Grows};
 ghost use Rattle.operator_cells.specs.Joining.{AreThere};
 ghost use Rattle.operator_cells.specs.HeldCells.Paths.{node_at};
-ghost use Rattle.operator_cells.specs.HeldCells.Held.{pointed};
+ghost use Rattle.operator_cells.specs.HeldCells.RegisterCells.{pointed};
 ghost use Rattle.operator_cells.specs.declared.held_cells.way.Way.{Way};
 ghost use Rattle.edge_cells.specs.Joining.{LeadTo};
 ghost use Rattle.edge_cells.specs.NodeCells.Ends.{IsNode, HasEnds};
@@ -132,7 +132,7 @@ fn gather(
     Ok(all)
 }
 
-// The same behind a node, before which there were so many sites, and whose code began at this cell.
+// The same after a node, before which there were so many sites, and whose code began at this cell.
 fn pass(
     cells: &mut Vec<Cell>,
     sites: &[Site],

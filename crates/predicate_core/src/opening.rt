@@ -8,7 +8,7 @@ use cell_core::cell::Cell;
 use cell_core::operator::Operator;
 use kind_core::Kinds;
 use operator_cells::cells::{constant, operate};
-use operator_cells::held_cells::held::Held;
+use operator_cells::held_cells::machine_cells::RegisterCells;
 use operator_cells::held_cells::way::Way;
 use std::alloc::AllocError;
 
@@ -31,7 +31,7 @@ pub fn open(cells: &mut Vec<Cell>) -> Result<Way, AllocError>
     let bit = constant(cells, 1, 1)?;
     let window = bytes(cells)?;
     let target = constant(cells, 0, 32)?;
-    let held = Held {
+    let held = RegisterCells {
         registers: [0; 11],
         slots: [0; 64],
         window,

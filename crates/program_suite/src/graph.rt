@@ -46,7 +46,7 @@ fn push_node(node: &Node, out: &mut String) -> Result<(), AllocError> {
     Ok(())
 }
 
-// Adds an edge, which leads to the next place or, behind two signs, along a jump.
+// Adds an edge, which leads to the next place or, after two signs, along a jump.
 fn push_edge(edge: Edge, out: &mut String) -> Result<(), AllocError> {
     let sign = if edge.taken { ">>" } else { ">" };
     write!(out, " {}{sign}{}", edge.from, edge.to)

@@ -2,9 +2,9 @@
 //!
 //! The program is called with the names of files, and does their lines in order. An empty line and one that begins with
 //! `# ` is nothing, and ` # ` begins a comment in any other. A line that asks prints itself, ` => ` and its answer, whose
-//! further lines stand behind `| `. A line that cannot be read, or asks for what there is not, ends the program with an error.
+//! further lines stand after `| `. A line that cannot be read, or asks for what there is not, ends the program with an error.
 //!
-//! Words stand one space apart. A NUMBER is decimal, or hexadecimal behind `0x`. BYTES are words that are done one after the
+//! Words stand one space apart. A NUMBER is decimal, or hexadecimal after `0x`. BYTES are words that are done one after the
 //! other, each to what those before it have made, and a BYTE-WORD is one of them alone:
 //!
 //!     DIGITS          adds the bytes of hexadecimal digits
@@ -38,7 +38,7 @@
 //!     write-maps                      the text of what they hold
 //!
 //! Of the program of the case, with BYTES in its hole, if its parts make up one. Of its graph (`unfold_core`, `kind_core`), or its first
-//! refusal, by place and number, behind which that of a call has the number of the helper:
+//! refusal, by place and number, after which that of a call has the number of the helper:
 //!
 //!     unfold [BYTES]                  the nodes, by place and copies, and the edges by the nodes' numbers: `>` to the next place, `>>`
 //!                                     along a jump
@@ -52,7 +52,7 @@
 //! Of the packets, one after another:
 //!
 //!     packets [BYTES]                 nodes, stages and records by its graph (`node_rows`), or the first refusal; what the packets leave,
-//!                                     a line `INDEX VERDICT TARGET LENGTH` each, with the bytes that change behind their places; and the
+//!                                     a line `INDEX VERDICT TARGET LENGTH` each, with the bytes that change after their places; and the
 //!                                     text of the final maps
 //!     pipe NUMBER|- [BYTES]           the same from empty maps; then for each of three ways to drive a pipe of its cells (`pipe_core`)
 //!                                     whether it gives the same: a beat is offered and taken in every clock, offered in every third, or

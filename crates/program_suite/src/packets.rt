@@ -85,7 +85,7 @@ fn push_run(
 }
 
 /// Adds the line of what a packet of this number leaves: verdict, target, length, and the bytes that are others than before, each
-/// run of them behind its place.
+/// run of them after its place.
 pub(crate) fn push_left(
     i: usize,
     before: &[u8],

@@ -2,10 +2,11 @@
 use Rattle.std.proofs.Common.{◌∙◌, ℕ, suc, ◌<◌, All, List, [], ◌∷◌, length, get_or, sym, ap, subst, arith}
 use Rattle.std.proofs.lemmas.List.{length-map}
 use Rattle.std.proofs.lemmas.List.Elements.{All-append}
+use Rattle.block_core.proofs.list_laws_laws.PlaceLaws.{some_of}
 use Rattle.block_core.specs.net_core.Value.{Env}
 use Rattle.overlay_net.specs.cell_core.Formed.{HasWords, IsInside}
 use Rattle.overlay_net.specs.cell_core.Sites.{ProgramView}
-use Rattle.pipe_core.specs.hazard_core.Held.{Held}
+use Rattle.pipe_core.specs.hazard_core.StageValues.{StageValues}
 use Rattle.pipe_core.specs.hazard_core.Tables.{TableState}
 use Rattle.overlay_net.specs.cell_nets.declared.operand.Operand.{Operand}
 use Rattle.overlay_net.specs.cell_nets.Operands.{IsOperand}
@@ -18,7 +19,7 @@ use Rattle.read_net.specs.declared.sites.MapNets.{MapNets}
 use Rattle.read_net.specs.Sites.{sites_of, IsOwn, AreSeenOf}
 use Rattle.read_net.specs.Accesses.{IsFitting, HaveOperands}
 use Rattle.read_net.proofs.StandLemmas.{left_of, right_of, first_of}
-use Rattle.read_net.proofs.SiteLemmas.{by_sites, item_of}
+use Rattle.read_net.proofs.SiteLemmas.{by_sites}
 
 module _ {N : Type 0} (Q : Operand N → Type 0) where
   taken_one : (d : Pending N) → All Q (read_of d) → All Q (taken_of d)
@@ -34,7 +35,7 @@ module _ {N : Type 0} (m : MapNets N) (ss : List (OwnSite N)) (ds : List (Pendin
   pub all_fit : All (IsFitting m) ss → All (IsSeen m.decl.now.key m.bits) ds → All (FitsValue m.decl.now) ds
   all_fit fit seen k d lt =
       let l : k < length ss = omega (arith, lt, of.count) in
-      let s = item_of ss k l in
+      let s = some_of ss k l in
       let e = of.each k s d lt in
       let f = fit k s l in
       record {
@@ -55,5 +56,5 @@ module _ {N : Type 0} (m : MapNets N) (ss : List (OwnSite N)) (ds : List (Pendin
         record { act = o.act ∙ sym e.act; map = o.map; count = ap (λ x. length x.operands.items) e.nets ∙ counts n s lt });
   }
 
-pub shown_pendings : {N : Type 0} (v : Env N) (p : ProgramView) (t : TableState) (h : Held) (before : List ℕ) (ds : List (Pending N)) → ShowPending v p t h before ds → ShowPendings v p t h before ds
+pub shown_pendings : {N : Type 0} (v : Env N) (p : ProgramView) (t : TableState) (h : StageValues) (before : List ℕ) (ds : List (Pending N)) → ShowPending v p t h before ds → ShowPendings v p t h before ds
 shown_pendings v p t h before ds k = record { each = λ n d lt. let s = k.each n d lt in record { asked = s.site.asked; writes = s.writes; written = s.written } }

@@ -1,34 +1,24 @@
 -- The keys that sites ask for.
-use Rattle.std.proofs.Common.{◌≡◌, ◌∙◌, ℕ, List, refl, sym, ap, map as map_list}
+use Rattle.std.proofs.Common.{◌≡◌, ◌∙◌, ℕ, sym, ap, map as map_list}
 use Rattle.block_core.specs.net_core.Value.{Env}
-use Rattle.overlay_net.specs.xdp_maps.declared.decl.MapDecl.{MapDecl}
-use Rattle.overlay_net.specs.xdp_maps.Operations.{key_in}
-use Rattle.overlay_net.specs.cell_core.declared.site.Act.{Act}
 use Rattle.overlay_net.specs.cell_core.declared.site.Act.TheVariants as act
-use Rattle.overlay_net.specs.cell_core.Sites.{ProgramView, site_at, bytes_of, operation_with}
+use Rattle.overlay_net.specs.cell_core.Sites.{ProgramView, site_at, bytes_of}
 use Rattle.pipe_core.specs.hazard_core.Tables.{TableState, decl_of, table_at}
-use Rattle.pipe_core.specs.hazard_core.Held.{Held, held_value, asked_key, slot_pointer}
+use Rattle.pipe_core.specs.hazard_core.StageValues.{StageValues, stage_value, asked_key, slot_pointer}
 use Rattle.overlay_net.specs.cell_nets.declared.operand.Operand.{Operand}
 use Rattle.overlay_net.specs.SiteOperands.Pointers.{pointer_number}
 use Rattle.overlay_net.specs.Reading.{ShowsSlot}
+use Rattle.overlay_net.proofs.hazard_core_laws.ActsLaws.{key_is}
 
-pub key_is : (d : MapDecl) (a : Act) (ks xs : List ℕ) → key_in (operation_with d a ks xs) ≡ bytes_of d.key ks
-key_is d act.Lookup ks xs = refl
-key_is d (act.Load at size) ks xs = refl
-key_is d act.Update ks xs = refl
-key_is d act.Delete ks xs = refl
-key_is d (act.Store at size) ks xs = refl
-key_is d (act.Atomic at a) ks xs = refl
-
-module _ {N : Type 0} (v : Env N) (p : ProgramView) (t : TableState) (h : Held) (i j : ℕ) (map : (site_at p.sites i).map ≡ (site_at p.sites j).map) (key : (site_at p.sites i).key ≡ (site_at p.sites j).key) where
-  bytes_at : (k : ℕ) → asked_key t.decls h (site_at p.sites k) ≡ bytes_of (decl_of t.decls (site_at p.sites k).map).key (map_list (held_value h) (site_at p.sites k).key)
-  bytes_at k = key_is (decl_of t.decls (site_at p.sites k).map) (site_at p.sites k).act (map_list (held_value h) (site_at p.sites k).key) (map_list (held_value h) (site_at p.sites k).operands)
+module _ {N : Type 0} (v : Env N) (p : ProgramView) (t : TableState) (h : StageValues) (i j : ℕ) (map : (site_at p.sites i).map ≡ (site_at p.sites j).map) (key : (site_at p.sites i).key ≡ (site_at p.sites j).key) where
+  bytes_at : (k : ℕ) → asked_key t.decls h (site_at p.sites k) ≡ bytes_of (decl_of t.decls (site_at p.sites k).map).key (map_list (stage_value h) (site_at p.sites k).key)
+  bytes_at k = key_is (decl_of t.decls (site_at p.sites k).map) (site_at p.sites k).act (map_list (stage_value h) (site_at p.sites k).key) (map_list (stage_value h) (site_at p.sites k).operands)
 
   same_key : asked_key t.decls h (site_at p.sites i) ≡ asked_key t.decls h (site_at p.sites j)
   same_key =
       bytes_at i
-      ∙ ap (λ m. bytes_of (decl_of t.decls m).key (map_list (held_value h) (site_at p.sites i).key)) map
-      ∙ ap (λ l. bytes_of (decl_of t.decls (site_at p.sites j).map).key (map_list (held_value h) l)) key
+      ∙ ap (λ m. bytes_of (decl_of t.decls m).key (map_list (stage_value h) (site_at p.sites i).key)) map
+      ∙ ap (λ l. bytes_of (decl_of t.decls (site_at p.sites j).map).key (map_list (stage_value h) l)) key
       ∙ sym (bytes_at j)
 
   -- Sites with one key in one map find one slot.

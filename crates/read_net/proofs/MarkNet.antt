@@ -2,5 +2,5 @@ pub mod StandLemmas
 pub mod NextLemmas
 pub mod GatherLemmas
 pub mod BlockLemmas
-pub mod DueLemmas
+pub mod ReloadLemmas
 pub mod StandingLemmas

@@ -6,7 +6,7 @@ use Rattle.block_core.specs.net_core.Value.{Env}
 use Rattle.block_core.specs.declared.name.Name.{Name}
 use Rattle.block_core.specs.Blocks.{BlockWireTree}
 use Rattle.overlay_net.specs.cell_core.Sites.{ProgramView}
-use Rattle.pipe_core.specs.hazard_core.Held.{Held}
+use Rattle.pipe_core.specs.hazard_core.StageValues.{StageValues}
 use Rattle.pipe_core.specs.hazard_core.Tables.{TableState}
 use Rattle.overlay_net.specs.cell_nets.Operands.{IsAvailable}
 use Rattle.overlay_net.specs.declared.site_operands.Pending.{Pending}
@@ -19,7 +19,7 @@ use Rattle.read_net.specs.Sites.{cells_of, all_cells, slot_cells, sites_of, IsOw
 use Rattle.read_net.proofs.StandLemmas.{left_of, right_of, stands_as, stands_then}
 use Rattle.read_net.proofs.SiteLemmas.{cells_at, read_push, each_more, by_sites}
 
-module _ {P : Type 0} (part : P) (map : MapNets (Name P)) (ss : List (OwnSite (Name P))) (p : ProgramView) (t : TableState) (h : Held) (m : ℕ) where
+module _ {P : Type 0} (part : P) (map : MapNets (Name P)) (ss : List (OwnSite (Name P))) (p : ProgramView) (t : TableState) (h : StageValues) (m : ℕ) where
   abbrev pub Needs : Env (Name P) → Type 0
   Needs v = All (ShowsOwn v p h) ss × ShowsTable v t m map
 

@@ -1,6 +1,6 @@
 -- The cells of a read, by what its site finds.
 use Rattle.std.specs.Prelude.{not}
-use Rattle.std.proofs.Common.{◌≡◌, ◌∙◌, ℕ, zero, suc, ◌+◌, ◌*◌, ◌<◌, ◌==◌, Bool, true, false, All, List, [], ◌∷◌, ◌++◌, refl, sym, ap, subst, arith}
+use Rattle.std.proofs.Common.{◌≡◌, ◌∙◌, ℕ, zero, suc, ◌+◌, true, All, List, [], ◌∷◌, ◌++◌, sym, ap, subst, arith}
 use Rattle.std.proofs.lemmas.Bool.{eqb-true, and_parts}
 use Rattle.std.proofs.lemmas.List.Elements.{filter_passes}
 use Rattle.block_core.specs.net_core.Value.{Env}
@@ -11,9 +11,7 @@ use Rattle.overlay_net.specs.cell_core.Cells.{CellView, bit, on, bits_from}
 use Rattle.overlay_net.specs.cell_core.Rows.{numbers}
 use Rattle.overlay_net.specs.cell_core.Sites.{ProgramView, site_at}
 use Rattle.pipe_core.specs.hazard_core.Tables.{TableState}
-use Rattle.pipe_core.specs.hazard_core.declared.pointer.Pointer.{Pointer}
-use Rattle.pipe_core.specs.hazard_core.declared.pointer.Pointer.TheVariants.{Null, InSlot, Pending}
-use Rattle.pipe_core.specs.hazard_core.Held.{Held, is_null, is_pending, pending}
+use Rattle.pipe_core.specs.hazard_core.StageValues.{StageValues, is_null, is_pending, pending}
 use Rattle.pipe_core.specs.hazard_core.Overlay.{found_pointer, answer_over}
 use Rattle.overlay_net.specs.cell_nets.declared.operand.Operand.{Operand}
 use Rattle.overlay_net.specs.cell_nets.Operands.{number_in, IsAvailable}
@@ -22,25 +20,13 @@ use Rattle.overlay_net.specs.SiteOperands.Pointers.{pointer_number}
 use Rattle.overlay_net.specs.Seen.{all_read}
 use Rattle.overlay_net.specs.cell_nets.StepNets.Standing.{Stands}
 use Rattle.overlay_net.proofs.cell_nets_laws.StepNets.ChainLaws.{next, ends}
+use Rattle.overlay_net.proofs.PointerLaws.{found_on}
 use Rattle.read_net.specs.declared.finding.FoundNets.{FoundNets}
 use Rattle.read_net.specs.declared.sites.OwnSite.{OwnSite}
 use Rattle.read_net.specs.declared.sites.MapNets.{MapNets}
 use Rattle.read_net.specs.Reads.{taken, ShowsBoth, IsFound, Finds, IsReadOf, Reads}
 use Rattle.read_net.specs.Sites.{sites_of, IsOwn}
 use Rattle.read_net.proofs.StandLemmas.{one_of}
-
--- ---- pointers that are not null
-some_on : (n : ℕ) → 0 < n → on n ≡ true
-some_on n h = by (n == 0) refl
-  where
-    by : (b : Bool) → (n == 0) ≡ b → not b ≡ true
-    by true e = absurd (let z : n ≡ 0 = eqb-true n 0 e in omega (arith, h, z))
-    by false e = refl
-
-found_on : (q : Pointer) → on (pointer_number q) ≡ not (is_null q)
-found_on Null = refl
-found_on (InSlot n) = some_on (4 * n + 1) (omega arith)
-found_on (Pending j) = some_on (4 * j + 2) (omega arith)
 
 -- ---- the operations that a read sees are on its map
 module _ {N : Type 0} (p : ProgramView) (t : TableState) (row : ℕ → ℕ) (r : ℕ) (m : MapNets N) (s : OwnSite N) (ss : List (OwnSite N)) (is : IsReadOf p t row r m s ss) where
@@ -56,7 +42,7 @@ module _ {N : Type 0} (p : ProgramView) (t : TableState) (row : ℕ → ℕ) (r 
       maps (o ∷ os) h (suc k) d lt = maps os (λ n e l. h (suc n) e (omega (arith, l))) k d (omega (arith, lt))
 
 -- ---- what stands for its cells
-module _ {P : Type 0} (part : P) (old mid : List (BlockWireTree (Name P))) (m : MapNets (Name P)) (s : OwnSite (Name P)) (ss : List (OwnSite (Name P))) (p : ProgramView) (t : TableState) (h : Held) (row : ℕ → ℕ) (r : ℕ) (packet : PacketIn) (c : CellView) (is : IsReadOf p t row r m s ss) (slot : Operand (Name P))
+module _ {P : Type 0} (part : P) (old mid : List (BlockWireTree (Name P))) (m : MapNets (Name P)) (s : OwnSite (Name P)) (ss : List (OwnSite (Name P))) (p : ProgramView) (t : TableState) (h : StageValues) (row : ℕ → ℕ) (r : ℕ) (packet : PacketIn) (c : CellView) (is : IsReadOf p t row r m s ss) (slot : Operand (Name P))
     (f : FoundNets (Name P)) (found : IsFound m ss f) (x : Stands part old mid (slot ∷ taken m s ss) (λ v. ShowsBoth v p t h m s ss slot) (f.key ∷ f.found ∷ all_read f.pending.items ++ taken m s ss) (λ v. Finds v p t h m s ss f)) where
   pub reads_found :
       (low new : List (BlockWireTree (Name P))) (bs : List (Operand (Name P))) (more : Env (Name P) → Type 0) (from width : ℕ) (there answer : Operand (Name P)) → Gives part mid low (f.found ∷ []) always (λ v. bit (on (number_in v f.found))) 1 there

@@ -1,4 +1,4 @@
--- Steps that give several operands, one behind another.
+-- Steps that give several operands, one after another.
 use Rattle.std.proofs.Common.{zero, suc, All, List, [], ◌∷◌, ◌++◌, arith}
 use Rattle.std.proofs.lemmas.List.Elements.{All-append}
 use Rattle.block_core.specs.net_core.Value.{Env}
@@ -8,7 +8,7 @@ use Rattle.overlay_net.specs.cell_nets.declared.operand.Operand.{Operand}
 use Rattle.overlay_net.specs.cell_nets.declared.operand.Operand.TheVariants.{Known}
 use Rattle.overlay_net.specs.cell_nets.Operands.{IsAvailable}
 use Rattle.overlay_net.specs.cell_nets.Wires.{behind}
-use Rattle.overlay_net.proofs.cell_nets_laws.ApartLemmas.{stay_none, stay_as, stay_next}
+use Rattle.overlay_net.proofs.cell_nets_laws.ApartLaws.{stay_none, stay_as, stay_next}
 use Rattle.overlay_net.specs.cell_nets.StepNets.Standing.{Stands}
 use Rattle.overlay_net.proofs.cell_nets_laws.StepNets.ChainLaws.{starts}
 

@@ -1,13 +1,12 @@
 -- How many slots of an array are used.
 use Rattle.std.specs.Prelude.{if◌then◌else◌, filter}
-use Rattle.std.proofs.Common.{◌≡◌, ◌∙◌, ℕ, suc, ◌<◌, ◌≤◌, true, List, [], ◌∷◌, length, refl, sym, ap, subst, arith}
+use Rattle.std.proofs.Common.{◌≡◌, ◌∙◌, ℕ, suc, ◌<◌, true, List, [], ◌∷◌, length, refl, sym, ap, subst, arith}
 use Rattle.std.proofs.lemmas.Bool.{and_parts}
 use Rattle.std.proofs.lemmas.List.Sums.{length-filter}
 use Rattle.std.specs.Str.{bytes_eq}
 use Rattle.overlay_net.specs.xdp_maps.Contents.{IsWithinLimits, limits_as, index_key}
 use Rattle.overlay_net.specs.xdp_maps.declared.decl.MapDecl.{MapDecl}
-use Rattle.overlay_net.specs.xdp_maps.declared.decl.MapKind.{MapKind}
-use Rattle.overlay_net.specs.xdp_maps.declared.decl.MapKind.TheVariants.{Hash, Array}
+use Rattle.overlay_net.specs.xdp_maps.declared.decl.MapKind.TheVariants.{Array}
 use Rattle.pipe_core.specs.hazard_core.declared.slot.Slot.{Slot}
 use Rattle.pipe_core.specs.hazard_core.Tables.{slot_at, has_key, used_count}
 use Rattle.pipe_core.specs.hazard_core.Tabled.{IsTable, IsFilledTable}
@@ -21,13 +20,6 @@ kept (s ∷ slots) keys h =
 
 pub array_used : (d : MapDecl) (slots : List Slot) → d.kind ≡ Array → IsTable d slots → used_count slots ≡ d.cap
 array_used d slots e is = sym (length-filter (λ (s : Slot). s.used) slots) ∙ kept slots index_key (subst (λ k. IsFilledTable k slots) e is.filled) ∙ is.count
-
-few_slots : (k : MapKind) (d : MapDecl) → limits_as k d → d.cap ≤ 65536
-few_slots Hash d l = omega (arith, l)
-few_slots Array d l = l.1
-
-pub cap_few : (d : MapDecl) → IsWithinLimits d → d.cap ≤ 65536
-cap_few d l = few_slots d.kind d l.by_kind
 
 pub index_key_bytes : (d : MapDecl) → IsWithinLimits d → d.kind ≡ Array → d.key ≡ 4
 index_key_bytes d l e = (subst (λ k. limits_as k d) e l.by_kind).0

@@ -1,4 +1,4 @@
 pub mod Sites
 pub mod Marks
-pub mod Due
+pub mod Reload
 pub mod Standing

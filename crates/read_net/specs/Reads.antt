@@ -8,7 +8,7 @@ use Rattle.overlay_net.specs.cell_core.declared.operator.Operator.TheVariants.{F
 use Rattle.overlay_net.specs.cell_core.Cells.{CellView, bits_from}
 use Rattle.overlay_net.specs.cell_core.Sites.{ProgramView, site_at}
 use Rattle.pipe_core.specs.hazard_core.Tables.{TableState}
-use Rattle.pipe_core.specs.hazard_core.Held.{Held, pending}
+use Rattle.pipe_core.specs.hazard_core.StageValues.{StageValues, pending}
 use Rattle.pipe_core.specs.hazard_core.Overlay.{found_pointer}
 use Rattle.pipe_core.specs.hazard_core.Rows.{cell_pointer, cell_number}
 use Rattle.overlay_net.specs.cell_nets.declared.operand.Operand.{Operand}
@@ -29,13 +29,13 @@ abbrev pub taken : {N : Type 0} → MapNets N → OwnSite N → List (OwnSite N)
 taken m s ss = cells_of s ++ (all_cells ss ++ slot_cells m)
 
 -- what the site asks, the cells of the earlier ones, and the slots of the table
-pub record Shows {N : Type 0} (v : Env N) (p : ProgramView) (t : TableState) (h : Held) (m : MapNets N) (s : OwnSite N) (ss : List (OwnSite N)) : Type 0 where
+pub record Shows {N : Type 0} (v : Env N) (p : ProgramView) (t : TableState) (h : StageValues) (m : MapNets N) (s : OwnSite N) (ss : List (OwnSite N)) : Type 0 where
   pub asked : ShowsAsked v p h s.site (operands_of s.nets.now)
   pub earlier : All (ShowsOwn v p h) ss
   pub table : ShowsTable v t (site_at p.sites s.site).map m
 
 -- where it looks for a key, besides the slot under it, as the operand that is given of it
-abbrev pub ShowsBoth : {N : Type 0} → Env N → ProgramView → TableState → Held → MapNets N → OwnSite N → List (OwnSite N) → Operand N → Type 0
+abbrev pub ShowsBoth : {N : Type 0} → Env N → ProgramView → TableState → StageValues → MapNets N → OwnSite N → List (OwnSite N) → Operand N → Type 0
 ShowsBoth v p t h m s ss slot = Shows v p t h m s ss × ShowsSlot v p t h s.site slot
 
 -- ---- operands of what it finds
@@ -47,7 +47,7 @@ pub record IsFound {N : Type 0} (m : MapNets N) (ss : List (OwnSite N)) (r : Fou
   pub found : IsOperand r.found
   pub found_bits : HasBits m.bits r.found
 
-pub record Finds {N : Type 0} (v : Env N) (p : ProgramView) (t : TableState) (h : Held) (m : MapNets N) (s : OwnSite N) (ss : List (OwnSite N)) (r : FoundNets N) : Type 0 where
+pub record Finds {N : Type 0} (v : Env N) (p : ProgramView) (t : TableState) (h : StageValues) (m : MapNets N) (s : OwnSite N) (ss : List (OwnSite N)) (r : FoundNets N) : Type 0 where
   pub shows : Shows v p t h m s ss
   pub pending : ShowPending v p t h (sites_of ss) r.pending.items
   pub key : ShowsKey v p t h (sites_of ss) s.site r.key
@@ -69,9 +69,9 @@ pub record AreCells {N : Type 0} (bits width : ℕ) (o : ReadNets N) : Type 0 wh
   pub answer : IsOperand o.answer
   pub answer_bits : HasBits width o.answer
 
--- Wires become more, and behind them operands stand for the cells that a site reads in a row: for the pointer of the one that says whether its key is
+-- Wires become more, and after them operands stand for the cells that a site reads in a row: for the pointer of the one that says whether its key is
 -- there, for its value, and for bits of its answer.
-pub record Reads {P : Type 0} (part : P) (old new : List (BlockWireTree (Name P))) (m : MapNets (Name P)) (s : OwnSite (Name P)) (ss : List (OwnSite (Name P))) (slot : Operand (Name P)) (from width : ℕ) (p : ProgramView) (t : TableState) (h : Held) (row : ℕ → ℕ) (r : ℕ) (packet : PacketIn) (c : CellView) (o : ReadNets (Name P)) : Type 0 where
+pub record Reads {P : Type 0} (part : P) (old new : List (BlockWireTree (Name P))) (m : MapNets (Name P)) (s : OwnSite (Name P)) (ss : List (OwnSite (Name P))) (slot : Operand (Name P)) (from width : ℕ) (p : ProgramView) (t : TableState) (h : StageValues) (row : ℕ → ℕ) (r : ℕ) (packet : PacketIn) (c : CellView) (o : ReadNets (Name P)) : Type 0 where
   pub found : Gives part old new (slot ∷ taken m s ss) (λ v. ShowsBoth v p t h m s ss slot) (λ v. pointer_number (cell_pointer p row r t h c (Found s.site))) m.bits o.found
   pub there : Gives part old new (slot ∷ taken m s ss) (λ v. ShowsBoth v p t h m s ss slot) (λ v. cell_number p row r t packet h c (Found s.site)) 1 o.there
   pub answer : Gives part old new (slot ∷ taken m s ss) (λ v. ShowsBoth v p t h m s ss slot) (λ v. bits_from (cell_number p row r t packet h c (Answer s.site)) from width) width o.answer

@@ -8,7 +8,7 @@ use Rattle.overlay_net.specs.xdp_maps.declared.decl.MapKind.TheVariants as kind
 use Rattle.overlay_net.specs.cell_core.Sites.{ProgramView, site_at}
 use Rattle.pipe_core.specs.hazard_core.Tables.{TableState, decl_of, table_at, used_count}
 use Rattle.pipe_core.specs.hazard_core.Tabled.{IsTable}
-use Rattle.pipe_core.specs.hazard_core.Held.{Held}
+use Rattle.pipe_core.specs.hazard_core.StageValues.{StageValues}
 use Rattle.overlay_net.specs.cell_nets.declared.operand.Operand.{Operand}
 use Rattle.overlay_net.specs.cell_nets.Operands.{number_in, IsOperand, IsNarrow}
 use Rattle.overlay_net.specs.declared.site_operands.Pending.{Pending}
@@ -70,7 +70,7 @@ pub record IsMapOf (t : TableState) (m : ℕ) (d : MapDecl) : Type 0 where
   pub table : IsTable d (table_at t m)
 
 -- ---- operands stand for what it asks, and for all of its cells
-abbrev pub ShowsOwn : {N : Type 0} → Env N → ProgramView → Held → OwnSite N → Type 0
+abbrev pub ShowsOwn : {N : Type 0} → Env N → ProgramView → StageValues → OwnSite N → Type 0
 ShowsOwn v p h s = ShowsSite v p h s.site (operands_of s.nets.now)
 
 -- those of a hash for its slots, and for how many are used; the ones of an array are known

@@ -5,7 +5,7 @@ ghost use Rattle.overlay_net.specs.xdp_machine.State.{PacketIn};
 ghost use Rattle.overlay_net.specs.cell_core.declared.operator.Operator.TheVariants.{Answer};
 ghost use Rattle.overlay_net.specs.cell_core.Cells.{CellView, bits_from};
 ghost use Rattle.overlay_net.specs.cell_core.Sites.{ProgramView, site_at};
-ghost use Rattle.pipe_core.specs.hazard_core.Held.{Held, access_pointer};
+ghost use Rattle.pipe_core.specs.hazard_core.StageValues.{StageValues, access_pointer};
 ghost use Rattle.pipe_core.specs.hazard_core.Rows.{cell_number};
 ghost use Rattle.pipe_core.specs.hazard_core.Tables.{TableState};
 ghost use Rattle.overlay_net.specs.cell_nets.Operands.{IsOperand};
@@ -46,7 +46,7 @@ pub fn access<P: Copy>(
     requires word { IsOperand word }
     requires from { from ≤ 63 }
     requires width { width ≤ 64 }
-    ensures { (p : ProgramView) (t : TableState) (h : Held) (row : ℕ → ℕ) (r : ℕ) (packet : PacketIn) (c : CellView) → let s = site_at p.sites site.now.site in
+    ensures { (p : ProgramView) (t : TableState) (h : StageValues) (row : ℕ → ℕ) (r : ℕ) (packet : PacketIn) (c : CellView) → let s = site_at p.sites site.now.site in
         IsReadOf p t row r map.now site.now earlier.now → HaveOperands p earlier.now → HasValue t s.map (access_pointer h s)
         → IfOk result (Gives part (wires_of wires.old.items) (wires_of wires.new.items) (word ∷ taken map.now site.now earlier.now)
         (λ v. Shows v p t h map.now site.now earlier.now × ShowsWord v t s.map (access_start site.now.act / 8) (access_pointer h s) word)

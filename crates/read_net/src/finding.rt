@@ -2,7 +2,7 @@
 
 ghost use Rattle.std.specs.Prelude.{◌≡◌, ◌∷◌, ◌++◌, ◌*◌, ◌≤◌, All, length, IfOk};
 ghost use Rattle.overlay_net.specs.cell_core.Sites.{ProgramView, site_at};
-ghost use Rattle.pipe_core.specs.hazard_core.Held.{Held};
+ghost use Rattle.pipe_core.specs.hazard_core.StageValues.{StageValues};
 ghost use Rattle.pipe_core.specs.hazard_core.Tables.{TableState};
 ghost use Rattle.overlay_net.specs.cell_nets.Operands.{IsOperand};
 ghost use Rattle.overlay_net.specs.cell_nets.Wires.{wires_of, HasBits};
@@ -45,7 +45,7 @@ pub(crate) fn find<'a, P: Copy>(
     requires slot { IsOperand slot }
     requires bits { HasBits map.now.bits slot }
     ensures operands { IfOk result (IsFound map.now earlier.now) }
-    ensures stands { (p : ProgramView) (t : TableState) (h : Held) → (site_at p.sites site.now.site).act ≡ site.now.act → All (IsOwn p (site_at p.sites site.now.site).map) earlier.now → IsMapOf t (site_at p.sites site.now.site).map map.now.decl.now → IfOk result (λ r. Stands part (wires_of wires.old.items) (wires_of wires.new.items) (slot ∷ taken map.now site.now earlier.now)
+    ensures stands { (p : ProgramView) (t : TableState) (h : StageValues) → (site_at p.sites site.now.site).act ≡ site.now.act → All (IsOwn p (site_at p.sites site.now.site).map) earlier.now → IsMapOf t (site_at p.sites site.now.site).map map.now.decl.now → IfOk result (λ r. Stands part (wires_of wires.old.items) (wires_of wires.new.items) (slot ∷ taken map.now site.now earlier.now)
         (λ v. ShowsBoth v p t h map.now site.now earlier.now slot) (r.key ∷ r.found ∷ all_read r.pending.items ++ taken map.now site.now earlier.now) (λ v. Finds v p t h map.now site.now earlier.now r)) }
 {
     let pending = pendings(alloc, wires, part, map, earlier)?;

@@ -2,7 +2,7 @@
 
 ghost use Rattle.std.specs.Prelude.{ℕ, ◌≡◌, ◌*◌, ◌≤◌, ◌++◌, All, length, IfOk};
 ghost use Rattle.overlay_net.specs.cell_core.Sites.{ProgramView, site_at};
-ghost use Rattle.pipe_core.specs.hazard_core.Held.{Held, asked_key, slot_pointer};
+ghost use Rattle.pipe_core.specs.hazard_core.StageValues.{StageValues, asked_key, slot_pointer};
 ghost use Rattle.pipe_core.specs.hazard_core.Tables.{TableState, table_at};
 ghost use Rattle.overlay_net.specs.cell_nets.Operands.{IsOperand};
 ghost use Rattle.overlay_net.specs.cell_nets.Wires.{wires_of, HasBits, Gives};
@@ -33,7 +33,7 @@ pub fn slot_under<P: Copy>(
     requires key { map.now.decl.now.key ≤ 8 * length nets.now.key.items }
     ensures operand { IfOk result IsOperand }
     ensures bits { IfOk result (HasBits map.now.bits) }
-    ensures gives { (p : ProgramView) (t : TableState) (h : Held) (j : ℕ) → IsMapOf t (site_at p.sites j).map map.now.decl.now → IfOk result (Gives part (wires_of wires.old.items) (wires_of wires.new.items) (all_of (operands_of nets.now) ++ slot_cells map.now)
+    ensures gives { (p : ProgramView) (t : TableState) (h : StageValues) (j : ℕ) → IsMapOf t (site_at p.sites j).map map.now.decl.now → IfOk result (Gives part (wires_of wires.old.items) (wires_of wires.new.items) (all_of (operands_of nets.now) ++ slot_cells map.now)
         (λ v. ShowsAsked v p h j (operands_of nets.now) × ShowsTable v t (site_at p.sites j).map map.now) (λ v. pointer_number (slot_pointer (table_at t (site_at p.sites j).map) (asked_key t.decls h (site_at p.sites j)))) map.now.bits) }
 {
     match map.decl.kind {

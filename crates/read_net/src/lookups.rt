@@ -5,7 +5,7 @@ ghost use Rattle.overlay_net.specs.xdp_machine.State.{PacketIn};
 ghost use Rattle.overlay_net.specs.cell_core.declared.site.Act.TheVariants as does;
 ghost use Rattle.overlay_net.specs.cell_core.Cells.{CellView};
 ghost use Rattle.overlay_net.specs.cell_core.Sites.{ProgramView};
-ghost use Rattle.pipe_core.specs.hazard_core.Held.{Held};
+ghost use Rattle.pipe_core.specs.hazard_core.StageValues.{StageValues};
 ghost use Rattle.pipe_core.specs.hazard_core.Tables.{TableState};
 ghost use Rattle.overlay_net.specs.cell_nets.Operands.{IsOperand};
 ghost use Rattle.overlay_net.specs.cell_nets.Wires.{wires_of, HasBits};
@@ -44,7 +44,7 @@ pub fn lookup<P: Copy>(
     requires from { from ≤ 63 }
     requires width { width ≤ 64 }
     ensures cells { IfOk result (AreCells map.now.bits width) }
-    ensures reads { (p : ProgramView) (t : TableState) (h : Held) (row : ℕ → ℕ) (r : ℕ) (packet : PacketIn) (c : CellView) → IsReadOf p t row r map.now site.now earlier.now
+    ensures reads { (p : ProgramView) (t : TableState) (h : StageValues) (row : ℕ → ℕ) (r : ℕ) (packet : PacketIn) (c : CellView) → IsReadOf p t row r map.now site.now earlier.now
         → IfOk result (Reads part (wires_of wires.old.items) (wires_of wires.new.items) map.now site.now earlier.now slot from width p t h row r packet c) }
 {
     let own = find(alloc, wires, part, map, site, earlier, slot)?;

@@ -4,7 +4,7 @@ ghost use Rattle.std.specs.Prelude.{ℕ, ◌∷◌, ◌++◌, ◌≡◌, All, If
 ghost use Rattle.overlay_net.specs.xdp_maps.declared.decl.MapKind.TheVariants as kind;
 ghost use Rattle.overlay_net.specs.cell_core.declared.site.Act.TheVariants as does;
 ghost use Rattle.overlay_net.specs.cell_core.Sites.{ProgramView};
-ghost use Rattle.pipe_core.specs.hazard_core.Held.{Held};
+ghost use Rattle.pipe_core.specs.hazard_core.StageValues.{StageValues};
 ghost use Rattle.pipe_core.specs.hazard_core.Tables.{TableState};
 ghost use Rattle.overlay_net.specs.cell_nets.Operands.{IsOperand};
 ghost use Rattle.overlay_net.specs.cell_nets.Wires.{wires_of, HasBits};
@@ -36,7 +36,7 @@ fn written_slot<P: Copy>(
     requires own { IsWhole map.now own.now }
     ensures operand { IfOk result IsOperand }
     ensures bits { IfOk result (HasBits map.now.bits) }
-    ensures stands { (p : ProgramView) (t : TableState) (h : Held) (m : ℕ) → IsOwn p m own.now → IsMapOf t m map.now.decl.now → IfOk result (λ o. Stands part (wires_of wires.old.items) (wires_of wires.new.items) (cells_of own.now ++ slot_cells map.now)
+    ensures stands { (p : ProgramView) (t : TableState) (h : StageValues) (m : ℕ) → IsOwn p m own.now → IsMapOf t m map.now.decl.now → IfOk result (λ o. Stands part (wires_of wires.old.items) (wires_of wires.new.items) (cells_of own.now ++ slot_cells map.now)
         (λ v. ShowsOwn v p h own.now × ShowsTable v t m map.now) (o ∷ cells_of own.now ++ slot_cells map.now) (λ v. (ShowsOwn v p h own.now × ShowsTable v t m map.now) × (own.now.act ≡ does.Update → map.now.decl.now.kind ≡ kind.Array → ShowsSlot v p t h own.now.site o))) }
 {
     match map.decl.kind {
@@ -63,7 +63,7 @@ fn pending<'a, P: Copy>(
     requires own { IsWhole map.now own.now }
     ensures seen { IfOk result (IsSeen map.now.decl.now.key map.now.bits) }
     ensures of { IfOk result (IsSeenOf own.now) }
-    ensures stands { (p : ProgramView) (t : TableState) (h : Held) (m : ℕ) → IsOwn p m own.now → IsMapOf t m map.now.decl.now → IfOk result (λ d. Stands part (wires_of wires.old.items) (wires_of wires.new.items) (cells_of own.now ++ slot_cells map.now)
+    ensures stands { (p : ProgramView) (t : TableState) (h : StageValues) (m : ℕ) → IsOwn p m own.now → IsMapOf t m map.now.decl.now → IfOk result (λ d. Stands part (wires_of wires.old.items) (wires_of wires.new.items) (cells_of own.now ++ slot_cells map.now)
         (λ v. ShowsOwn v p h own.now × ShowsTable v t m map.now) (read_of d) (λ v. ShowsPending v p t h own.now.site d)) }
 {
     let wrote = writes(alloc, wires, part, own.act, map.decl, own.nets)?;
@@ -91,7 +91,7 @@ pub fn pendings<'a, P: Copy>(
     requires earlier { All (IsWhole map.now) earlier.now }
     ensures seen { IfOk result (λ r. All (IsSeen map.now.decl.now.key map.now.bits) r.items) }
     ensures of { IfOk result (λ r. AreSeenOf earlier.now r.items) }
-    ensures stands { (p : ProgramView) (t : TableState) (h : Held) (m : ℕ) → All (IsOwn p m) earlier.now → IsMapOf t m map.now.decl.now → IfOk result (λ r. Stands part (wires_of wires.old.items) (wires_of wires.new.items) (all_cells earlier.now ++ slot_cells map.now)
+    ensures stands { (p : ProgramView) (t : TableState) (h : StageValues) (m : ℕ) → All (IsOwn p m) earlier.now → IsMapOf t m map.now.decl.now → IfOk result (λ r. Stands part (wires_of wires.old.items) (wires_of wires.new.items) (all_cells earlier.now ++ slot_cells map.now)
         (λ v. All (ShowsOwn v p h) earlier.now × ShowsTable v t m map.now) (all_read r.items ++ (all_cells earlier.now ++ slot_cells map.now)) (λ v. (All (ShowsOwn v p h) earlier.now × ShowsTable v t m map.now) × ShowPending v p t h (sites_of earlier.now) r.items)) }
 {
     let mut all = Vec::new(alloc);

@@ -3,13 +3,14 @@ use Rattle.std.specs.Prelude.{ℕ, ◌+◌, ◌-◌, ◌≤◌, None, List, [], 
 use Rattle.std.specs.List.{AllByRecursion}
 use Rattle.std.proofs.Common.{arith}
 use Rattle.std.proofs.Math.Nat.{mul-le-mul_left}
-use Rattle.net_core.specs.beat_core.declared.answer.Answer.{Answer}
+use Rattle.beat_core.specs.declared.answer.Answer.{Answer}
 use Rattle.xdp_machine.specs.xdp_maps.State.{MapState}
 use Rattle.xdp_machine.specs.Touched.{Touched}
 use Rattle.net_core.specs.declared.ports.Inputs.{Inputs}
 use Rattle.net_core.specs.Nets.{Netlist}
 use Rattle.net_core.specs.Clock.{Stored}
-use Rattle.net_core.specs.History.{Arrival, Drive, drive, arrivals, answers_given, stored_after, trace}
+use Rattle.net_core.specs.Trace.{stored_after, trace}
+use Rattle.realization.specs.History.{Arrival, Drive, drive, arrivals, answers_given}
 use Rattle.realization.specs.Bounds.{clock_bound, clock_bound_apart, most_beats}
 use Rattle.realization.specs.Realizes.{IsPacket, IsPattern, IsPrefix, IsWhole, frames_in, all_offers}
 use Rattle.realization.specs.Laws.{MeetsMore}

@@ -1,27 +1,24 @@
 -- The frames that well-formed beats make, under numbers that fit their ports, are packets.
-use Rattle.std.specs.Prelude.{◌≡◌, ℕ, zero, suc, ◌*◌, ◌^◌, ◌<◌, min, if◌then◌else◌, Bool, true, false, Option, Some, None, List, [], ◌∷◌, ◌++◌, length}
+use Rattle.std.specs.Prelude.{◌≡◌, ℕ, zero, suc, ◌*◌, ◌^◌, ◌<◌, min, if◌then◌else◌, Bool, true, false, Option, Some, None, List, [], ◌∷◌, length}
 use Rattle.std.specs.List.{AllByRecursion}
 use Rattle.std.proofs.Common.{refl, arith, length-append}
-use Rattle.net_core.specs.beat_core.declared.beat.Beat.{Beat}
-use Rattle.net_core.specs.beat_core.declared.frame.TheConstants.{BEAT_LIMIT}
-use Rattle.net_core.specs.beat_core.Beats.{bytes_of_beat, IsOffer}
-use Rattle.net_core.specs.beat_core.Clocks.{AreOffers}
-use Rattle.net_core.specs.beat_core.Ports.{offered, Arrival, arrived, arrivals_among}
-use Rattle.net_core.proofs.beat_core_laws.BeatLaws.{IsOffer-count, IsOffer-eight}
-use Rattle.net_core.proofs.beat_core_laws.WordLaws.{length-low_bytes, IsBytes-low_bytes}
-use Rattle.net_core.specs.list_laws.Bytes.{IsBytes}
+use Rattle.beat_core.proofs.list_laws_laws.ByteLaws.{IsBytes-append}
+use Rattle.beat_core.specs.declared.beat.Beat.{Beat}
+use Rattle.beat_core.specs.declared.frame.TheConstants.{BEAT_LIMIT}
+use Rattle.beat_core.specs.Beats.{bytes_of_beat, IsOffer}
+use Rattle.beat_core.specs.Clocks.{AreOffers}
+use Rattle.beat_core.specs.Ports.{offered, Arrival, arrived, arrivals_among}
+use Rattle.beat_core.proofs.BeatLaws.{IsOffer-count, IsOffer-eight}
+use Rattle.beat_core.proofs.WordLaws.{length-low_bytes, IsBytes-low_bytes}
+use Rattle.beat_core.specs.list_laws.Bytes.{IsBytes}
 use Rattle.net_core.specs.declared.ports.Inputs.{Inputs}
 use Rattle.net_core.specs.Nets.{Netlist}
 use Rattle.net_core.specs.Clock.{Stored, after}
 use Rattle.net_core.specs.Ports.{words_of}
-use Rattle.net_core.specs.History.{Cycle, cycle_of, trace, goes_in, offered_beat, beats_in, offers_in, IsInput}
+use Rattle.net_core.specs.Trace.{Cycle, cycle_of, trace, IsInput}
+use Rattle.realization.specs.History.{goes_in, offered_beat, beats_in, offers_in}
 use Rattle.realization.specs.Realizes.{IsPacket}
 use Rattle.realization.specs.Laws.{PatternsBringPackets}
-
-bytes_append : (xs ys : List ℕ) → IsBytes xs → IsBytes ys → IsBytes (xs ++ ys)
-bytes_append [] ys h k i = k i
-bytes_append (x ∷ xs) ys h k zero = h 0
-bytes_append (x ∷ xs) ys h k (suc i) = bytes_append xs ys (λ j. h (suc j)) k i
 
 -- So many beats of a frame have come, each with eight bytes.
 pub record HasBegun (n : ℕ) (a : Arrival) : Type 0 where
@@ -47,7 +44,7 @@ module _ (n : ℕ) (b : Beat) (offer : IsOffer b) (room : n < BEAT_LIMIT) (ifind
   }
   ends (Some a) begun = record {
     frame = record {
-      bytes = bytes_append a.frame (bytes_of_beat b) begun.bytes (IsBytes-low_bytes (min b.bytes 8) b.word);
+      bytes = IsBytes-append a.frame (bytes_of_beat b) begun.bytes (IsBytes-low_bytes (min b.bytes 8) b.word);
       some = omega (arith, count, IsOffer-count b offer, length-append a.frame (bytes_of_beat b));
       room = omega (arith, count, IsOffer-count b offer, length-append a.frame (bytes_of_beat b), begun.len, room);
     };
@@ -60,12 +57,12 @@ module _ (n : ℕ) (b : Beat) (offer : IsOffer b) (room : n < BEAT_LIMIT) (ifind
   goes_on None begun on = record { len = omega (arith, count, IsOffer-eight b offer on, begun); bytes = IsBytes-low_bytes (min b.bytes 8) b.word; ifindex = ifindex_fits; time = time_fits }
   goes_on (Some a) begun on = record {
     len = omega (arith, count, IsOffer-eight b offer on, length-append a.frame (bytes_of_beat b), begun.len);
-    bytes = bytes_append a.frame (bytes_of_beat b) begun.bytes (IsBytes-low_bytes (min b.bytes 8) b.word);
+    bytes = IsBytes-append a.frame (bytes_of_beat b) begun.bytes (IsBytes-low_bytes (min b.bytes 8) b.word);
     ifindex = begun.ifindex;
     time = begun.time;
   }
 
--- clocks behind which packets come, whatever has come before them
+-- clocks after which packets come, whatever has come before them
 abbrev ComesOn : List Cycle → Type 0
 ComesOn ms = (n : ℕ) (part : Option Arrival) → IsBegun n part → AreOffers n (beats_in ms) → AllByRecursion IsPacket (arrivals_among part (offers_in ms))
 

@@ -1,6 +1,6 @@
 -- The stated clocks, counted from the first offered beat to the one with which the last answer is whole.
 use Rattle.std.specs.Prelude.{ℕ, zero, suc, ◌+◌, ◌*◌, max, List, [], ◌∷◌, length, Contains}
-use Rattle.net_core.specs.beat_core.Beats.{beat_count}
+use Rattle.beat_core.specs.Beats.{beat_count}
 use Rattle.xdp_machine.specs.xdp_maps.Touched.{Resource}
 use Rattle.xdp_machine.specs.Touched.{Touched}
 
@@ -26,9 +26,9 @@ ReadOthers (suc n) writes [] = Unit {0}
 ReadOthers (suc n) writes (t ∷ ts) = AreOthers t.reads writes × ReadOthers n writes ts
 
 -- no run reads what one of the n before it wrote
-abbrev pub AreApart : ℕ → List Touched → Type 0
-AreApart n [] = Unit {0}
-AreApart n (t ∷ ts) = ReadOthers n t.writes ts × AreApart n ts
+abbrev pub ConflictFree : ℕ → List Touched → Type 0
+ConflictFree n [] = Unit {0}
+ConflictFree n (t ∷ ts) = ReadOthers n t.writes ts × ConflictFree n ts
 
 -- the clocks of each frame, with the operations of its run that write
 abbrev pub packet_clocks : List (List ℕ) → List Touched → ℕ

@@ -1,13 +1,14 @@
 -- What holds of every design, whatever is wanted of it.
 use Rattle.std.specs.Prelude.{ℕ, ◌≤◌, None, List}
 use Rattle.std.specs.List.{AllByRecursion}
-use Rattle.net_core.specs.beat_core.declared.answer.Answer.{Answer}
+use Rattle.beat_core.specs.declared.answer.Answer.{Answer}
 use Rattle.xdp_machine.specs.xdp_maps.State.{MapState}
 use Rattle.xdp_machine.specs.Touched.{Touched}
 use Rattle.net_core.specs.declared.ports.Inputs.{Inputs}
 use Rattle.net_core.specs.Nets.{Netlist}
 use Rattle.net_core.specs.Clock.{Stored}
-use Rattle.net_core.specs.History.{Arrival, arrivals, trace}
+use Rattle.net_core.specs.Trace.{trace}
+use Rattle.realization.specs.History.{Arrival, arrivals}
 use Rattle.realization.specs.Realizes.{IsPattern, IsPacket, Meets}
 
 -- What goes over whole in a pattern are packets.

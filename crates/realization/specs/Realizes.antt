@@ -1,22 +1,23 @@
 -- A design that answers frames as is wanted, whatever is offered and taken, and in the stated clocks, and then shows the host the
 -- wanted maps.
 --
--- What is wanted is a relation of packets that came, in their order, their answers, and the maps behind the last of them.
+-- What is wanted is a relation of packets that came, in their order, their answers, and the maps after the last of them.
 use Rattle.std.specs.Prelude.{◌≡◌, ℕ, ◌+◌, ◌-◌, ◌^◌, ◌<◌, ◌≤◌, None, List, [], ◌∷◌, ◌++◌, length, map as map_list}
 use Rattle.std.specs.List.{flat_map, AllByRecursion}
-use Rattle.net_core.specs.beat_core.declared.beat.Beat.{Beat}
-use Rattle.net_core.specs.beat_core.Beats.{beats_of}
-use Rattle.net_core.specs.beat_core.Filling.{filled_up}
-use Rattle.net_core.specs.beat_core.Clocks.{AreOffers}
-use Rattle.net_core.specs.beat_core.Laws.{IsFrame}
-use Rattle.net_core.specs.beat_core.Ports.{Offered, offered, arrivals_among}
+use Rattle.beat_core.specs.declared.beat.Beat.{Beat}
+use Rattle.beat_core.specs.Beats.{beats_of}
+use Rattle.beat_core.specs.Filling.{filled_up}
+use Rattle.beat_core.specs.Clocks.{AreOffers}
+use Rattle.beat_core.specs.Laws.{IsFrame}
+use Rattle.beat_core.specs.Ports.{Offered, offered, arrivals_among}
 use Rattle.xdp_machine.specs.xdp_maps.State.{MapState}
 use Rattle.xdp_machine.specs.Touched.{Touched}
 use Rattle.net_core.specs.declared.ports.Inputs.{Inputs}
 use Rattle.net_core.specs.Nets.{Netlist}
 use Rattle.net_core.specs.Clock.{Stored}
-use Rattle.net_core.specs.History.{Cycle, trace, stored_after, NeverStops, beats_in, offers_in, Arrival, arrivals, answers_given, open_beats, IsInput, IsSilent, Drive, Answered, drive}
-use Rattle.net_core.specs.beat_core.declared.answer.Answer.{Answer}
+use Rattle.net_core.specs.Trace.{Cycle, trace, stored_after, NeverStops, IsInput, IsSilent}
+use Rattle.beat_core.specs.declared.answer.Answer.{Answer}
+use Rattle.realization.specs.History.{beats_in, offers_in, Arrival, arrivals, answers_given, open_beats, Drive, Answered, drive}
 use Rattle.realization.specs.HostHistory.Host.{ShowsMaps}
 use Rattle.realization.specs.Bounds.{clock_bound, clock_bound_apart, most_beats}
 
@@ -63,7 +64,7 @@ beats_offered os = map_list (λ o. o.beat) os
 abbrev pub inputs_in : List Cycle → List Inputs
 inputs_in ms = map_list (λ m. m.given) ms
 
--- Behind these clocks a drive ended with its last answer. Together with those that came before it all answers are the wanted ones,
+-- After these clocks a drive ended with its last answer. Together with those that came before it all answers are the wanted ones,
 -- and the host is shown the wanted maps.
 pub record IsWhole (d : Netlist) (s : Stored) (is : List Inputs) (r : Drive) (packets : List Arrival) (wanted : List Arrival → List Answer → MapState → Type 0) : Type 0 where
   pub ended : r.ended ≡ Answered

@@ -1,7 +1,6 @@
 //! What is wanted of a design: its port history, clock by clock, beside the packet runs of a program.
-//! `host_history` says what the host writes before the first beat and reads after the last answer, `same_designs` that a design which shows the same meets the same.
+//! `specs/HostHistory` says what the host writes before the first beat and reads after the last answer, `same_designs` that a design which shows the same meets the same.
 #![tactic(auto)]
 
-pub mod host_history;
 pub mod laws;
 pub mod same_designs;

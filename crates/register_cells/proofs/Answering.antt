@@ -26,12 +26,12 @@ use Rattle.kind_core.specs.Effects.{effect_of, effect_as, verdict}
 use Rattle.kind_core.specs.Edges.{transferred, changed_if}
 use Rattle.cell_core.specs.Cells.{CellView, IsRun, bit, on}
 use Rattle.operator_cells.specs.Making.{Grows}
-use Rattle.operator_cells.specs.declared.held_cells.held.Held.{Held}
-use Rattle.operator_cells.specs.HeldCells.Held.{PointerView, Holds, Counts, AreInside}
+use Rattle.operator_cells.specs.declared.held_cells.machine_cells.RegisterCells.{RegisterCells}
+use Rattle.operator_cells.specs.HeldCells.RegisterCells.{PointerView, Holds, Counts, AreInside}
 use Rattle.operator_cells.specs.HeldCells.Carrying.{IsKnown, Carries}
 use Rattle.cell_core.specs.xdp_machine.Arithmetic.{low}
 use Rattle.register_cells.proofs.Finding.{low_same}
-use Rattle.operator_cells.specs.HeldCells.Held.{number_of}
+use Rattle.operator_cells.specs.HeldCells.RegisterCells.{number_of}
 use Rattle.register_cells.specs.Reading.{IsRead}
 use Rattle.register_cells.proofs.Known.{register_read}
 use Rattle.kind_core.proofs.TestLaws.{bind_passed}
@@ -52,7 +52,7 @@ answered_each P ks hs xs n c k y some one none all (suc (suc (suc (suc (suc (suc
     let h : slice_index (set_list hs 0 c) (suc (suc (suc (suc (suc (suc r)))))) ≡ slice_index hs (suc (suc (suc (suc (suc (suc r)))))) = get_or-set_other hs 0 (suc (suc (suc (suc (suc (suc r)))))) c 0 (λ q. absurd (omega (arith, q))) in
     rw (get_or-drop 6 ks r Unset ∙ ap (λ (j : ℕ). get_or ks j Unset) e, h, get_or-drop 6 xs r is.Unset ∙ ap (λ (j : ℕ). get_or xs j is.Unset) e) (all (suc (suc (suc (suc (suc (suc r)))))) l)
 
-pub answer_carried : (decls : List MapDecl) (ps : List PointerView) (i : Insn) (node : ℕ) (is_ref : Bool) (k : Kinds) (h : Held) (old new : List CellView) (c t : ℕ) → Grows old new → c < length new → t < length new → length h.registers ≡ 11
+pub answer_carried : (decls : List MapDecl) (ps : List PointerView) (i : Insn) (node : ℕ) (is_ref : Bool) (k : Kinds) (h : RegisterCells) (old new : List CellView) (c t : ℕ) → Grows old new → c < length new → t < length new → length h.registers ≡ 11
     → AreInside decls (length old) ps h k → transferred decls k i node is_ref false ≡ answering (Num Unknown) k
     → ((packet : PacketIn) (v : ℕ → ℕ) (m n : Machine) (refs : List ℕ) → IsRun packet new v → IsKnown decls packet v ps node k h m → effect refs m i i.op ≡ Some n
     → (y tg : ℕ) × (n ≡ helpers.answering (is.Number y) (record m { target = tg })) × (y ≡ v c) × (tg ≡ v t))
@@ -81,7 +81,7 @@ answer_carried decls ps i node is_ref k h old new c t grows there target hs insi
           });
     }
 
--- the kinds behind a helper that gives a number and changes no map
+-- the kinds after a helper that gives a number and changes no map
 pub answer_is : (decls : List MapDecl) (k : Kinds) (i : Insn) (node : ℕ) (is_ref : Bool) (id : ℤ) → i.op ≡ Call → i.imm ≡ id → ((e : _) → called decls k id (helper_of id) ≡ Ok e → changed_if node is_ref false k (Ok e) ≡ answering (Num Unknown) k) → verdict (effect_of decls k i) ≡ passed
     → transferred decls k i node is_ref false ≡ answering (Num Unknown) k
 unfolding effect_of
@@ -156,7 +156,7 @@ redirected_is a (suc b) m n flags interface old sent c t e h f g o l s p q =
       sym (q ∙ ap (λ (k : ℕ). low 32 (if on k then interface else old)) none ∙ ap (low 32) (sym o) ∙ low_same 32 m.target l),
     )
 
-pub number_read : (decls : List MapDecl) (packet : PacketIn) (v : ℕ → ℕ) (ps : List PointerView) (node : ℕ) (k : Kinds) (h : Held) (m : Machine) (r : ℕ) (n : Number) → IsKnown decls packet v ps node k h m → r ≤ 10 → kinds.register k r ≡ Num n
+pub number_read : (decls : List MapDecl) (packet : PacketIn) (v : ℕ → ℕ) (ps : List PointerView) (node : ℕ) (k : Kinds) (h : RegisterCells) (m : Machine) (r : ℕ) (n : Number) → IsKnown decls packet v ps node k h m → r ≤ 10 → kinds.register k r ≡ Num n
     → (register m.registers r ≡ is.Number (number_of v n (slice_index h.registers r))) × (number_of v n (slice_index h.registers r) < 2 ^ 64)
 number_read decls packet v ps node k h m r n known l e =
     subst (λ (x : Kind). IsRead decls packet v ps x (slice_index h.registers r) (register m.registers r)) e (register_read decls packet v ps node k h m r known l)

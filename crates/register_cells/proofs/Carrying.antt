@@ -1,4 +1,4 @@
--- A destination that is given a value carries what cells hold behind the instruction.
+-- A destination that is given a value carries what cells hold after the instruction.
 use Rattle.std.proofs.Common.{IfOk, ◌≡◌, ◌≢◌, ℕ, ◌<◌, ◌≤◌, ◌==◌, if◌then◌else◌, Bool, true, false, Option, Some, None, Result, Ok, Err, List, [], length, get_or, set as set_list, slice_index, slice_set, refl, sym, ◌∙◌, ap, subst, arith}
 use Rattle.std.proofs.lemmas.List.{get_or-set_same, get_or-set_other}
 use Rattle.cell_core.specs.bpf_isa.declared.operation.Op.{Op}
@@ -10,7 +10,7 @@ use Rattle.cell_core.specs.xdp_machine.Values as is
 use Rattle.cell_core.specs.xdp_machine.State.{Machine, PacketIn, put, with_registers}
 use Rattle.cell_core.specs.xdp_machine.Step.{effect}
 use Rattle.kind_core.specs.declared.kind.Kind.{Kind}
-use Rattle.kind_core.specs.declared.why.Why.{Why}
+use Rattle.xdp_state.specs.declared.refusal.Why.{Why}
 use Rattle.kind_core.specs.declared.kind.Kind.TheVariants.{Unset, Num, Maybe, Entry}
 use Rattle.kind_core.specs.declared.number.Number.TheVariants.{Known, Unknown}
 use Rattle.kind_core.specs.declared.kind.Kinds.{Kinds}
@@ -22,8 +22,8 @@ use Rattle.kind_core.specs.Effects.{effect_of, effect_as, verdict}
 use Rattle.kind_core.specs.Effects as effects
 use Rattle.kind_core.specs.Edges.{transferred, changed_if}
 use Rattle.cell_core.specs.Cells.{CellView}
-use Rattle.operator_cells.specs.declared.held_cells.held.Held.{Held}
-use Rattle.operator_cells.specs.HeldCells.Held.{PointerView, Holds, Counts, AreHeld, AreInside}
+use Rattle.operator_cells.specs.declared.held_cells.machine_cells.RegisterCells.{RegisterCells}
+use Rattle.operator_cells.specs.HeldCells.RegisterCells.{PointerView, Holds, Counts, AreHeld, AreInside}
 use Rattle.operator_cells.specs.HeldCells.Carrying.{Gives, Carries}
 use Rattle.register_cells.specs.Giving.{given, given_kind}
 use Rattle.kind_core.proofs.TestLaws.{bind_passed}
@@ -36,7 +36,7 @@ counts_more decls n m ps (Maybe q j) c l h = (h.0, pointer_later decls n m q _ l
 counts_more decls n m ps (Entry q o) c l h = (h.0, pointer_later decls n m q _ l h.1)
 counts_more decls n m ps x c l h = tt
 
-pub inside_more : (decls : List MapDecl) (n m : ℕ) (ps : List PointerView) (h : Held) (k : Kinds) → n ≤ m → AreInside decls n ps h k → AreInside decls m ps h k
+pub inside_more : (decls : List MapDecl) (n m : ℕ) (ps : List PointerView) (h : RegisterCells) (k : Kinds) → n ≤ m → AreInside decls n ps h k → AreInside decls m ps h k
 inside_more decls n m ps h k l i = record {
   registers = λ r s. counts_more decls n m ps _ _ l (i.registers r s);
   slots = λ r s. counts_more decls n m ps _ _ l (i.slots r s);
@@ -121,7 +121,7 @@ kind_is is_ref decls k i node t h =
     (a.0, a.1, ap (changed_if node is_ref false k) e.1 ∙ a.2)
 
 -- cells of the values with one register changed
-pub register_inside : (decls : List MapDecl) (n m : ℕ) (ps : List PointerView) (h : Held) (k : Kinds) (r c : ℕ) (x : Kind) → n ≤ m → r ≤ 10 → length k.registers ≡ 11 → length h.registers ≡ 11
+pub register_inside : (decls : List MapDecl) (n m : ℕ) (ps : List PointerView) (h : RegisterCells) (k : Kinds) (r c : ℕ) (x : Kind) → n ≤ m → r ≤ 10 → length k.registers ≡ 11 → length h.registers ≡ 11
     → AreInside decls n ps h k → Counts decls m ps x c → AreInside decls m ps (record h { registers = slice_set h.registers r c }) (with_register k r x)
 register_inside decls n m ps h k r c x l dst ks hs inside counts = let all = inside_more decls n m ps h k l inside in record {
   registers = λ j s. set_two (Counts decls m ps) k.registers h.registers Unset r 11 x c (omega (arith, dst, ks)) (omega (arith, dst, hs)) counts (λ q t. all.registers q (omega (arith, t))) j (omega (arith, s));
@@ -130,7 +130,7 @@ register_inside decls n m ps h k r c x l dst ks hs inside counts = let all = ins
   target = all.target;
 }
 
-pub register_held : (decls : List MapDecl) (packet : PacketIn) (v : ℕ → ℕ) (ps : List PointerView) (h : Held) (k : Kinds) (m : Machine) (r c : ℕ) (x : Kind) (y : Value) → r ≤ 10
+pub register_held : (decls : List MapDecl) (packet : PacketIn) (v : ℕ → ℕ) (ps : List PointerView) (h : RegisterCells) (k : Kinds) (m : Machine) (r c : ℕ) (x : Kind) (y : Value) → r ≤ 10
     → length k.registers ≡ 11 → length h.registers ≡ 11 → length m.registers ≡ 11 → AreHeld decls packet v ps h k m → Holds decls v ps x c y
     → AreHeld decls packet v ps (record h { registers = slice_set h.registers r c }) (with_register k r x) (record m { registers = slice_set m.registers r y })
 register_held decls packet v ps h k m r c x y dst ks hs ms held one = record {
@@ -146,7 +146,7 @@ register_held decls packet v ps h k m r c x y dst ks hs ms held one = record {
 }
 
 -- and with one slot of the stack changed
-pub slot_inside : (decls : List MapDecl) (n m : ℕ) (ps : List PointerView) (h : Held) (k : Kinds) (s c : ℕ) (x : Kind) → n ≤ m → s < 64 → length k.slots ≡ 64 → length h.slots ≡ 64
+pub slot_inside : (decls : List MapDecl) (n m : ℕ) (ps : List PointerView) (h : RegisterCells) (k : Kinds) (s c : ℕ) (x : Kind) → n ≤ m → s < 64 → length k.slots ≡ 64 → length h.slots ≡ 64
     → AreInside decls n ps h k → Counts decls m ps x c → AreInside decls m ps (record h { slots = slice_set h.slots s c }) (with_slot k s x)
 slot_inside decls n m ps h k s c x l below ks hs inside counts = let all = inside_more decls n m ps h k l inside in record {
   registers = all.registers;
@@ -155,7 +155,7 @@ slot_inside decls n m ps h k s c x l below ks hs inside counts = let all = insid
   target = all.target;
 }
 
-pub slot_held : (decls : List MapDecl) (packet : PacketIn) (v : ℕ → ℕ) (ps : List PointerView) (h : Held) (k : Kinds) (m : Machine) (s c : ℕ) (x : Kind) (y : Value) → s < 64
+pub slot_held : (decls : List MapDecl) (packet : PacketIn) (v : ℕ → ℕ) (ps : List PointerView) (h : RegisterCells) (k : Kinds) (m : Machine) (s c : ℕ) (x : Kind) (y : Value) → s < 64
     → length k.slots ≡ 64 → length h.slots ≡ 64 → length m.stack ≡ 64 → AreHeld decls packet v ps h k m → Holds decls v ps x c y
     → AreHeld decls packet v ps (record h { slots = slice_set h.slots s c }) (with_slot k s x) (record m { stack = slice_set m.stack s y })
 slot_held decls packet v ps h k m s c x y below ks hs ms held one = record {
@@ -170,7 +170,7 @@ slot_held decls packet v ps h k m s c x y below ks hs ms held one = record {
   time = held.time;
 }
 
-pub carried : (decls : List MapDecl) (ps : List PointerView) (i : Insn) (node : ℕ) (is_ref : Bool) (k : Kinds) (h : Held) (old new : List CellView) (c : ℕ) (x : Kind)
+pub carried : (decls : List MapDecl) (ps : List PointerView) (i : Insn) (node : ℕ) (is_ref : Bool) (k : Kinds) (h : RegisterCells) (old new : List CellView) (c : ℕ) (x : Kind)
     → writes_destination i.op ≡ true → i.dst ≤ 10 → length k.registers ≡ 11 → length h.registers ≡ 11 → AreInside decls (length old) ps h k
     → transferred decls k i node is_ref false ≡ with_register k i.dst x
     → ((refs : List ℕ) → Gives decls ps node k h old new x c (λ m. given refs m i i.op))
@@ -184,7 +184,7 @@ carried decls ps i node is_ref k h old new c x writes dst ks hs inside after giv
       rw (after, y.2) (register_held decls packet v ps h k m i.dst c x y.0 dst ks hs ms known.held ((gives refs).holds packet v m y.0 run known y.1));
 }
 
-pub carried_by : (decls : List MapDecl) (ps : List PointerView) (i : Insn) (node : ℕ) (is_ref : Bool) (k : Kinds) (h : Held) (old new : List CellView) (c : ℕ)
+pub carried_by : (decls : List MapDecl) (ps : List PointerView) (i : Insn) (node : ℕ) (is_ref : Bool) (k : Kinds) (h : RegisterCells) (old new : List CellView) (c : ℕ)
     → writes_destination i.op ≡ true → i.dst ≤ 10 → length k.registers ≡ 11 → length h.registers ≡ 11 → AreInside decls (length old) ps h k → verdict (effect_of decls k i) ≡ passed
     → ((refs : List ℕ) → IfOk (given_kind is_ref decls k i i.op) (λ x. Gives decls ps node k h old new x c (λ m. given refs m i i.op)))
     → Carries decls ps i node is_ref false k h (record h { registers = slice_set h.registers i.dst c }) old new

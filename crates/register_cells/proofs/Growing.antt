@@ -1,12 +1,12 @@
 -- More cells, and tests.
 use Rattle.std.proofs.Common.{◌≡◌, ℕ, Result, Ok, Err, IfOk, ◌∙◌, List}
 use Rattle.cell_core.specs.xdp_machine.State.{PacketIn}
-use Rattle.kind_core.specs.declared.why.Why.{Why}
+use Rattle.xdp_state.specs.declared.refusal.Why.{Why}
 use Rattle.cell_core.specs.Cells.{CellView, IsRun}
 use Rattle.operator_cells.specs.Making.{Grows, Makes}
 use Rattle.operator_cells.proofs.MakingLaws.{grown}
 
--- a cell behind others that were added before
+-- a cell after others that were added before
 pub makes_after : {a b d : List CellView} {c : ℕ} {f g : PacketIn → (ℕ → ℕ) → ℕ} → Grows a b → Makes b d c f
     → ((packet : PacketIn) (v : ℕ → ℕ) → IsRun packet b v → f packet v ≡ g packet v) → Makes a d c g
 makes_after before made same = record {

@@ -20,8 +20,8 @@ use Rattle.operator_cells.specs.row_rules.PlaceRows.Spans.{no_place, one, target
 use Rattle.operator_cells.specs.row_rules.PlaceRows.Reading.{call_reads, result_as, result_row}
 use Rattle.operator_cells.specs.row_rules.PlaceRows.Writing.{writes_as, is_open_in, made_row}
 use Rattle.operator_cells.proofs.row_rules_laws.PlaceRows.SpanLaws.{in_one, in_none, is_inside, one_row}
-use Rattle.operator_cells.specs.declared.held_cells.held.Held.{Held}
-use Rattle.operator_cells.specs.HeldCells.Held.{PointerView}
+use Rattle.operator_cells.specs.declared.held_cells.machine_cells.RegisterCells.{RegisterCells}
+use Rattle.operator_cells.specs.HeldCells.RegisterCells.{PointerView}
 use Rattle.operator_cells.specs.HeldCells.Rows.{number_at, value_row, held_row, LeavesTo, CarriesTo}
 use Rattle.operator_cells.proofs.HeldCells.RowLaws.{grows_by, register_row, target_row}
 use Rattle.register_cells.proofs.ValueLaws.{same_most, zero_most, trans_most}
@@ -30,7 +30,7 @@ use Rattle.register_cells.proofs.RegisterRows.{not_first, open_first, below}
 first_most : {a : ℕ} (b : ℕ) → a ≤ max a b
 first_most b = omega arith
 
-abbrev pub answered : Held → ℕ → ℕ → Held
+abbrev pub answered : RegisterCells → ℕ → ℕ → RegisterCells
 answered h c t = record h { registers = slice_set h.registers 0 c; target = t }
 
 -- R1 to R5 hold nothing, and later registers what they held
@@ -46,7 +46,7 @@ registers_kept row ps k hs c (suc (suc (suc (suc (suc (suc r)))))) other =
     let e : 6 + r ≡ suc (suc (suc (suc (suc (suc r))))) = omega arith in
     rw (get_or-drop 6 k.registers r Unset ∙ ap (λ (j : ℕ). get_or k.registers j Unset) e, get_or-set_other hs 0 (suc (suc (suc (suc (suc (suc r)))))) c 0 other) same_most
 
-module _ (ps : List PointerView) (k : Kinds) (h : Held) (c t : ℕ) where
+module _ (ps : List PointerView) (k : Kinds) (h : RegisterCells) (c t : ℕ) where
   answer_row : (row : ℕ → ℕ) → 0 < length h.registers → held_row row ps (answered h c t) (answering (Num Unknown) k) 0 ≡ row c
   answer_row row some = register_row row ps (answered h c t) (answering (Num Unknown) k) 0 (omega arith) ∙ ap (value_row row ps (Num Unknown)) (get_or-set_same h.registers 0 c 0 some) ∙ omega arith
 
@@ -70,7 +70,7 @@ module _ (ps : List PointerView) (k : Kinds) (h : Held) (c t : ℕ) where
       by false e false f false g = rw (e, f, g, last (omega (arith, within, ltb-false place 331 g))) refl
 
 -- the second span that is written: the target, or none where the target stays
-abbrev pub Second : ℕ → Held → Span → Type 0
+abbrev pub Second : ℕ → RegisterCells → Span → Type 0
 Second t h s = (s ≡ target) ⊎ ((s ≡ no_place) × (t ≡ h.target))
 
 some_in : (b : Bool) → (false || (b || false)) ≡ true → b ≡ true
@@ -92,7 +92,7 @@ in_second place s h = by (is_in place (one 0)) (is_in place s) h
     by false true f = absurd (cc)
     by false false f = refl
 
-leaves_answer : {old new : List CellView} {made result : (ℕ → ℕ) → ℕ} (ps : List PointerView) (k : Kinds) (h : Held) (c t : ℕ) (s : Span) → 0 < length h.registers → Second t h s
+leaves_answer : {old new : List CellView} {made result : (ℕ → ℕ) → ℕ} (ps : List PointerView) (k : Kinds) (h : RegisterCells) (c t : ℕ) (s : Span) → 0 < length h.registers → Second t h s
     → GrowsTo old new made → ((row : ℕ → ℕ) → AreRows new row → row c ≤ result row) → ((row : ℕ → ℕ) → AreRows new row → s ≡ target → row t ≤ result row)
     → LeavesTo (λ row. held_row row ps h k) ps h (answering (Num Unknown) k) (answered h c t) old new (one 0 ∷ s ∷ []) made result
 leaves_answer {new = new} {result = result} ps k h c t s some second grows first last = record {
@@ -117,7 +117,7 @@ leaves_answer {new = new} {result = result} ps k h c t s some second grows first
     stays place e f (inr none) = none.1
 
 -- what a helper that takes a row of its own answers
-answers_to : {old new : List CellView} (decls : List MapDecl) (ps : List PointerView) (i : Insn) (k after : Kinds) (h : Held) (c t : ℕ) (s : Span) → writes_as k i i.op ≡ one 0 ∷ s ∷ [] → after ≡ answering (Num Unknown) k
+answers_to : {old new : List CellView} (decls : List MapDecl) (ps : List PointerView) (i : Insn) (k after : Kinds) (h : RegisterCells) (c t : ℕ) (s : Span) → writes_as k i i.op ≡ one 0 ∷ s ∷ [] → after ≡ answering (Num Unknown) k
     → 0 < length h.registers → Second t h s → GrowsTo old new (λ row. result_row (held_row row ps h k) decls k after i)
     → ((row : ℕ → ℕ) → AreRows new row → row c ≤ result_row (held_row row ps h k) decls k after i) → ((row : ℕ → ℕ) → AreRows new row → s ≡ target → row t ≤ result_row (held_row row ps h k) decls k after i)
     → CarriesTo decls (λ row. held_row row ps h k) ps i k h after (answered h c t) old new
@@ -142,7 +142,7 @@ call_writes : (k : Kinds) (i : Insn) (id : ℤ) → i.op ≡ Call → i.imm ≡ 
 call_writes k i id op imm = ap (writes_as k i) op ∙ ap (λ (z : ℤ). one 0 ∷ (if int_eq z (pos 23) then target else no_place) ∷ []) imm
 
 -- the time
-pub time_to : {old new : List CellView} (decls : List MapDecl) (ps : List PointerView) (i : Insn) (k after : Kinds) (h : Held) (c : ℕ) → i.op ≡ Call → i.imm ≡ pos 5 → after ≡ answering (Num Unknown) k → 0 < length h.registers
+pub time_to : {old new : List CellView} (decls : List MapDecl) (ps : List PointerView) (i : Insn) (k after : Kinds) (h : RegisterCells) (c : ℕ) → i.op ≡ Call → i.imm ≡ pos 5 → after ≡ answering (Num Unknown) k → 0 < length h.registers
     → Rises old new c (λ row. 1) → CarriesTo decls (λ row. held_row row ps h k) ps i k h after (answered h c h.target) old new
 time_to decls ps i k after h c op imm is some r =
     let least : (row : ℕ → ℕ) → 1 ≤ result_row (held_row row ps h k) decls k after i = λ row. later (spans_row (held_row row ps h k) (call_reads decls k (pos 5))) (call_row (held_row row ps h k) decls k after i (pos 5) op imm) in
@@ -155,7 +155,7 @@ time_to decls ps i k after h c op imm is some r =
     later m e = omega (arith, e)
 
 -- a redirect, of two numbers and the target
-pub redirect_to : {s0 s1 s2 s3 s4 s5 : List CellView} {a b sent : ℕ} (decls : List MapDecl) (ps : List PointerView) (i : Insn) (k after : Kinds) (h : Held) (c t : ℕ) → i.op ≡ Call → i.imm ≡ pos 23 → after ≡ answering (Num Unknown) k
+pub redirect_to : {s0 s1 s2 s3 s4 s5 : List CellView} {a b sent : ℕ} (decls : List MapDecl) (ps : List PointerView) (i : Insn) (k after : Kinds) (h : RegisterCells) (c t : ℕ) → i.op ≡ Call → i.imm ≡ pos 23 → after ≡ answering (Num Unknown) k
     → 0 < length h.registers → Rises s0 s1 a (λ row. value_row row ps (register k 1) (slice_index h.registers 1)) → Rises s1 s2 b (λ row. value_row row ps (register k 2) (slice_index h.registers 2))
     → Rises s2 s3 sent (λ row. max (row b) (max (row a) (row h.target)) + 1) → Rises s3 s4 c (λ row. row sent) → Rises s4 s5 t (λ row. max (row sent) (max (row a) (row h.target)))
     → CarriesTo decls (λ row. held_row row ps h k) ps i k h after (answered h c t) s0 s5

@@ -20,8 +20,8 @@ use Rattle.kind_core.specs.Kinds as kinds
 use Rattle.kind_core.specs.Effects as effects
 use Rattle.kind_core.specs.Describes.{World, Describes}
 use Rattle.cell_core.specs.Cells.{CellView}
-use Rattle.operator_cells.specs.declared.held_cells.held.Held.{Held}
-use Rattle.operator_cells.specs.HeldCells.Held.{PointerView, Holds, Counts, AreInside}
+use Rattle.operator_cells.specs.declared.held_cells.machine_cells.RegisterCells.{RegisterCells}
+use Rattle.operator_cells.specs.HeldCells.RegisterCells.{PointerView, Holds, Counts, AreInside}
 use Rattle.operator_cells.specs.HeldCells.Carrying.{IsKnown, Gives}
 use Rattle.register_cells.specs.Reading.{IsRead, Yields}
 use Rattle.cell_core.specs.bpf_isa.declared.operation.Width.{Width}
@@ -67,14 +67,14 @@ in_range_at ds xs i all = by (cases_lt i (length xs))
     by (inl l) = all i is.Unset l
     by (inr l) = rw (past xs i l) tt
 
-pub register_read : (decls : List MapDecl) (packet : PacketIn) (v : ℕ → ℕ) (ps : List PointerView) (node : ℕ) (k : Kinds) (h : Held) (m : Machine) (r : ℕ)
+pub register_read : (decls : List MapDecl) (packet : PacketIn) (v : ℕ → ℕ) (ps : List PointerView) (node : ℕ) (k : Kinds) (h : RegisterCells) (m : Machine) (r : ℕ)
     → IsKnown decls packet v ps node k h m → r ≤ 10 → IsRead decls packet v ps (kinds.register k r) (slice_index h.registers r) (register m.registers r)
 register_read decls packet v ps node k h m r known l =
     read_of decls packet v ps known.world m.maps m.maps.decls (kinds.register k r) (slice_index h.registers r) (register m.registers r)
     (known.stands.described.registers r) (known.held.registers r l) (in_range_at m.maps.decls m.registers r known.in_range.registers)
     (sym known.stands.described.frame ∙ known.held.length_is)
 
-pub slot_read : (decls : List MapDecl) (packet : PacketIn) (v : ℕ → ℕ) (ps : List PointerView) (node : ℕ) (k : Kinds) (h : Held) (m : Machine) (s : ℕ)
+pub slot_read : (decls : List MapDecl) (packet : PacketIn) (v : ℕ → ℕ) (ps : List PointerView) (node : ℕ) (k : Kinds) (h : RegisterCells) (m : Machine) (s : ℕ)
     → IsKnown decls packet v ps node k h m → s < 64 → IsRead decls packet v ps (get_or k.slots s Unset) (slice_index h.slots s) (get_or m.stack s is.Unset)
 slot_read decls packet v ps node k h m s known l =
     read_of decls packet v ps known.world m.maps m.maps.decls (get_or k.slots s Unset) (slice_index h.slots s) (get_or m.stack s is.Unset)
@@ -82,17 +82,17 @@ slot_read decls packet v ps node k h m s known l =
     (sym known.stands.described.frame ∙ known.held.length_is)
 
 -- the second operand: an immediate number has no cell
-pub operand_read : (decls : List MapDecl) (packet : PacketIn) (v : ℕ → ℕ) (ps : List PointerView) (node : ℕ) (k : Kinds) (h : Held) (m : Machine) (i : Insn) (s : Src)
+pub operand_read : (decls : List MapDecl) (packet : PacketIn) (v : ℕ → ℕ) (ps : List PointerView) (node : ℕ) (k : Kinds) (h : RegisterCells) (m : Machine) (i : Insn) (s : Src)
     → cast_unsigned w64 i.imm < 2 ^ 64 → IsKnown decls packet v ps node k h m → i.src ≤ 10
     → IsRead decls packet v ps (effects.operand k i s) (slice_index h.registers i.src) (machine.operand m.registers i s)
 operand_read decls packet v ps node k h m i K fits known l = (refl, fits)
 operand_read decls packet v ps node k h m i X fits known l = register_read decls packet v ps node k h m i.src known l
 
-pub frame_short : (decls : List MapDecl) (packet : PacketIn) (v : ℕ → ℕ) (ps : List PointerView) (node : ℕ) (k : Kinds) (h : Held) (m : Machine) → IsKnown decls packet v ps node k h m → length packet.frame < 2 ^ 63
+pub frame_short : (decls : List MapDecl) (packet : PacketIn) (v : ℕ → ℕ) (ps : List PointerView) (node : ℕ) (k : Kinds) (h : RegisterCells) (m : Machine) → IsKnown decls packet v ps node k h m → length packet.frame < 2 ^ 63
 frame_short decls packet v ps node k h m known = omega (arith, known.held.length_is, known.in_range.frame_short)
 
 -- values that are known of a machine yield what the instruction makes of it
-pub gives_yielded : (decls : List MapDecl) (ps : List PointerView) (node : ℕ) (k : Kinds) (h : Held) (a : Kind) (p : ℕ) (b : Kind) (q : ℕ) (old new : List CellView) (x : Kind) (c : ℕ)
+pub gives_yielded : (decls : List MapDecl) (ps : List PointerView) (node : ℕ) (k : Kinds) (h : RegisterCells) (a : Kind) (p : ℕ) (b : Kind) (q : ℕ) (old new : List CellView) (x : Kind) (c : ℕ)
     (f : Value → Value → Option Value) (s t : Machine → Value)
     → ((packet : PacketIn) (v : ℕ → ℕ) (m : Machine) → IsKnown decls packet v ps node k h m → IsRead decls packet v ps a p (s m) × IsRead decls packet v ps b q (t m))
     → Yields decls ps a p b q old new x c f → Gives decls ps node k h old new x c (λ m. f (s m) (t m))
@@ -102,12 +102,12 @@ gives_yielded decls ps node k h a p b q old new x c f s t read yields = record {
   holds = λ packet v m y run known e. let r = read packet v m known in yields.holds packet v (s m) (t m) y run (frame_short decls packet v ps node k h m known) r.0 r.1 e;
 }
 
-pub operand_counts : (decls : List MapDecl) (n : ℕ) (ps : List PointerView) (h : Held) (k : Kinds) (i : Insn) (s : Src) → i.src ≤ 10 → AreInside decls n ps h k → Counts decls n ps (effects.operand k i s) (slice_index h.registers i.src)
+pub operand_counts : (decls : List MapDecl) (n : ℕ) (ps : List PointerView) (h : RegisterCells) (k : Kinds) (i : Insn) (s : Src) → i.src ≤ 10 → AreInside decls n ps h k → Counts decls n ps (effects.operand k i s) (slice_index h.registers i.src)
 operand_counts decls n ps h k i K l inside = tt
 operand_counts decls n ps h k i X l inside = inside.registers i.src l
 
 -- arithmetic with two operands
-pub combine_gives : (decls : List MapDecl) (ps : List PointerView) (refs : List ℕ) (node : ℕ) (k : Kinds) (h : Held) (i : Insn) (w : Width) (code : AluCode) (s : Src) (old new : List CellView) (c : ℕ) (z : ℤ) (b : Kind)
+pub combine_gives : (decls : List MapDecl) (ps : List PointerView) (refs : List ℕ) (node : ℕ) (k : Kinds) (h : RegisterCells) (i : Insn) (w : Width) (code : AluCode) (s : Src) (old new : List CellView) (c : ℕ) (z : ℤ) (b : Kind)
     → i.dst ≤ 10 → i.src ≤ 10 → cast_unsigned w64 i.imm < 2 ^ 64 → z ≡ i.offset → b ≡ effects.operand k i s
     → IfOk (kind.combined decls w code z (kinds.register k i.dst) b) (λ x. Yields decls ps (kinds.register k i.dst) (slice_index h.registers i.dst) b (slice_index h.registers i.src) old new x c (λ x y. pointers.combined w code z x y))
     → IfOk (kind.combined decls w code i.offset (kinds.register k i.dst) (effects.operand k i s)) (λ x. Gives decls ps node k h old new x c (λ m. given refs m i (Alu w code s)))
@@ -122,14 +122,14 @@ combine_gives decls ps refs node k h i w code s old new c z b dst src fits at is
     same
 
 -- the same of an operation that is known
-pub give_as : (decls : List MapDecl) (ps : List PointerView) (refs : List ℕ) (node : ℕ) (is_ref : Bool) (k : Kinds) (h : Held) (i : Insn) (old new : List CellView) (c : ℕ) (op known : Op) → op ≡ known
+pub give_as : (decls : List MapDecl) (ps : List PointerView) (refs : List ℕ) (node : ℕ) (is_ref : Bool) (k : Kinds) (h : RegisterCells) (i : Insn) (old new : List CellView) (c : ℕ) (op known : Op) → op ≡ known
     → IfOk (given_kind is_ref decls k i known) (λ x. Gives decls ps node k h old new x c (λ m. given refs m i known))
     → IfOk (given_kind is_ref decls k i op) (λ x. Gives decls ps node k h old new x c (λ m. given refs m i op))
 give_as decls ps refs node is_ref k h i old new c op known e gives =
     subst (λ (o : Op). IfOk (given_kind is_ref decls k i o) (λ x. Gives decls ps node k h old new x c (λ m. given refs m i o))) (sym e) gives
 
 -- a constant is known
-pub gives_constant : (decls : List MapDecl) (ps : List PointerView) (node : ℕ) (is_ref : Bool) (k : Kinds) (h : Held) (old : List CellView) (z : ℤ) (c : ℕ) (made : Machine → Option Value)
+pub gives_constant : (decls : List MapDecl) (ps : List PointerView) (node : ℕ) (is_ref : Bool) (k : Kinds) (h : RegisterCells) (old : List CellView) (z : ℤ) (c : ℕ) (made : Machine → Option Value)
     → Gives decls ps node k h old old (edges.constant is_ref z) c made
 gives_constant decls ps node true k h old z c made = record { grows = grown_none; counts = tt; holds = λ packet v m y run known e. tt }
 gives_constant decls ps node false k h old z c made = record { grows = grown_none; counts = tt; holds = λ packet v m y run known e. tt }
@@ -147,7 +147,7 @@ only_constant decls is_ref k i P (LoadSigned size) a b d e f h = absurd ((f size
 only_constant decls is_ref k i P LoadImm a b d e f h = h
 only_constant decls is_ref k i P op a b d e f h = tt
 
-pub gives_nothing : (decls : List MapDecl) (ps : List PointerView) (refs : List ℕ) (node : ℕ) (is_ref : Bool) (k : Kinds) (h : Held) (i : Insn) (old : List CellView) (c : ℕ) (op : Op)
+pub gives_nothing : (decls : List MapDecl) (ps : List PointerView) (refs : List ℕ) (node : ℕ) (is_ref : Bool) (k : Kinds) (h : RegisterCells) (i : Insn) (old : List CellView) (c : ℕ) (op : Op)
     → ((w : Width) (code : AluCode) (s : Src) → op ≢ Alu w code s) → ((w : Width) → op ≢ Neg w) → ((s : Src) → op ≢ ops.End s) → op ≢ Swap → ((size : Size) → (op ≢ Load size) × (op ≢ LoadSigned size))
     → IfOk (given_kind is_ref decls k i op) (λ x. Gives decls ps node k h old old x c (λ m. given refs m i op))
 gives_nothing decls ps refs node is_ref k h i old c op a b d e f =

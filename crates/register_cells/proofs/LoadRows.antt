@@ -14,7 +14,7 @@ use Rattle.kind_core.specs.declared.number.Number.TheVariants.{Known, Unknown}
 use Rattle.kind_core.specs.declared.kind.Kind.{Kind}
 use Rattle.kind_core.specs.declared.kind.Kind.TheVariants.{Unset, Num, Packet, Stack, Ctx}
 use Rattle.kind_core.specs.declared.kind.Kinds.{Kinds}
-use Rattle.kind_core.specs.declared.why.Why.{Why}
+use Rattle.xdp_state.specs.declared.refusal.Why.{Why}
 use Rattle.kind_core.specs.Kinds.{register}
 use Rattle.kind_core.specs.Numbers.{from_one, number_part, number_extended}
 use Rattle.kind_core.specs.Tests.{◌>>=◌}
@@ -29,8 +29,8 @@ use Rattle.operator_cells.proofs.RisingLaws.{Stand, stand_all, rises_then}
 use Rattle.operator_cells.specs.row_rules.PlaceRows.Spans.{no_place, one, region, slots_of, bytes_of, pending_of, is_in, span_row, spans_row}
 use Rattle.operator_cells.specs.row_rules.PlaceRows.Reading.{is_entry, result_as}
 use Rattle.operator_cells.proofs.row_rules_laws.PlaceRows.SpanLaws.{is_inside, span_above}
-use Rattle.operator_cells.specs.declared.held_cells.held.Held.{Held}
-use Rattle.operator_cells.specs.HeldCells.Held.{PointerView, number_of}
+use Rattle.operator_cells.specs.declared.held_cells.machine_cells.RegisterCells.{RegisterCells}
+use Rattle.operator_cells.specs.HeldCells.RegisterCells.{PointerView, number_of}
 use Rattle.operator_cells.specs.HeldCells.Rows.{number_row, value_row, held_row}
 use Rattle.operator_cells.proofs.HeldCells.RowLaws.{slot_row, byte_row}
 use Rattle.register_cells.specs.Reading.{Yields, Finds}
@@ -70,7 +70,7 @@ slot_in o offset size at e =
     subst (λ (z : ℤ). is_in (11 + at / 8) (slots_of (unsigned_abs z) (bytes_in size)) ≡ true) (sym (aligned_is (o +ℤ offset +ℤ pos 512) (bytes_in size) 512 at e).0)
     (is_inside (11 + at / 8) (slots_of at (bytes_in size)) (omega arith) (omega (arith, some_bytes size)))
 
-pub slot_above : (ps : List PointerView) (h : Held) (k : Kinds) (o offset : ℤ) (size : Size) (at : ℕ) → at < 512 → machine.in_stack (o +ℤ offset) (bytes_in size) ≡ Some at → (row : ℕ → ℕ)
+pub slot_above : (ps : List PointerView) (h : RegisterCells) (k : Kinds) (o offset : ℤ) (size : Size) (at : ℕ) → at < 512 → machine.in_stack (o +ℤ offset) (bytes_in size) ≡ Some at → (row : ℕ → ℕ)
     → value_row row ps (get_or k.slots (at / 8) Unset) (slice_index h.slots (at / 8)) ≤ span_row (held_row row ps h k) (region (Stack o) offset (bytes_in size))
 slot_above ps h k o offset size at within e row =
     let low : at / 8 < 64 = omega (arith, within) in
@@ -81,7 +81,7 @@ greatest_each : (row : ℕ → ℕ) (xs : List ℕ) (most : ℕ) → ((j : ℕ) 
 greatest_each row [] most h = omega arith
 greatest_each row (x ∷ xs) most h = omega (arith, h 0 (omega arith), greatest_each row xs most (λ j l. h (suc j) (omega (arith, l))))
 
-bytes_above : (row : ℕ → ℕ) (ps : List PointerView) (h : Held) (k : Kinds) (at n : ℕ) (bs : List ℕ) → length h.window ≡ 256 → at + n ≤ 256 → bs ≡ slice_range h.window at (at + n) → greatest row bs ≤ span_row (held_row row ps h k) (bytes_of at n)
+bytes_above : (row : ℕ → ℕ) (ps : List PointerView) (h : RegisterCells) (k : Kinds) (at n : ℕ) (bs : List ℕ) → length h.window ≡ 256 → at + n ≤ 256 → bs ≡ slice_range h.window at (at + n) → greatest row bs ≤ span_row (held_row row ps h k) (bytes_of at n)
 bytes_above row ps h k at n bs whole fits named = greatest_each row bs _ (λ j l.
     let long : length bs ≡ n = ap length named ∙ range_length h.window at n (omega (arith, fits, whole)) in
     let below : j < n = omega (arith, l, long) in
@@ -89,7 +89,7 @@ bytes_above row ps h k at n bs whole fits named = greatest_each row bs _ (λ j l
     le_by (ap row is_byte ∙ sym (byte_row row ps h k (at + j) (omega (arith, below, fits))))
     (span_above (held_row row ps h k) (bytes_of at n) (75 + (at + j)) (is_inside (75 + (at + j)) (bytes_of at n) (omega arith) (omega (arith, below)))))
 
-pub window_above : (ps : List PointerView) (h : Held) (k : Kinds) (o : ℕ) (offset : ℤ) (size : Size) (at : ℕ) (bs : List ℕ) → length h.window ≡ 256 → inside (pos o +ℤ offset) (bytes_in size) 256 ≡ Some at → at + bytes_in size ≤ 256
+pub window_above : (ps : List PointerView) (h : RegisterCells) (k : Kinds) (o : ℕ) (offset : ℤ) (size : Size) (at : ℕ) (bs : List ℕ) → length h.window ≡ 256 → inside (pos o +ℤ offset) (bytes_in size) 256 ≡ Some at → at + bytes_in size ≤ 256
     → bs ≡ slice_range h.window at (at + bytes_in size) → (row : ℕ → ℕ) → greatest row bs ≤ span_row (held_row row ps h k) (region (Packet o) offset (bytes_in size))
 window_above ps h k o offset size at bs whole e fits named row =
     subst (λ (z : ℤ). greatest row bs ≤ span_row (held_row row ps h k) (bytes_of (unsigned_abs z) (bytes_in size))) (sym (inside_is (pos o +ℤ offset) (bytes_in size) 256 at e))
@@ -124,13 +124,13 @@ stack_loaded decls k o offset size at P e found =
     let kd : Kind = get_or k.slots (at / 8) Unset in
     subst (λ r. IfOk r P) (sym (stack_is decls k o offset size at e)) (bind_all (tests.readable kd) (λ u. kind.from_slot size (at % 8) kd) P (λ u. found))
 
-pub stack_to : (decls : List MapDecl) (ps : List PointerView) (k : Kinds) (h : Held) (old new : List CellView) (o offset : ℤ) (size : Size) (at c : ℕ) → at < 512 → machine.in_stack (o +ℤ offset) (bytes_in size) ≡ Some at
+pub stack_to : (decls : List MapDecl) (ps : List PointerView) (k : Kinds) (h : RegisterCells) (old new : List CellView) (o offset : ℤ) (size : Size) (at c : ℕ) → at < 512 → machine.in_stack (o +ℤ offset) (bytes_in size) ≡ Some at
     → IfOk (kind.from_slot size (at % 8) (get_or k.slots (at / 8) Unset)) (λ x. ValueTo old new ps x c (λ row. value_row row ps (get_or k.slots (at / 8) Unset) (slice_index h.slots (at / 8))))
     → IfOk (kind.loaded decls k (Stack o) offset size) (λ x. ValueTo old new ps x c (λ row. span_row (held_row row ps h k) (region (Stack o) offset (bytes_in size))))
 stack_to decls ps k h old new o offset size at c within e found =
     stack_loaded decls k o offset size at _ e (ok_map (kind.from_slot size (at % 8) (get_or k.slots (at / 8) Unset)) _ _ (λ x v. value_by v (slot_above ps h k o offset size at within e)) found)
 
-pub packet_to : (decls : List MapDecl) (ps : List PointerView) (k : Kinds) (h : Held) (old new : List CellView) (o : ℕ) (offset : ℤ) (size : Size) (at c : ℕ) (bs : List ℕ)
+pub packet_to : (decls : List MapDecl) (ps : List PointerView) (k : Kinds) (h : RegisterCells) (old new : List CellView) (o : ℕ) (offset : ℤ) (size : Size) (at c : ℕ) (bs : List ℕ)
     → length h.window ≡ 256 → inside (pos o +ℤ offset) (bytes_in size) 256 ≡ Some at → at + bytes_in size ≤ 256 → bs ≡ slice_range h.window at (at + bytes_in size) → Rises old new c (λ row. greatest row bs)
     → IfOk (kind.loaded decls k (Packet o) offset size) (λ x. ValueTo old new ps x c (λ row. span_row (held_row row ps h k) (region (Packet o) offset (bytes_in size))))
 unfolding kind.loaded
@@ -148,7 +148,7 @@ load_above row decls k after i size = by (span_row row (one i.src)) (span_row ro
     by a b c d e = omega arith
 
 -- what is found through the source stands by what the instruction reads
-read_to : (f : Kind → ℤ → Result Kind Why) (ps : List PointerView) (k : Kinds) (h : Held) (i : Insn) (old new : List CellView) (base : Kind) (size : Size) (c : ℕ) (last : (ℕ → ℕ) → ℕ) {z : ℤ} → register k i.src ≡ base → z ≡ i.offset
+read_to : (f : Kind → ℤ → Result Kind Why) (ps : List PointerView) (k : Kinds) (h : RegisterCells) (i : Insn) (old new : List CellView) (base : Kind) (size : Size) (c : ℕ) (last : (ℕ → ℕ) → ℕ) {z : ℤ} → register k i.src ≡ base → z ≡ i.offset
     → ((row : ℕ → ℕ) → span_row (held_row row ps h k) (region (register k i.src) i.offset (bytes_in size)) ≤ last row)
     → IfOk (f base z) (λ x. ValueTo old new ps x c (λ row. span_row (held_row row ps h k) (region base z (bytes_in size)))) → IfOk (f (register k i.src) i.offset) (λ x. ValueTo old new ps x c last)
 read_to f ps k h i old new base size c last {z} e at above found =
@@ -164,20 +164,20 @@ pub context_loaded : (decls : List MapDecl) (k : Kinds) (z : ℤ) (size : Size) 
 unfolding kind.loaded_plain
 context_loaded decls k z size P h = h
 
-pub load_to : (decls : List MapDecl) (ps : List PointerView) (k after : Kinds) (h : Held) (i : Insn) (old new : List CellView) (base : Kind) (size : Size) (c : ℕ) {z : ℤ} → kind.is_context base ≡ false → register k i.src ≡ base → z ≡ i.offset
+pub load_to : (decls : List MapDecl) (ps : List PointerView) (k after : Kinds) (h : RegisterCells) (i : Insn) (old new : List CellView) (base : Kind) (size : Size) (c : ℕ) {z : ℤ} → kind.is_context base ≡ false → register k i.src ≡ base → z ≡ i.offset
     → IfOk (kind.loaded decls k base z size) (λ x. ValueTo old new ps x c (λ row. span_row (held_row row ps h k) (region base z (bytes_in size))))
     → IfOk (kind.loaded_plain decls k (register k i.src) i.offset size) (λ x. ValueTo old new ps x c (λ row. result_as (held_row row ps h k) decls k after i (Load size)))
 load_to decls ps k after h i old new base size c {z} plain e at found =
     read_to (λ b y. kind.loaded_plain decls k b y size) ps k h i old new base size c _ e at (λ row. load_above (held_row row ps h k) decls k after i size) (plain_loaded decls k base z size _ plain found)
 
-pub load_context_to : (decls : List MapDecl) (ps : List PointerView) (k after : Kinds) (h : Held) (i : Insn) (old new : List CellView) (size : Size) (c : ℕ) {z : ℤ} → register k i.src ≡ Ctx → z ≡ i.offset
+pub load_context_to : (decls : List MapDecl) (ps : List PointerView) (k after : Kinds) (h : RegisterCells) (i : Insn) (old new : List CellView) (size : Size) (c : ℕ) {z : ℤ} → register k i.src ≡ Ctx → z ≡ i.offset
     → IfOk (kind.from_context z size) (λ x. ValueTo old new ps x c (λ row. 0))
     → IfOk (kind.loaded_plain decls k (register k i.src) i.offset size) (λ x. ValueTo old new ps x c (λ row. result_as (held_row row ps h k) decls k after i (Load size)))
 load_context_to decls ps k after h i old new size c {z} e at found =
     read_to (λ b y. kind.loaded_plain decls k b y size) ps k h i old new Ctx size c _ e at (λ row. load_above (held_row row ps h k) decls k after i size)
     (context_loaded decls k z size _ (ok_map (kind.from_context z size) _ _ (λ x v. value_by v (λ row. omega arith)) found))
 
-pub load_signed_to : (decls : List MapDecl) (ps : List PointerView) (k after : Kinds) (h : Held) (i : Insn) (old new : List CellView) (base : Kind) (size : Size) (c : ℕ) {z : ℤ} → register k i.src ≡ base → z ≡ i.offset
+pub load_signed_to : (decls : List MapDecl) (ps : List PointerView) (k after : Kinds) (h : RegisterCells) (i : Insn) (old new : List CellView) (base : Kind) (size : Size) (c : ℕ) {z : ℤ} → register k i.src ≡ base → z ≡ i.offset
     → IfOk (kind.loaded_signed decls k base z size) (λ x. ValueTo old new ps x c (λ row. span_row (held_row row ps h k) (region base z (bytes_in size))))
     → IfOk (kind.loaded_signed decls k (register k i.src) i.offset size) (λ x. ValueTo old new ps x c (λ row. result_as (held_row row ps h k) decls k after i (LoadSigned size)))
 load_signed_to decls ps k after h i old new base size c e at found =

@@ -24,13 +24,13 @@ use Rattle.kind_core.specs.Describes.{Describes}
 use Rattle.cell_core.specs.bpf_isa.declared.instruction.Insn.{Insn}
 use Rattle.cell_core.specs.bpf_isa.declared.operation.Op.TheVariants.{Load}
 use Rattle.register_cells.specs.Giving.{given}
-use Rattle.kind_core.specs.declared.why.Why.{Why}
+use Rattle.xdp_state.specs.declared.refusal.Why.{Why}
 use Rattle.kind_core.specs.Places as places
 use Rattle.kind_core.specs.Access as kind
 use Rattle.cell_core.specs.Cells.{CellView, IsRun}
 use Rattle.operator_cells.specs.Making.{Grows, MakesIf}
-use Rattle.operator_cells.specs.declared.held_cells.held.Held.{Held}
-use Rattle.operator_cells.specs.HeldCells.Held.{PointerView}
+use Rattle.operator_cells.specs.declared.held_cells.machine_cells.RegisterCells.{RegisterCells}
+use Rattle.operator_cells.specs.HeldCells.RegisterCells.{PointerView}
 use Rattle.operator_cells.specs.HeldCells.Carrying.{IsKnown, Gives}
 use Rattle.register_cells.specs.Reading.{Yields}
 use Rattle.register_cells.proofs.Growing.{ok_map}
@@ -87,7 +87,7 @@ window_small v frame window at n fits whole bytes same j d l =
 
 -- ---- what is found at a place
 
-pub gives_as : (decls : List MapDecl) (ps : List PointerView) (node : ℕ) (k : Kinds) (h : Held) (old new : List CellView) (x : Kind) (c : ℕ) (f g : Machine → Option Value)
+pub gives_as : (decls : List MapDecl) (ps : List PointerView) (node : ℕ) (k : Kinds) (h : RegisterCells) (old new : List CellView) (x : Kind) (c : ℕ) (f g : Machine → Option Value)
     → ((packet : PacketIn) (v : ℕ → ℕ) (m : Machine) → IsKnown decls packet v ps node k h m → f m ≡ g m) → Gives decls ps node k h old new x c f → Gives decls ps node k h old new x c g
 gives_as decls ps node k h old new x c f g same gives = record {
   grows = gives.grows;
@@ -96,7 +96,7 @@ gives_as decls ps node k h old new x c f g same gives = record {
 }
 
 -- a number that cells have, in place of what is found
-gives_number_made : (decls : List MapDecl) (ps : List PointerView) (node : ℕ) (k : Kinds) (h : Held) (old new : List CellView) (c : ℕ) (f : Machine → Option Value)
+gives_number_made : (decls : List MapDecl) (ps : List PointerView) (node : ℕ) (k : Kinds) (h : RegisterCells) (old new : List CellView) (c : ℕ) (f : Machine → Option Value)
     → Grows old new → c < length new
     → ((packet : PacketIn) (v : ℕ → ℕ) (m : Machine) (y : Value) → IsRun packet new v → IsKnown decls packet v ps node k h m → f m ≡ Some y → y ≡ is.Number (v c))
     → Gives decls ps node k h old new (Num Unknown) c f
@@ -126,7 +126,7 @@ in_packet_all P slots size checked a h = by (nat_le (a + bytes_in size) 256) ref
     by true e false g = rw (e, g) tt
     by false e t g = rw e tt
 
-pub packet_gives : (decls : List MapDecl) (ps : List PointerView) (node : ℕ) (k : Kinds) (h : Held) (old new : List CellView) (o : ℕ) (offset : ℤ) (size : Size) (at c : ℕ) (bs : List ℕ)
+pub packet_gives : (decls : List MapDecl) (ps : List PointerView) (node : ℕ) (k : Kinds) (h : RegisterCells) (old new : List CellView) (o : ℕ) (offset : ℤ) (size : Size) (at c : ℕ) (bs : List ℕ)
     → length h.window ≡ 256 → inside (pos o +ℤ offset) (bytes_in size) 256 ≡ Some at → at + bytes_in size ≤ 256 → bs ≡ slice_range h.window at (at + bytes_in size)
     → MakesIf old new c (λ v. All (λ i. v i < 256) bs) (λ packet v. little_number (length bs) (map_list v bs))
     → IfOk (kind.loaded decls k (Packet o) offset size) (λ x. Gives decls ps node k h old new x c (λ m. machine.loaded m (is.Packet (pos o)) offset size))
@@ -164,7 +164,7 @@ aligned_is (pos b) n len a e = by (nat_le (b + n) len) refl (b % n == 0) refl
     by false h t g = let f = rw h at e in absurd cc
 aligned_is (negsuc b) n len a e = absurd cc
 
-pub stack_gives : (decls : List MapDecl) (ps : List PointerView) (node : ℕ) (k : Kinds) (h : Held) (old new : List CellView) (o offset : ℤ) (size : Size) (at c : ℕ)
+pub stack_gives : (decls : List MapDecl) (ps : List PointerView) (node : ℕ) (k : Kinds) (h : RegisterCells) (old new : List CellView) (o offset : ℤ) (size : Size) (at c : ℕ)
     → at < 512 → machine.in_stack (o +ℤ offset) (bytes_in size) ≡ Some at
     → IfOk (kind.from_slot size (at % 8) (get_or k.slots (at / 8) Unset)) (λ x. Yields decls ps (get_or k.slots (at / 8) Unset) (slice_index h.slots (at / 8)) (get_or k.slots (at / 8) Unset) (slice_index h.slots (at / 8)) old new x c
     (λ s t. machine.from_slot size (at % 8) t))
@@ -208,11 +208,11 @@ some_bytes Dw = omega arith
 
 -- ---- MEM
 
-pub register_is : (decls : List MapDecl) (packet : PacketIn) (v : ℕ → ℕ) (ps : List PointerView) (node : ℕ) (k : Kinds) (h : Held) (m : Machine) (r : ℕ) (x : Kind) (known : IsKnown decls packet v ps node k h m)
+pub register_is : (decls : List MapDecl) (packet : PacketIn) (v : ℕ → ℕ) (ps : List PointerView) (node : ℕ) (k : Kinds) (h : RegisterCells) (m : Machine) (r : ℕ) (x : Kind) (known : IsKnown decls packet v ps node k h m)
     → kinds.register k r ≡ x → Describes known.world m.maps x (register m.registers r)
 register_is decls packet v ps node k h m r x known e = subst (λ (y : Kind). Describes known.world m.maps y (register m.registers r)) e (known.stands.described.registers r)
 
-pub load_packet : (decls : List MapDecl) (ps : List PointerView) (refs : List ℕ) (node : ℕ) (k : Kinds) (h : Held) (i : Insn) (old new : List CellView) (o : ℕ) (size : Size) (c : ℕ) {z : ℤ} → kinds.register k i.src ≡ Packet o → z ≡ i.offset
+pub load_packet : (decls : List MapDecl) (ps : List PointerView) (refs : List ℕ) (node : ℕ) (k : Kinds) (h : RegisterCells) (i : Insn) (old new : List CellView) (o : ℕ) (size : Size) (c : ℕ) {z : ℤ} → kinds.register k i.src ≡ Packet o → z ≡ i.offset
     → IfOk (kind.loaded decls k (Packet o) z size) (λ x. Gives decls ps node k h old new x c (λ m. machine.loaded m (is.Packet (pos o)) z size))
     → IfOk (kind.loaded_plain decls k (kinds.register k i.src) i.offset size) (λ x. Gives decls ps node k h old new x c (λ m. given refs m i (Load size)))
 unfolding kind.loaded_plain
@@ -223,7 +223,7 @@ load_packet decls ps refs node k h i old new o size c {z} e at gives =
     (λ packet v m known. sym (ap (λ (b : Value). machine.loaded_plain m b i.offset size) (register_is decls packet v ps node k h m i.src (Packet o) known e))) g)
     (subst (λ (y : ℤ). IfOk (kind.loaded decls k (Packet o) y size) (λ x. Gives decls ps node k h old new x c (λ m. machine.loaded m (is.Packet (pos o)) y size))) at gives))
 
-pub load_stack : (decls : List MapDecl) (ps : List PointerView) (refs : List ℕ) (node : ℕ) (k : Kinds) (h : Held) (i : Insn) (old new : List CellView) (o : ℤ) (size : Size) (c : ℕ) {z : ℤ} → kinds.register k i.src ≡ Stack o → z ≡ i.offset
+pub load_stack : (decls : List MapDecl) (ps : List PointerView) (refs : List ℕ) (node : ℕ) (k : Kinds) (h : RegisterCells) (i : Insn) (old new : List CellView) (o : ℤ) (size : Size) (c : ℕ) {z : ℤ} → kinds.register k i.src ≡ Stack o → z ≡ i.offset
     → IfOk (kind.loaded decls k (Stack o) z size) (λ x. Gives decls ps node k h old new x c (λ m. machine.loaded m (is.Stack o) z size))
     → IfOk (kind.loaded_plain decls k (kinds.register k i.src) i.offset size) (λ x. Gives decls ps node k h old new x c (λ m. given refs m i (Load size)))
 unfolding kind.loaded_plain
@@ -234,7 +234,7 @@ load_stack decls ps refs node k h i old new o size c {z} e at gives =
     (λ packet v m known. sym (ap (λ (b : Value). machine.loaded_plain m b i.offset size) (register_is decls packet v ps node k h m i.src (Stack o) known e))) g)
     (subst (λ (y : ℤ). IfOk (kind.loaded decls k (Stack o) y size) (λ x. Gives decls ps node k h old new x c (λ m. machine.loaded m (is.Stack o) y size))) at gives))
 
-pub load_context : (decls : List MapDecl) (ps : List PointerView) (refs : List ℕ) (node : ℕ) (k : Kinds) (h : Held) (i : Insn) (old new : List CellView) (size : Size) (c : ℕ) {z : ℤ} → kinds.register k i.src ≡ Ctx → z ≡ i.offset
+pub load_context : (decls : List MapDecl) (ps : List PointerView) (refs : List ℕ) (node : ℕ) (k : Kinds) (h : RegisterCells) (i : Insn) (old new : List CellView) (size : Size) (c : ℕ) {z : ℤ} → kinds.register k i.src ≡ Ctx → z ≡ i.offset
     → IfOk (kind.from_context z size) (λ x. Gives decls ps node k h old new x c (λ m. machine.loaded_plain m is.Context z size))
     → IfOk (kind.loaded_plain decls k (kinds.register k i.src) i.offset size) (λ x. Gives decls ps node k h old new x c (λ m. given refs m i (Load size)))
 unfolding kind.loaded_plain

@@ -1,4 +1,4 @@
--- Numbers that are made of others, one cell behind another.
+-- Numbers that are made of others, one cell after another.
 use Rattle.std.proofs.Common.{◌≡◌, ◌≢◌, ℕ, ◌≤◌, Bool, true, false, if◌then◌else◌, Some, Ok, IfOk, List, length, slice_index, inl, inr, ℤ, unsigned_abs, to_z, of_z, w64, refl, sym, ◌∙◌, ap, subst}
 use Rattle.std.specs.Prelude.{◌==◌}
 use Rattle.byteorder.specs.Endian.{little_number, little_bytes}
@@ -11,7 +11,7 @@ use Rattle.cell_core.specs.xdp_maps.declared.decl.MapDecl.{MapDecl}
 use Rattle.cell_core.specs.xdp_maps.Calls.{patched}
 use Rattle.cell_core.specs.xdp_machine.Values.{Value}
 use Rattle.cell_core.specs.xdp_machine.Values as is
-use Rattle.cell_core.specs.xdp_machine.State.{PacketIn, register}
+use Rattle.cell_core.specs.xdp_machine.State.{register}
 use Rattle.cell_core.specs.xdp_machine.Arithmetic.{low, ordered}
 use Rattle.cell_core.specs.xdp_machine.Memory.{bytes_in}
 use Rattle.kind_core.specs.declared.number.Number.{Number}
@@ -26,22 +26,15 @@ use Rattle.kind_core.specs.Tests.{number_in, ◌>>=◌}
 use Rattle.cell_core.specs.Cells.{CellView, bit, bits_from, on}
 use Rattle.operator_cells.specs.Making.{Makes}
 use Rattle.operator_cells.specs.Spreading.{MakesBytes}
-use Rattle.operator_cells.proofs.MakingLaws.{grown}
-use Rattle.operator_cells.specs.declared.held_cells.held.Held.{Held}
-use Rattle.operator_cells.specs.HeldCells.Held.{PointerView, number_of}
+use Rattle.operator_cells.proofs.MakingLaws.{grown, made_of_two}
+use Rattle.operator_cells.specs.declared.held_cells.machine_cells.RegisterCells.{RegisterCells}
+use Rattle.operator_cells.specs.HeldCells.RegisterCells.{PointerView, number_of}
 use Rattle.operator_cells.specs.HeldCells.Carrying.{Gives}
 use Rattle.register_cells.specs.Reading.{IsRead, Finds}
 use Rattle.register_cells.specs.Giving.{given_number, numbered}
 use Rattle.register_cells.specs.Storing.{left_of}
-use Rattle.register_cells.proofs.Growing.{makes_after}
 use Rattle.register_cells.proofs.Known.{register_read}
 use Rattle.register_cells.proofs.Stores.{counts_number, holds_number}
-
--- the cells of two numbers, and what is made of them
-pub made_of_two : {a b d e : List CellView} {x y c : ℕ} {f g : PacketIn → (ℕ → ℕ) → ℕ} (h : ℕ → ℕ → ℕ) → Makes a b x f → Makes b d y g → Makes d e c (λ packet v. h (v x) (v y))
-    → Makes a e c (λ packet v. h (f packet v) (g packet v))
-made_of_two {y = y} {f = f} h first second last = makes_after (grown first.grows second.grows) last
-    (λ packet v r. ap (λ (n : ℕ). h n (v y)) (first.value packet v (second.grows.run packet v r)) ∙ ap (h (f packet v)) (second.value packet v r))
 
 -- a test of a number by a cell that is 0
 pub tested_zero : (n z : ℕ) → z ≡ bits_from 0 0 1 → bits_from (bit (low 64 n == low 64 z)) 0 1 ≡ bit (low 64 n == 0)
@@ -60,7 +53,7 @@ answered s redirect aborted e f = by (on s)
     by false = ap (λ (k : ℕ). bits_from k 0 3) f
 
 -- a number in the destination that is changed
-pub renumbered_gives : (decls : List MapDecl) (ps : List PointerView) (node : ℕ) (k : Kinds) (h : Held) (i : Insn) (f : Number → Number) (g : ℕ → ℕ) (x : Number) (old new : List CellView) (c : ℕ)
+pub renumbered_gives : (decls : List MapDecl) (ps : List PointerView) (node : ℕ) (k : Kinds) (h : RegisterCells) (i : Insn) (f : Number → Number) (g : ℕ → ℕ) (x : Number) (old new : List CellView) (c : ℕ)
     → i.dst ≤ 10 → kinds.register k i.dst ≡ Num x → Finds old new (f x) c (λ packet v. g (number_of v x (slice_index h.registers i.dst)))
     → IfOk (renumbered k i f) (λ y. Gives decls ps node k h old new y c (λ m. given_number m i g))
 renumbered_gives decls ps node k h i f g x old new c dst kind found =
@@ -87,7 +80,7 @@ swapped z (inr (inl e)) = subst (λ (y : ℤ). unsigned_abs (to_z w64 (of_z w64 
 swapped z (inr (inr e)) = subst (λ (y : ℤ). unsigned_abs (to_z w64 (of_z w64 y)) ≡ unsigned_abs y) (sym e) refl
 
 -- its bytes in an order
-pub ordered_gives : (decls : List MapDecl) (ps : List PointerView) (node : ℕ) (k : Kinds) (h : Held) (i : Insn) (end : Src) (x : Number) (old new : List CellView) (c : ℕ)
+pub ordered_gives : (decls : List MapDecl) (ps : List PointerView) (node : ℕ) (k : Kinds) (h : RegisterCells) (i : Insn) (end : Src) (x : Number) (old new : List CellView) (c : ℕ)
     → Allows SwapBits i.imm → i.dst ≤ 10 → kinds.register k i.dst ≡ Num x
     → Finds old new (number_ordered end (unsigned_abs (to_z w64 (of_z w64 i.imm))) x) c (λ packet v. ordered end (unsigned_abs (to_z w64 (of_z w64 i.imm))) (number_of v x (slice_index h.registers i.dst)))
     → IfOk (renumbered k i (number_ordered end (unsigned_abs i.imm))) (λ y. Gives decls ps node k h old new y c (λ m. given_number m i (ordered end (unsigned_abs i.imm))))

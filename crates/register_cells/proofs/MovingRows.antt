@@ -6,7 +6,7 @@ use Rattle.cell_core.specs.bpf_isa.declared.operation.Width.TheVariants.{Bits64}
 use Rattle.cell_core.specs.bpf_isa.declared.operation.AluCode.{AluCode}
 use Rattle.cell_core.specs.bpf_isa.declared.operation.AluCode.TheVariants.{Add, Sub, Mov}
 use Rattle.cell_core.specs.xdp_maps.declared.decl.MapDecl.{MapDecl}
-use Rattle.kind_core.specs.declared.why.Why.{Why}
+use Rattle.xdp_state.specs.declared.refusal.Why.{Why}
 use Rattle.kind_core.specs.declared.number.Number.{Number}
 use Rattle.kind_core.specs.declared.number.Number.TheVariants.{Known, Unknown}
 use Rattle.kind_core.specs.declared.kind.Kind.{Kind}
@@ -15,7 +15,7 @@ use Rattle.kind_core.specs.Numbers.{from_one, from_two, number_arithmetic, numbe
 use Rattle.kind_core.specs.Pointers.{sum, difference, copied, computed, combined}
 use Rattle.cell_core.specs.Cells.{CellView}
 use Rattle.operator_cells.specs.Rising.{Rises}
-use Rattle.operator_cells.specs.HeldCells.Held.{PointerView}
+use Rattle.operator_cells.specs.HeldCells.RegisterCells.{PointerView}
 use Rattle.operator_cells.specs.HeldCells.Rows.{number_row, value_row}
 use Rattle.register_cells.specs.Combining.{worked_row, combined_row}
 use Rattle.register_cells.specs.Rows.{ValueTo}

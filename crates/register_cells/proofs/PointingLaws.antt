@@ -1,4 +1,4 @@
--- Which pointers are held behind an instruction.
+-- Which pointers are held after an instruction.
 use Rattle.std.proofs.Common.{◌≡◌, ℕ, ◌+◌, ◌-◌, ◌*◌, ◌<◌, ◌≤◌, ◌/◌, ◌%◌, ◌⊎◌, inl, inr, nat_lt, ℤ, pos, negsuc, ◌+ℤ◌, Bool, true, false, if◌then◌else◌, Some, Ok, Err, IfOk, List, [], length, get_or, slice_index, refl, sym, ◌∙◌, ap, arith}
 use Rattle.std.specs.Ordering.{int_eq}
 use Rattle.std.proofs.lemmas.Bool.{lt-ltb, le-ltb, ltb-true, ltb-false}
@@ -19,7 +19,7 @@ use Rattle.kind_core.specs.declared.kind.Kind.{Kind}
 use Rattle.kind_core.specs.declared.kind.Kind.TheVariants.{Unset, Num, Packet, End, Stack, Ctx}
 use Rattle.kind_core.specs.declared.number.Number.TheVariants.{Unknown}
 use Rattle.kind_core.specs.declared.kind.Kinds.{Kinds}
-use Rattle.kind_core.specs.declared.why.Why.TheVariants as why
+use Rattle.xdp_state.specs.declared.refusal.Why.TheVariants as why
 use Rattle.kind_core.specs.Kinds.{register, with_register, with_slot, answering}
 use Rattle.kind_core.specs.Numbers.{number_extended}
 use Rattle.kind_core.specs.Pointers.{combined}
@@ -30,7 +30,7 @@ use Rattle.kind_core.specs.Effects.{operand, effect_of, verdict}
 use Rattle.kind_core.specs.Edges.{constant, changed, transferred}
 use Rattle.kind_core.specs.Profile.{writes_destination}
 use Rattle.kind_core.proofs.TestLaws.{bind_all}
-use Rattle.operator_cells.specs.declared.held_cells.held.Held.{Held}
+use Rattle.operator_cells.specs.declared.held_cells.machine_cells.RegisterCells.{RegisterCells}
 use Rattle.operator_cells.specs.HeldCells.Pointing.{pointing_as, HoldsPointer, KeepPointers}
 use Rattle.operator_cells.proofs.HeldCells.RowLaws.{put_register, put_slot}
 use Rattle.register_cells.specs.Giving.{given_kind}
@@ -45,7 +45,7 @@ use Rattle.register_cells.proofs.LoadRows.{stack_loaded, plain_loaded, context_l
 use Rattle.register_cells.proofs.Loads.{in_packet_all}
 
 -- ---- places
-module _ (k : Kinds) (h : Held) where
+module _ (k : Kinds) (h : RegisterCells) where
   pub held_register : (r : ℕ) → r < 11 → MovesHeld k h (register k r) (slice_index h.registers r)
   held_register r l y e = (r, rw (lt-ltb r 11 l) e)
 
@@ -55,7 +55,7 @@ module _ (k : Kinds) (h : Held) where
       (11 + s, rw (le-ltb (11 + s) 11 (omega arith), lt-ltb (11 + s) 75 (omega (arith, l)), same) e)
 
   -- all pointers are in registers and slots
-  keep_all : (after : Kinds) (next : Held) → ((r : ℕ) → r < 11 → MovesHeld k h (register after r) (slice_index next.registers r)) → ((s : ℕ) → s < 64 → MovesHeld k h (get_or after.slots s Unset) (slice_index next.slots s))
+  keep_all : (after : Kinds) (next : RegisterCells) → ((r : ℕ) → r < 11 → MovesHeld k h (register after r) (slice_index next.registers r)) → ((s : ℕ) → s < 64 → MovesHeld k h (get_or after.slots s Unset) (slice_index next.slots s))
       → KeepPointers k h after next
   keep_all after next registers slots y p = by (nat_lt p.0 11) refl (nat_lt p.0 75) refl (nat_lt p.0 332) refl
     where
@@ -108,7 +108,7 @@ module _ (k : Kinds) (h : Held) where
   constant_held false z c y e = absurd (cc)
 
 -- ---- loads
-module _ (decls : List MapDecl) (k : Kinds) (h : Held) (c : ℕ) where
+module _ (decls : List MapDecl) (k : Kinds) (h : RegisterCells) (c : ℕ) where
   from_context_held : (z : ℤ) (size : Size) → IfOk (access.from_context z size) (λ x. MovesHeld k h x c)
   from_context_held z W = by (int_eq z (pos 0)) (int_eq z (pos 4)) (int_eq z (pos 12)) (int_eq z (pos 16))
     where
@@ -151,7 +151,7 @@ module _ (decls : List MapDecl) (k : Kinds) (h : Held) (c : ℕ) where
       by false = bind_all (access.loaded decls k base z size) _ _ (λ x. bind_all (number_in x) _ _ (λ n y e. absurd cc))
 
 -- ---- instructions that write their destination
-pub given_keeps : (decls : List MapDecl) (k : Kinds) (h : Held) (i : Insn) (node : ℕ) (is_ref : Bool) (c : ℕ) (op : Op) → i.op ≡ op → writes_destination op ≡ true → i.dst ≤ 10 → length k.registers ≡ 11 → length h.registers ≡ 11
+pub given_keeps : (decls : List MapDecl) (k : Kinds) (h : RegisterCells) (i : Insn) (node : ℕ) (is_ref : Bool) (c : ℕ) (op : Op) → i.op ≡ op → writes_destination op ≡ true → i.dst ≤ 10 → length k.registers ≡ 11 → length h.registers ≡ 11
     → verdict (effect_of decls k i) ≡ passed → IfOk (given_kind is_ref decls k i op) (λ x. MovesHeld k h x c) → KeepPointers k h (transferred decls k i node is_ref false) (put_register h i.dst c)
 given_keeps decls k h i node is_ref c op is writes dst ks hs allowed given =
     let x = kind_is is_ref decls k i node (ap writes_destination is ∙ writes) allowed in
@@ -167,7 +167,7 @@ packet_kept Q decls node is_ref k o z size x h = by (pos o +ℤ z)
     by (pos a) = number_stored Q node is_ref k size x a h
     by (negsuc a) = tt
 
-pub stack_keeps : (decls : List MapDecl) (node : ℕ) (is_ref : Bool) (k : Kinds) (h : Held) (o offset : ℤ) (size : Size) (b : Kind) (q at c : ℕ) → length k.slots ≡ 64 → length h.slots ≡ 64 → at < 512
+pub stack_keeps : (decls : List MapDecl) (node : ℕ) (is_ref : Bool) (k : Kinds) (h : RegisterCells) (o offset : ℤ) (size : Size) (b : Kind) (q at c : ℕ) → length k.slots ≡ 64 → length h.slots ≡ 64 → at < 512
     → machine.in_stack (o +ℤ offset) (bytes_in size) ≡ Some at → MovesHeld k h b q → IfOk (access.to_slot size (at % 8) (get_or k.slots (at / 8) Unset) b) (λ x. MovesPointer b q x c)
     → IfOk (access.stored decls k (Stack o) offset size b) (λ e. KeepPointers k h (changed node is_ref false k e) (put_slot h (at / 8) c))
 stack_keeps decls node is_ref k h o offset size b q at c ks hs within e source points =

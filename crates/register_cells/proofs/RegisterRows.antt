@@ -1,8 +1,8 @@
 -- An instruction that writes its destination: in which rows its cells stand.
-use Rattle.std.proofs.Common.{◌≡◌, ◌≢◌, ℕ, ◌+◌, ◌≤◌, ℤ, max, nat_lt, ◌||◌, Bool, true, false, if◌then◌else◌, Ok, IfOk, List, [], ◌∷◌, length, slice_index, refl, sym, ◌∙◌, ap, subst, arith}
+use Rattle.std.proofs.Common.{◌≡◌, ◌≢◌, ℕ, ◌+◌, ◌≤◌, ℤ, max, ◌||◌, Bool, true, false, if◌then◌else◌, Ok, IfOk, List, [], ◌∷◌, length, slice_index, refl, sym, ◌∙◌, ap, subst, arith}
 use Rattle.std.specs.List.{list_any}
 use Rattle.std.proofs.lemmas.Bool.{lt-ltb}
-use Rattle.std.proofs.lemmas.List.{get_or-set_same, get_or-set_other}
+use Rattle.std.proofs.lemmas.List.{get_or-set_same}
 use Rattle.cell_core.specs.bpf_isa.declared.operation.Width.{Width}
 use Rattle.cell_core.specs.bpf_isa.declared.operation.AluCode.{AluCode}
 use Rattle.cell_core.specs.bpf_isa.declared.operation.AluCode.TheVariants.{Mov, Lsh, Rsh, Arsh}
@@ -30,10 +30,10 @@ use Rattle.operator_cells.specs.row_rules.PlaceRows.Origins.{is_open, open_row, 
 use Rattle.operator_cells.specs.row_rules.PlaceRows.Reading.{right_of, arithmetic_is_heavy, result_as, result_row}
 use Rattle.operator_cells.specs.row_rules.PlaceRows.Writing.{writes_as, is_open_in, made_row}
 use Rattle.operator_cells.proofs.row_rules_laws.PlaceRows.SpanLaws.{in_one, in_none, is_inside, one_number, one_row}
-use Rattle.operator_cells.specs.declared.held_cells.held.Held.{Held}
-use Rattle.operator_cells.specs.HeldCells.Held.{PointerView}
-use Rattle.operator_cells.specs.HeldCells.Rows.{number_at, number_row, value_row, held_row, LeavesTo, CarriesTo}
-use Rattle.operator_cells.proofs.HeldCells.RowLaws.{grows_by, put_register, register_row, register_changed, register_kept}
+use Rattle.operator_cells.specs.declared.held_cells.machine_cells.RegisterCells.{RegisterCells}
+use Rattle.operator_cells.specs.HeldCells.RegisterCells.{PointerView}
+use Rattle.operator_cells.specs.HeldCells.Rows.{number_row, value_row, held_row, LeavesTo, CarriesTo}
+use Rattle.operator_cells.proofs.HeldCells.RowLaws.{grows_by, put_register, register_row, register_changed, register_kept, number_kept}
 use Rattle.register_cells.specs.Giving.{given_kind}
 use Rattle.register_cells.specs.Combining.{is_late, combined_row}
 use Rattle.register_cells.specs.Rows.{ValueTo}
@@ -43,7 +43,7 @@ use Rattle.register_cells.proofs.Known.{only_constant}
 use Rattle.register_cells.proofs.ValueLaws.{same_most, zero_most, value_by, value_none, ok_at}
 
 -- ---- what is read
-module _ (row : ℕ → ℕ) (ps : List PointerView) (h : Held) (k : Kinds) where
+module _ (row : ℕ → ℕ) (ps : List PointerView) (h : RegisterCells) (k : Kinds) where
   one_register : (r : ℕ) → r ≤ 10 → span_row (held_row row ps h k) (one r) ≡ value_row row ps (register k r) (slice_index h.registers r)
   one_register r l = one_row (held_row row ps h k) r ∙ register_row row ps h k r (omega (arith, l))
 
@@ -73,7 +73,7 @@ light_most : {a l : ℕ} → a ≡ l → l ≤ max a (max 0 (max 0 (max 0 0))) +
 light_most e = omega (arith, e)
 
 -- the row of a result of arithmetic
-module _ (ps : List PointerView) (h : Held) (k : Kinds) (decls : List MapDecl) (after : Kinds) (i : Insn) (w : Width) (s : Src) (dst : i.dst ≤ 10) (src : i.src ≤ 10) where
+module _ (ps : List PointerView) (h : RegisterCells) (k : Kinds) (decls : List MapDecl) (after : Kinds) (i : Insn) (w : Width) (s : Src) (dst : i.dst ≤ 10) (src : i.src ≤ 10) where
   combined_most : (row : ℕ → ℕ) (code : AluCode) (x : Kind) → register after i.dst ≡ x
       → combined_row code (operand k i s) x (value_row row ps (register k i.dst) (slice_index h.registers i.dst)) (value_row row ps (operand k i s) (slice_index h.registers i.src)) ≤ result_as (held_row row ps h k) decls k after i (Alu w code s)
   combined_most row Mov x is = move_most (right_row row ps h k i s src)
@@ -88,7 +88,7 @@ module _ (ps : List PointerView) (h : Held) (k : Kinds) (decls : List MapDecl) (
       (λ x v e. value_by v (λ row. combined_most row code x e)) same
 
 -- a number in the destination that is changed
-pub renumbered_to : {old new : List CellView} (ps : List PointerView) (h : Held) (k : Kinds) (i : Insn) (f : Number → Number) (n : Number) (c : ℕ) (g : ℕ → ℕ) → i.dst ≤ 10 → register k i.dst ≡ Num n
+pub renumbered_to : {old new : List CellView} (ps : List PointerView) (h : RegisterCells) (k : Kinds) (i : Insn) (f : Number → Number) (n : Number) (c : ℕ) (g : ℕ → ℕ) → i.dst ≤ 10 → register k i.dst ≡ Num n
     → ValueTo old new ps (Num (f n)) c (λ row. g (number_row row n (slice_index h.registers i.dst))) → IfOk (renumbered k i f) (λ x. ValueTo old new ps x c (λ row. g (held_row row ps h k i.dst)))
 renumbered_to {old} {new} ps h k i f n c g dst is v =
     subst (λ (y : Kind). IfOk (number_in y >>= λ m. Ok (Num (f m))) (λ x. ValueTo old new ps x c (λ row. g (held_row row ps h k i.dst)))) (sym is)
@@ -98,7 +98,7 @@ renumbered_to {old} {new} ps h k i f n c g dst is v =
     least e = omega (arith, e)
 
 -- ---- what an instruction that is no load gives, by its operation
-module _ (old new : List CellView) (ps : List PointerView) (h : Held) (k : Kinds) (decls : List MapDecl) (is_ref : Bool) (after : Kinds) (i : Insn) (c : ℕ) where
+module _ (old new : List CellView) (ps : List PointerView) (h : RegisterCells) (k : Kinds) (decls : List MapDecl) (is_ref : Bool) (after : Kinds) (i : Insn) (c : ℕ) where
   abbrev pub GivesAs : Op → Type 0
   GivesAs op = IfOk (given_kind is_ref decls k i op) (λ x. register after i.dst ≡ x → ValueTo old new ps x c (λ row. result_as (held_row row ps h k) decls k after i op))
 
@@ -126,7 +126,7 @@ constant_row : (row : ℕ → ℕ) (ps : List PointerView) (is_ref : Bool) (z : 
 constant_row row ps true z c n = zero_most
 constant_row row ps false z c n = zero_most
 
-pub give_nothing : (old : List CellView) (ps : List PointerView) (h : Held) (k : Kinds) (decls : List MapDecl) (is_ref : Bool) (after : Kinds) (i : Insn) (c : ℕ) (op : Op)
+pub give_nothing : (old : List CellView) (ps : List PointerView) (h : RegisterCells) (k : Kinds) (decls : List MapDecl) (is_ref : Bool) (after : Kinds) (i : Insn) (c : ℕ) (op : Op)
     → ((w : Width) (code : AluCode) (s : Src) → op ≢ Alu w code s) → ((w : Width) → op ≢ Neg w) → ((s : Src) → op ≢ End s) → op ≢ Swap → ((size : Size) → (op ≢ Load size) × (op ≢ LoadSigned size))
     → GivesAs old old ps h k decls is_ref after i c op
 give_nothing old ps h k decls is_ref after i c op a b d e f =
@@ -177,17 +177,10 @@ made_most x r n b h = by (is_open x) h
     by true g = rw (g refl) (omega arith)
     by false g = omega arith
 
-number_kept : (h : Held) (r c place : ℕ) → place ≢ r → number_at (put_register h r c) place ≡ number_at h place
-number_kept h r c place other = by (nat_lt place 11) refl
-  where
-    by : (b : Bool) → nat_lt place 11 ≡ b → number_at (put_register h r c) place ≡ number_at h place
-    by true e = rw (e, get_or-set_other h.registers r place c 0 other) refl
-    by false e = rw e refl
-
 pub below : {a b n : ℕ} → a ≡ b → b ≤ n → a ≤ n
 below e l = omega (arith, e, l)
 
-leaves_register : {old new : List CellView} {made result : (ℕ → ℕ) → ℕ} (ps : List PointerView) (k : Kinds) (h : Held) (x : Kind) (d c : ℕ) → d ≤ 10 → length k.registers ≡ 11 → length h.registers ≡ 11
+leaves_register : {old new : List CellView} {made result : (ℕ → ℕ) → ℕ} (ps : List PointerView) (k : Kinds) (h : RegisterCells) (x : Kind) (d c : ℕ) → d ≤ 10 → length k.registers ≡ 11 → length h.registers ≡ 11
     → ValueTo old new ps x c result → ((row : ℕ → ℕ) → open_row x (result row) ≤ made row)
     → LeavesTo (λ row. held_row row ps h k) ps h (with_register k d x) (put_register h d c) old new (one d ∷ no_place ∷ []) made result
 leaves_register {result = result} ps k h x d c l ks hs v most = record {
@@ -198,7 +191,7 @@ leaves_register {result = result} ps k h x d c l ks hs v most = record {
   same = λ place within at. number_kept h d c place (not_first place d _ at);
 }
 
-pub carried_to : (old new : List CellView) (decls : List MapDecl) (ps : List PointerView) (i : Insn) (node : ℕ) (is_ref : Bool) (k : Kinds) (h : Held) (c : ℕ)
+pub carried_to : (old new : List CellView) (decls : List MapDecl) (ps : List PointerView) (i : Insn) (node : ℕ) (is_ref : Bool) (k : Kinds) (h : RegisterCells) (c : ℕ)
     → writes_destination i.op ≡ true → i.dst ≤ 10 → length k.registers ≡ 11 → length h.registers ≡ 11 → verdict (effect_of decls k i) ≡ passed
     → ((after : Kinds) → GivesAs old new ps h k decls is_ref after i c i.op)
     → CarriesTo decls (λ row. held_row row ps h k) ps i k h (transferred decls k i node is_ref false) (put_register h i.dst c) old new

@@ -1,5 +1,5 @@
 -- Loads that extend the sign.
-use Rattle.std.proofs.Common.{◌≡◌, ◌≢◌, ℕ, ◌+◌, ◌*◌, ◌/◌, ◌%◌, ℤ, pos, negsuc, ◌+ℤ◌, nat_le, Bool, true, false, Option, Some, None, Ok, IfOk, List, length, get_or, refl, sym, ◌∙◌, ap, subst}
+use Rattle.std.proofs.Common.{◌≡◌, ◌≢◌, ℕ, ◌+◌, ◌*◌, ◌/◌, ◌%◌, ℤ, pos, negsuc, ◌+ℤ◌, nat_le, Bool, true, false, Option, Some, None, Ok, IfOk, List, get_or, refl, sym, ◌∙◌, ap, subst}
 use Rattle.cell_core.specs.bpf_isa.declared.operation.Size.{Size}
 use Rattle.cell_core.specs.bpf_isa.declared.operation.Size.TheVariants.{B, H, W, Dw}
 use Rattle.cell_core.specs.bpf_isa.declared.operation.Width.TheVariants.{Bits64}
@@ -24,10 +24,10 @@ use Rattle.kind_core.specs.Kinds as kinds
 use Rattle.kind_core.specs.Places as places
 use Rattle.kind_core.specs.Access as kind
 use Rattle.cell_core.specs.Cells.{CellView}
-use Rattle.operator_cells.specs.declared.held_cells.held.Held.{Held}
-use Rattle.operator_cells.specs.HeldCells.Held.{PointerView, number_of}
+use Rattle.operator_cells.specs.declared.held_cells.machine_cells.RegisterCells.{RegisterCells}
+use Rattle.operator_cells.specs.HeldCells.RegisterCells.{PointerView, number_of}
 use Rattle.operator_cells.specs.HeldCells.Carrying.{IsKnown, Gives}
-use Rattle.register_cells.specs.Reading.{HasNumber, Yields, Finds}
+use Rattle.register_cells.specs.Reading.{Finds}
 use Rattle.register_cells.specs.Giving.{given, numbered}
 use Rattle.kind_core.proofs.TestLaws.{bind_ok, bind_passed}
 use Rattle.operator_cells.proofs.MakingLaws.{grown}
@@ -45,7 +45,7 @@ signed_of m b offset size y e = by (machine.loaded m b offset size) refl e
     by (Some u) g f = let h = rw g at f in (u, g, h)
 
 -- a number that is loaded, extended
-extended_gives : (decls : List MapDecl) (ps : List PointerView) (node : ℕ) (k : Kinds) (h : Held) (old mid new : List CellView) (offset : ℤ) (size : Size) (b : Machine → Value) (n : Number) (p c : ℕ)
+extended_gives : (decls : List MapDecl) (ps : List PointerView) (node : ℕ) (k : Kinds) (h : RegisterCells) (old mid new : List CellView) (offset : ℤ) (size : Size) (b : Machine → Value) (n : Number) (p c : ℕ)
     → Gives decls ps node k h old mid (Num n) p (λ m. machine.loaded m (b m) offset size)
     → Finds mid new (number_extended Bits64 (8 * bytes_in size) n) c (λ packet v. signed size (number_of v n p))
     → Gives decls ps node k h old new (Num (number_extended Bits64 (8 * bytes_in size) n)) c (λ m. machine.loaded_signed m (b m) offset size)
@@ -66,7 +66,7 @@ pub number_there : (x : Kind) (n : Number) → tests.number_in x ≡ Ok n → x 
 number_there (Num m) n e = cc
 number_there x n e = absurd (cc)
 
-pub signed_gives : (decls : List MapDecl) (ps : List PointerView) (node : ℕ) (k : Kinds) (h : Held) (old mid new : List CellView) (base : Kind) (offset : ℤ) (size : Size) (b : Machine → Value) (p c : ℕ)
+pub signed_gives : (decls : List MapDecl) (ps : List PointerView) (node : ℕ) (k : Kinds) (h : RegisterCells) (old mid new : List CellView) (base : Kind) (offset : ℤ) (size : Size) (b : Machine → Value) (p c : ℕ)
     → kind.is_context base ≡ false
     → IfOk (kind.loaded decls k base offset size) (λ x. Gives decls ps node k h old mid x p (λ m. machine.loaded m (b m) offset size))
     → ((n : Number) → kind.loaded decls k base offset size ≡ Ok (Num n) → Finds mid new (number_extended Bits64 (8 * bytes_in size) n) c (λ packet v. signed size (number_of v n p)))
@@ -120,16 +120,6 @@ slot_found mid new H at p c (Num i) n e found = let f : number_part H at i ≡ n
 slot_found mid new W at p c (Num i) n e found = let f : number_part W at i ≡ n = cc in part_found mid new W at p c i n f (found i refl)
 slot_found mid new size at p c x n e found = absurd (cc)
 
--- a number that is not known is there
-pub slot_there : (decls : List MapDecl) (ps : List PointerView) (size : Size) (at : ℕ) (x : Kind) (q : ℕ) (old mid : List CellView) (p : ℕ) (f : Value → Value → Option Value)
-    → IfOk (kind.from_slot size at x) (λ y. Yields decls ps x q x q old mid y p f) → HasNumber (length mid) x p
-slot_there decls ps Dw at (Num Unknown) q old mid p f yields = yields.counts
-slot_there decls ps B at (Num Unknown) q old mid p f yields = yields.counts
-slot_there decls ps H at (Num Unknown) q old mid p f yields = yields.counts
-slot_there decls ps W at (Num Unknown) q old mid p f yields = yields.counts
-slot_there decls ps size at (Num (Known a)) q old mid p f yields = tt
-slot_there decls ps size at x q old mid p f yields = tt
-
 pub stack_found : (decls : List MapDecl) (k : Kinds) (mid new : List CellView) (o offset : ℤ) (size : Size) (a p c : ℕ) → machine.in_stack (o +ℤ offset) (bytes_in size) ≡ Some a
     → ((i : Number) → get_or k.slots (a / 8) Unset ≡ Num i → Extends mid new size p c i) → (n : Number) → kind.loaded decls k (Stack o) offset size ≡ Ok (Num n) → Extends mid new size p c n
 unfolding kind.loaded
@@ -142,7 +132,7 @@ stack_found decls k mid new o offset size a p c place found n e =
 
 -- ---- MEMSX
 
-pub signed_as : (decls : List MapDecl) (ps : List PointerView) (refs : List ℕ) (node : ℕ) (k : Kinds) (h : Held) (i : Insn) (old new : List CellView) (base : Kind) (b : Value) (size : Size) (c : ℕ) {z : ℤ} → kinds.register k i.src ≡ base → z ≡ i.offset
+pub signed_as : (decls : List MapDecl) (ps : List PointerView) (refs : List ℕ) (node : ℕ) (k : Kinds) (h : RegisterCells) (i : Insn) (old new : List CellView) (base : Kind) (b : Value) (size : Size) (c : ℕ) {z : ℤ} → kinds.register k i.src ≡ base → z ≡ i.offset
     → ((packet : PacketIn) (v : ℕ → ℕ) (m : Machine) → IsKnown decls packet v ps node k h m → register m.registers i.src ≡ b)
     → IfOk (kind.loaded_signed decls k base z size) (λ x. Gives decls ps node k h old new x c (λ m. machine.loaded_signed m b z size))
     → IfOk (kind.loaded_signed decls k (kinds.register k i.src) i.offset size) (λ x. Gives decls ps node k h old new x c (λ m. given refs m i (LoadSigned size)))

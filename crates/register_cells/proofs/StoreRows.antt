@@ -39,8 +39,8 @@ use Rattle.operator_cells.specs.row_rules.PlaceRows.Origins.{is_open, open_row, 
 use Rattle.operator_cells.specs.row_rules.PlaceRows.Reading.{in_slot, result_as}
 use Rattle.operator_cells.specs.row_rules.PlaceRows.Writing.{is_open_in, writes_as, record_as, taken_row}
 use Rattle.operator_cells.proofs.row_rules_laws.PlaceRows.SpanLaws.{inside as in_span, is_inside, in_none, one_row}
-use Rattle.operator_cells.specs.declared.held_cells.held.Held.{Held}
-use Rattle.operator_cells.specs.HeldCells.Held.{PointerView}
+use Rattle.operator_cells.specs.declared.held_cells.machine_cells.RegisterCells.{RegisterCells}
+use Rattle.operator_cells.specs.HeldCells.RegisterCells.{PointerView}
 use Rattle.operator_cells.specs.HeldCells.Rows.{number_row, value_row, kind_at, number_at, held_row, LeavesTo, CarriesTo}
 use Rattle.operator_cells.proofs.HeldCells.RowLaws.{grows_by, register_row, byte_row, slot_changed, slot_kept}
 use Rattle.register_cells.specs.Rows.{ValueTo, left_row, stored_row, StoresTo}
@@ -119,7 +119,7 @@ slot_has k s x l ks =
     let same : 11 + s - 11 ≡ s = omega arith in
     rw (le-ltb (11 + s) 11 (omega arith), lt-ltb (11 + s) 75 (omega (arith, l)), same, get_or-set_same k.slots s x Unset (omega (arith, l, ks))) refl
 
-slot_number : (h : Held) (s c place : ℕ) → place ≢ 11 + s → number_at (record h { slots = slice_set h.slots s c }) place ≡ number_at h place
+slot_number : (h : RegisterCells) (s c place : ℕ) → place ≢ 11 + s → number_at (record h { slots = slice_set h.slots s c }) place ≡ number_at h place
 slot_number h s c place other = by (nat_lt place 11) refl (nat_lt place 75) refl
   where
     by : (a : Bool) → nat_lt place 11 ≡ a → (b : Bool) → nat_lt place 75 ≡ b → number_at (record h { slots = slice_set h.slots s c }) place ≡ number_at h place
@@ -127,7 +127,7 @@ slot_number h s c place other = by (nat_lt place 11) refl (nat_lt place 75) refl
     by false e true f = let off : place - 11 ≢ s = λ same. other (omega (arith, same, ltb-false place 11 e)) in rw (e, f, get_or-set_other h.slots s (place - 11) c 0 off) refl
     by false e false f = rw (e, f) refl
 
-left_above : (ps : List PointerView) (h : Held) (k : Kinds) (o offset : ℤ) (size : Size) (at : ℕ) → at < 512 → machine.in_stack (o +ℤ offset) (bytes_in size) ≡ Some at → (row : ℕ → ℕ)
+left_above : (ps : List PointerView) (h : RegisterCells) (k : Kinds) (o offset : ℤ) (size : Size) (at : ℕ) → at < 512 → machine.in_stack (o +ℤ offset) (bytes_in size) ≡ Some at → (row : ℕ → ℕ)
     → left_row row ps size (get_or k.slots (at / 8) Unset) (slice_index h.slots (at / 8)) ≤ span_row (held_row row ps h k) (in_slot (Stack o) offset size)
 left_above ps h k o offset Dw at within e row = omega arith
 left_above ps h k o offset B at within e row = slot_above ps h k o offset B at within e row
@@ -151,7 +151,7 @@ le_of e = omega (arith, e)
 differs : (place s : ℕ) (sp : Span) → is_in (11 + s) sp ≡ true → list_any (is_in place) (sp ∷ no_place ∷ []) ≡ false → place ≢ 11 + s
 differs place s sp h out same = let e : true ≡ false = sym h ∙ ap (λ (p : ℕ). is_in p sp) (sym same) ∙ sym (in_first place sp) ∙ out in absurd cc
 
-slot_stores : (ps : List PointerView) (k : Kinds) (h : Held) (old new : List CellView) (o offset : ℤ) (size : Size) (b : Kind) (q at c : ℕ) (x : Kind)
+slot_stores : (ps : List PointerView) (k : Kinds) (h : RegisterCells) (old new : List CellView) (o offset : ℤ) (size : Size) (b : Kind) (q at c : ℕ) (x : Kind)
     → length k.slots ≡ 64 → length h.slots ≡ 64 → at < 512 → at % 8 + bytes_in size ≤ 8 → machine.in_stack (o +ℤ offset) (bytes_in size) ≡ Some at
     → ValueTo old new ps x c (λ row. max (left_row row ps size (get_or k.slots (at / 8) Unset) (slice_index h.slots (at / 8))) (value_row row ps b q))
     → StoresTo ps k h (with_slot k (at / 8) x) (record h { slots = slice_set h.slots (at / 8) c }) (Stack o) offset size b q old new
@@ -170,7 +170,7 @@ slot_stores ps k h old new o offset size b q at c x ks hs within fits e v =
       same = λ place l out. slot_number h (at / 8) c place (differs place (at / 8) sp there out);
     }
 
-pub stack_stores_to : (ps : List PointerView) (decls : List MapDecl) (node : ℕ) (is_ref : Bool) (k : Kinds) (h : Held) (old new : List CellView) (o offset : ℤ) (size : Size) (b : Kind) (q at c : ℕ)
+pub stack_stores_to : (ps : List PointerView) (decls : List MapDecl) (node : ℕ) (is_ref : Bool) (k : Kinds) (h : RegisterCells) (old new : List CellView) (o offset : ℤ) (size : Size) (b : Kind) (q at c : ℕ)
     → length k.slots ≡ 64 → length h.slots ≡ 64 → at < 512 → at % 8 + bytes_in size ≤ 8 → machine.in_stack (o +ℤ offset) (bytes_in size) ≡ Some at
     → IfOk (access.to_slot size (at % 8) (get_or k.slots (at / 8) Unset) b) (λ x. ValueTo old new ps x c (λ row. max (left_row row ps size (get_or k.slots (at / 8) Unset) (slice_index h.slots (at / 8))) (value_row row ps b q)))
     → IfOk (access.stored decls k (Stack o) offset size b) (λ e. StoresTo ps k h (changed node is_ref false k e) (record h { slots = slice_set h.slots (at / 8) c }) (Stack o) offset size b q old new)
@@ -186,7 +186,7 @@ greatest_at row (x ∷ xs) zero l = omega arith
 greatest_at row (x ∷ xs) (suc j) l = omega (arith, greatest_at row xs j (omega (arith, l)))
 
 -- places of the packet that are not among those that are written
-window_number_at : (h : Held) (at : ℕ) (bs : List ℕ) (place : ℕ) → length h.window ≡ 256 → at + length bs ≤ 256 → ((place < 75 + at) ⊎ (75 + at + length bs ≤ place)) → number_at (record h { window = patched h.window at bs }) place ≡ number_at h place
+window_number_at : (h : RegisterCells) (at : ℕ) (bs : List ℕ) (place : ℕ) → length h.window ≡ 256 → at + length bs ≤ 256 → ((place < 75 + at) ⊎ (75 + at + length bs ≤ place)) → number_at (record h { window = patched h.window at bs }) place ≡ number_at h place
 window_number_at h at bs place whole fits out = by (nat_lt place 11) refl (nat_lt place 75) refl out
   where
     by : (a : Bool) → nat_lt place 11 ≡ a → (b : Bool) → nat_lt place 75 ≡ b → ((place < 75 + at) ⊎ (75 + at + length bs ≤ place)) → number_at (record h { window = patched h.window at bs }) place ≡ number_at h place
@@ -203,7 +203,7 @@ outside at n place h = by (cases_lt place (75 + at)) (cases_lt place (75 + at + 
     by (inr l) (inr m) = inr m
     by (inr l) (inl m) = let e : true ≡ false = sym (is_inside place (bytes_of at n) l m) ∙ h in absurd cc
 
-byte_written : (row : ℕ → ℕ) (ps : List PointerView) (h : Held) (k : Kinds) (at : ℕ) (bs : List ℕ) (place : ℕ) → length h.window ≡ 256 → at + length bs ≤ 256 → 75 + at ≤ place → place < 75 + at + length bs
+byte_written : (row : ℕ → ℕ) (ps : List PointerView) (h : RegisterCells) (k : Kinds) (at : ℕ) (bs : List ℕ) (place : ℕ) → length h.window ≡ 256 → at + length bs ≤ 256 → 75 + at ≤ place → place < 75 + at + length bs
     → held_row row ps (record h { window = patched h.window at bs }) k place ≤ greatest row bs
 byte_written row ps h k at bs place whole fits low high =
     let is_place : place ≡ 75 + (place - 75) = omega (arith, low) in
@@ -211,16 +211,16 @@ byte_written row ps h k at bs place whole fits low high =
     ∙ ap row (patched_in h.window bs at (place - 75) (omega (arith, low)) (omega (arith, low, high)) (omega (arith, fits, whole))))
     (greatest_at row bs (place - 75 - at) (omega (arith, low, high)))
 
-byte_kept : (h : Held) (at n : ℕ) (bs : List ℕ) (place : ℕ) → length h.window ≡ 256 → at + n ≤ 256 → length bs ≡ n → list_any (is_in place) (bytes_of at n ∷ no_place ∷ []) ≡ false
+byte_kept : (h : RegisterCells) (at n : ℕ) (bs : List ℕ) (place : ℕ) → length h.window ≡ 256 → at + n ≤ 256 → length bs ≡ n → list_any (is_in place) (bytes_of at n ∷ no_place ∷ []) ≡ false
     → number_at (record h { window = patched h.window at bs }) place ≡ number_at h place
 byte_kept h at n bs place whole fits count out =
     window_number_at h at bs place whole (omega (arith, fits, count))
     (subst (λ (m : ℕ). (place < 75 + at) ⊎ (75 + at + m ≤ place)) (sym count) (outside at n place (sym (in_first place (bytes_of at n)) ∙ out)))
 
-window_stores : (ps : List PointerView) (k : Kinds) (h : Held) (old new : List CellView) (at n : ℕ) (last : (ℕ → ℕ) → ℕ) (bs : List ℕ) → 1 ≤ n → length h.window ≡ 256 → at + n ≤ 256 → length bs ≡ n → RiseAll old new bs last
+window_stores : (ps : List PointerView) (k : Kinds) (h : RegisterCells) (old new : List CellView) (at n : ℕ) (last : (ℕ → ℕ) → ℕ) (bs : List ℕ) → 1 ≤ n → length h.window ≡ 256 → at + n ≤ 256 → length bs ≡ n → RiseAll old new bs last
     → LeavesTo (λ row. held_row row ps h k) ps h k (record h { window = patched h.window at bs }) old new (bytes_of at n ∷ no_place ∷ []) (λ row. if list_any (is_open_in k) (bytes_of at n ∷ no_place ∷ []) then last row else 0) last
 window_stores ps k h old new at n last bs some whole fits count r =
-    let next : Held = record h { window = patched h.window at bs } in
+    let next : RegisterCells = record h { window = patched h.window at bs } in
     let fits2 : at + length bs ≤ 256 = omega (arith, fits, count) in
     let first : is_in (75 + at) (bytes_of at n) ≡ true = is_inside (75 + at) (bytes_of at n) (omega arith) (omega (arith, some)) in
     let data_there : has_data k (75 + at) ≡ true = rw (le-ltb (75 + at) 11 (omega arith), le-ltb (75 + at) 75 (omega arith)) refl in
@@ -237,7 +237,7 @@ window_stores ps k h old new at n last bs some whole fits count r =
 first : (a b : ℕ) → a ≤ max a b
 first a b = omega arith
 
-packet_stores : (ps : List PointerView) (k : Kinds) (h : Held) (old new : List CellView) (o : ℕ) (offset : ℤ) (size : Size) (i : Number) (q at : ℕ) (bs : List ℕ) → length h.window ≡ 256 → inside (pos o +ℤ offset) (bytes_in size) 256 ≡ Some at
+packet_stores : (ps : List PointerView) (k : Kinds) (h : RegisterCells) (old new : List CellView) (o : ℕ) (offset : ℤ) (size : Size) (i : Number) (q at : ℕ) (bs : List ℕ) → length h.window ≡ 256 → inside (pos o +ℤ offset) (bytes_in size) 256 ≡ Some at
     → at + bytes_in size ≤ 256 → length bs ≡ bytes_in size → RiseAll old new bs (λ row. number_row row i q) → StoresTo ps k h k (record h { window = patched h.window at bs }) (Packet o) offset size (Num i) q old new
 packet_stores ps k h old new o offset size i q at bs whole e fits count r =
     let R : (ℕ → ℕ) → ℕ = λ row. stored_row row ps h k (Packet o) offset size (Num i) q in
@@ -246,7 +246,7 @@ packet_stores ps k h old new o offset size i q at bs whole e fits count r =
     (λ row. if list_any (is_open_in k) (bytes_of (unsigned_abs z) (bytes_in size) ∷ no_place ∷ []) then R row else 0) R) (sym (inside_is (pos o +ℤ offset) (bytes_in size) 256 at e))
     (window_stores ps k h old new at (bytes_in size) R bs (some_bytes size) whole fits count all)
 
-pub packet_stores_to : {R E : Type 0} (r : Result R E) (decls : List MapDecl) (ps : List PointerView) (node : ℕ) (is_ref : Bool) (k : Kinds) (h next : Held) (old new : List CellView) (o : ℕ) (offset : ℤ) (size : Size) (b : Kind) (i : Number) (q at : ℕ)
+pub packet_stores_to : {R E : Type 0} (r : Result R E) (decls : List MapDecl) (ps : List PointerView) (node : ℕ) (is_ref : Bool) (k : Kinds) (h next : RegisterCells) (old new : List CellView) (o : ℕ) (offset : ℤ) (size : Size) (b : Kind) (i : Number) (q at : ℕ)
     → b ≡ Num i → length h.window ≡ 256 → inside (pos o +ℤ offset) (bytes_in size) 256 ≡ Some at → at + bytes_in size ≤ 256
     → OnOk r ((bytes : List ℕ) × (next ≡ record h { window = patched h.window at bytes }) × (length bytes ≡ bytes_in size) × RiseAll old new bytes (λ row. number_row row i q))
     → IfOk (access.stored decls k (Packet o) offset size b) (λ e. OnOk r (StoresTo ps k h (changed node is_ref false k e) next (Packet o) offset size b q old new))
@@ -261,7 +261,7 @@ packet_stores_to (Ok u) decls ps node is_ref k h next old new o offset size b i 
 
 -- ---- stores
 
-pub store_to : {R E : Type 0} (r : Result R E) (decls : List MapDecl) (ps : List PointerView) (node : ℕ) (is_ref : Bool) (k : Kinds) (h next : Held) (i : Insn) (old new : List CellView) (base : Kind) (size : Size) (x y : Kind) (q : ℕ) {z : ℤ}
+pub store_to : {R E : Type 0} (r : Result R E) (decls : List MapDecl) (ps : List PointerView) (node : ℕ) (is_ref : Bool) (k : Kinds) (h next : RegisterCells) (i : Insn) (old new : List CellView) (base : Kind) (size : Size) (x y : Kind) (q : ℕ) {z : ℤ}
     → register k i.dst ≡ base → z ≡ i.offset → y ≡ x
     → IfOk (access.stored decls k base z size y) (λ e. OnOk r (StoresTo ps k h (changed node is_ref false k e) next base z size y q old new))
     → IfOk (access.stored decls k (register k i.dst) i.offset size x) (λ e. OnOk r (StoresTo ps k h (changed node is_ref false k e) next (register k i.dst) i.offset size x q old new))
@@ -270,7 +270,7 @@ store_to r decls ps node is_ref k h next i old new base size x y q {z} e at same
     (subst (λ (t : ℤ). IfOk (access.stored decls k base t size x) (λ e. OnOk r (StoresTo ps k h (changed node is_ref false k e) next base t size x q old new))) at
     (subst (λ (w : Kind). IfOk (access.stored decls k base z size w) (λ e. OnOk r (StoresTo ps k h (changed node is_ref false k e) next base z size w q old new))) same stores))
 
-leaves_by : {before : (ℕ → ℕ) → ℕ → ℕ} {ps : List PointerView} {h next : Held} {after : Kinds} {old new : List CellView} {spans : List Span} {f g a b : (ℕ → ℕ) → ℕ} → LeavesTo before ps h after next old new spans f a
+leaves_by : {before : (ℕ → ℕ) → ℕ → ℕ} {ps : List PointerView} {h next : RegisterCells} {after : Kinds} {old new : List CellView} {spans : List Span} {f g a b : (ℕ → ℕ) → ℕ} → LeavesTo before ps h after next old new spans f a
     → ((row : ℕ → ℕ) → f row ≤ g row) → ((row : ℕ → ℕ) → a row ≤ b row) → LeavesTo before ps h after next old new spans g b
 leaves_by l up more = record {
   grows = grows_by l.grows up;
@@ -279,7 +279,7 @@ leaves_by l up more = record {
   same = l.same;
 }
 
-abbrev AsTo : List MapDecl → List PointerView → Insn → Op → Kinds → Held → Kinds → Held → List CellView → List CellView → Type 0
+abbrev AsTo : List MapDecl → List PointerView → Insn → Op → Kinds → RegisterCells → Kinds → RegisterCells → List CellView → List CellView → Type 0
 AsTo decls ps i op k h after next old new =
     LeavesTo (λ row. held_row row ps h k) ps h after next old new (writes_as k i op)
     (λ row. max (if list_any (is_open_in after) (writes_as k i op) then result_as (held_row row ps h k) decls k after i op else 0) (taken_row (held_row row ps h k) (record_as decls k i op)))
@@ -289,14 +289,14 @@ if_by : (b : Bool) (m n t : ℕ) → m ≤ n → (if b then m else 0) ≤ max (i
 if_by true m n t h = omega (arith, h)
 if_by false m n t h = omega arith
 
-imm_above : (row : ℕ → ℕ) (ps : List PointerView) (decls : List MapDecl) (k : Kinds) (h : Held) (after : Kinds) (i : Insn) (size : Size) (q : ℕ)
+imm_above : (row : ℕ → ℕ) (ps : List PointerView) (decls : List MapDecl) (k : Kinds) (h : RegisterCells) (after : Kinds) (i : Insn) (size : Size) (q : ℕ)
     → stored_row row ps h k (register k i.dst) i.offset size (operand k i K) q ≤ result_as (held_row row ps h k) decls k after i (StoreImm size)
 imm_above row ps decls k h after i size q = by (span_row (held_row row ps h k) (in_slot (register k i.dst) i.offset size)) (spans_row (held_row row ps h k) (no_place ∷ no_place ∷ no_place ∷ []))
   where
     by : (a b : ℕ) → max 0 a ≤ max a b + 0
     by a b = omega arith
 
-src_above : (row : ℕ → ℕ) (ps : List PointerView) (decls : List MapDecl) (k : Kinds) (h : Held) (after : Kinds) (i : Insn) (size : Size) → i.src ≤ 10
+src_above : (row : ℕ → ℕ) (ps : List PointerView) (decls : List MapDecl) (k : Kinds) (h : RegisterCells) (after : Kinds) (i : Insn) (size : Size) → i.src ≤ 10
     → stored_row row ps h k (register k i.dst) i.offset size (operand k i X) (slice_index h.registers i.src) ≤ result_as (held_row row ps h k) decls k after i (Store size)
 src_above row ps decls k h after i size src =
     by (value_row row ps (register k i.src) (slice_index h.registers i.src)) (span_row (held_row row ps h k) (one i.src)) (span_row (held_row row ps h k) (in_slot (register k i.dst) i.offset size))
@@ -305,20 +305,20 @@ src_above row ps decls k h after i size src =
     by : (v s a b : ℕ) → s ≡ v → max v a ≤ max s (max a b) + 0
     by v s a b e = omega (arith, e)
 
-pub imm_carries : (decls : List MapDecl) (ps : List PointerView) (i : Insn) (k : Kinds) (h : Held) (after : Kinds) (next : Held) (old new : List CellView) (size : Size) → i.op ≡ StoreImm size
+pub imm_carries : (decls : List MapDecl) (ps : List PointerView) (i : Insn) (k : Kinds) (h : RegisterCells) (after : Kinds) (next : RegisterCells) (old new : List CellView) (size : Size) → i.op ≡ StoreImm size
     → StoresTo ps k h after next (register k i.dst) i.offset size (operand k i K) (slice_index h.registers i.src) old new → CarriesTo decls (λ row. held_row row ps h k) ps i k h after next old new
 imm_carries decls ps i k h after next old new size e stores =
     subst (λ (op : Op). AsTo decls ps i op k h after next old new) (sym e)
     (leaves_by stores (λ row. if_by (list_any (is_open_in after) (writes_as k i (StoreImm size))) _ _ _ (imm_above row ps decls k h after i size (slice_index h.registers i.src))) (λ row. imm_above row ps decls k h after i size (slice_index h.registers i.src)))
 
-pub src_carries : (decls : List MapDecl) (ps : List PointerView) (i : Insn) (k : Kinds) (h : Held) (after : Kinds) (next : Held) (old new : List CellView) (size : Size) → i.src ≤ 10 → i.op ≡ Store size
+pub src_carries : (decls : List MapDecl) (ps : List PointerView) (i : Insn) (k : Kinds) (h : RegisterCells) (after : Kinds) (next : RegisterCells) (old new : List CellView) (size : Size) → i.src ≤ 10 → i.op ≡ Store size
     → StoresTo ps k h after next (register k i.dst) i.offset size (operand k i X) (slice_index h.registers i.src) old new → CarriesTo decls (λ row. held_row row ps h k) ps i k h after next old new
 src_carries decls ps i k h after next old new size src e stores =
     subst (λ (op : Op). AsTo decls ps i op k h after next old new) (sym e)
     (leaves_by stores (λ row. if_by (list_any (is_open_in after) (writes_as k i (Store size))) _ _ _ (src_above row ps decls k h after i size src)) (λ row. src_above row ps decls k h after i size src))
 
 -- an allowed store carries to where its effect leads
-pub store_carried_to : {R E : Type 0} (r : Result R E) (decls : List MapDecl) (ps : List PointerView) (node : ℕ) (is_ref : Bool) (k : Kinds) (h next : Held) (i : Insn) (old new : List CellView) (size : Size) (s : Src)
+pub store_carried_to : {R E : Type 0} (r : Result R E) (decls : List MapDecl) (ps : List PointerView) (node : ℕ) (is_ref : Bool) (k : Kinds) (h next : RegisterCells) (i : Insn) (old new : List CellView) (size : Size) (s : Src)
     → verdict (effect_of decls k i) ≡ passed → effect_as decls k i i.op ≡ access.stored decls k (register k i.dst) i.offset size (operand k i s)
     → ((after : Kinds) → StoresTo ps k h after next (register k i.dst) i.offset size (operand k i s) (slice_index h.registers i.src) old new → CarriesTo decls (λ row. held_row row ps h k) ps i k h after next old new)
     → IfOk (access.stored decls k (register k i.dst) i.offset size (operand k i s))

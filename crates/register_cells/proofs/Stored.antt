@@ -13,9 +13,9 @@ use Rattle.cell_core.specs.xdp_machine.State.{Machine, PacketIn}
 use Rattle.cell_core.specs.xdp_machine.Memory.{bytes_in}
 use Rattle.cell_core.specs.xdp_machine.Memory as machine
 use Rattle.kind_core.specs.declared.kind.Kinds.{Kinds}
-use Rattle.operator_cells.specs.declared.held_cells.held.Held.{Held}
-use Rattle.operator_cells.specs.declared.held_cells.held.Pointer.{Pointer}
-use Rattle.operator_cells.specs.HeldCells.Held.{PointerView, pointer_of, pointed, no_pointer, pointer_at, AreHeld, AreInside}
+use Rattle.operator_cells.specs.declared.held_cells.machine_cells.RegisterCells.{RegisterCells}
+use Rattle.operator_cells.specs.declared.held_cells.machine_cells.Pointer.{Pointer}
+use Rattle.operator_cells.specs.HeldCells.RegisterCells.{PointerView, pointer_of, pointed, no_pointer, pointer_at, AreHeld, AreInside}
 use Rattle.register_cells.proofs.Carrying.{inside_more}
 
 -- ---- the machine
@@ -75,7 +75,7 @@ patched_two P xs ys us ws a n same f g all new i l = by (cases_lt i a) (cases_lt
     by (inr low) (inl high) = rw (patched_in xs us a i low high (omega (arith, f)), patched_in ys ws a i low (omega (arith, high, same)) (omega (arith, g))) (new (i - a) (omega (arith, low, high)))
     by (inr low) (inr high) = rw (patched_past xs us a i high f, patched_past ys ws a i (omega (arith, high, same)) g) (all i l)
 
-pub window_inside : (decls : List MapDecl) (n m : ℕ) (ps : List PointerView) (h : Held) (k : Kinds) (a : ℕ) (cs : List ℕ) → n ≤ m → a + length cs ≤ 256 → length h.window ≡ 256 → All (λ c. c < m) cs
+pub window_inside : (decls : List MapDecl) (n m : ℕ) (ps : List PointerView) (h : RegisterCells) (k : Kinds) (a : ℕ) (cs : List ℕ) → n ≤ m → a + length cs ≤ 256 → length h.window ≡ 256 → All (λ c. c < m) cs
     → AreInside decls n ps h k → AreInside decls m ps (record h { window = patched h.window a cs }) k
 window_inside decls n m ps h k a cs l fits whole there inside = let all = inside_more decls n m ps h k l inside in record {
   registers = all.registers;
@@ -84,7 +84,7 @@ window_inside decls n m ps h k a cs l fits whole there inside = let all = inside
   target = all.target;
 }
 
-pub window_held : (decls : List MapDecl) (packet : PacketIn) (v : ℕ → ℕ) (ps : List PointerView) (h : Held) (k : Kinds) (m : Machine) (a : ℕ) (cs bs : List ℕ) → a + length cs ≤ 256 → length h.window ≡ 256
+pub window_held : (decls : List MapDecl) (packet : PacketIn) (v : ℕ → ℕ) (ps : List PointerView) (h : RegisterCells) (k : Kinds) (m : Machine) (a : ℕ) (cs bs : List ℕ) → a + length cs ≤ 256 → length h.window ≡ 256
     → map_list v cs ≡ bs → a + length cs ≤ length m.frame → AreHeld decls packet v ps h k m
     → AreHeld decls packet v ps (record h { window = patched h.window a cs }) k (record m { frame = patched m.frame a bs })
 window_held decls packet v ps h k m a cs bs fits whole same_bytes room held =

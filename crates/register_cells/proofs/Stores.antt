@@ -20,7 +20,7 @@ use Rattle.kind_core.specs.declared.number.Number.TheVariants.{Known, Unknown}
 use Rattle.kind_core.specs.declared.kind.Kind.{Kind}
 use Rattle.kind_core.specs.declared.kind.Kind.TheVariants.{Unset, Num, Packet, End, Stack, Ctx, MapRef, Maybe, Entry, Stale, Mixed}
 use Rattle.kind_core.specs.declared.kind.Kinds.{Kinds}
-use Rattle.kind_core.specs.declared.why.Why.{Why}
+use Rattle.xdp_state.specs.declared.refusal.Why.{Why}
 use Rattle.kind_core.specs.Places as places
 use Rattle.kind_core.specs.Numbers.{number_patched}
 use Rattle.kind_core.specs.Kinds.{with_slot}
@@ -33,12 +33,12 @@ use Rattle.kind_core.specs.Access.{underlying}
 use Rattle.kind_core.specs.Access as access
 use Rattle.kind_core.specs.Describes.{World, Describes}
 use Rattle.cell_core.specs.Cells.{CellView}
-use Rattle.operator_cells.specs.declared.held_cells.held.Held.{Held}
-use Rattle.operator_cells.specs.HeldCells.Held.{PointerView, pointer_at, Holds, Counts, AreInside, number_of, IsThere}
+use Rattle.operator_cells.specs.declared.held_cells.machine_cells.RegisterCells.{RegisterCells}
+use Rattle.operator_cells.specs.HeldCells.RegisterCells.{PointerView, Holds, Counts, AreInside, number_of, IsThere}
 use Rattle.operator_cells.specs.HeldCells.Carrying.{IsKnown, Carries}
-use Rattle.register_cells.specs.Reading.{IsRead, Yields, Finds}
+use Rattle.register_cells.specs.Reading.{IsRead, Finds}
 use Rattle.register_cells.specs.Giving.{numbered}
-use Rattle.register_cells.specs.Storing.{points, left_of, IsSource, Fills, Leaves}
+use Rattle.register_cells.specs.Storing.{left_of, IsSource, Fills, Leaves}
 use Rattle.operator_cells.specs.Spreading.{MakesBytes}
 use Rattle.kind_core.proofs.TestLaws.{bind_ok, bind_all, bind_passed}
 use Rattle.register_cells.proofs.Known.{slot_read, frame_short}
@@ -46,11 +46,6 @@ use Rattle.register_cells.proofs.Carrying.{slot_inside, slot_held, passed_ok}
 use Rattle.register_cells.proofs.Growing.{ok_map}
 use Rattle.register_cells.proofs.Loads.{inside_is, aligned_is, not_in_stack, not_in_packet}
 use Rattle.register_cells.proofs.Stored.{stack_stored, packet_stored, number_is, window_inside, window_held}
-
-pub found_there : (decls : List MapDecl) (n : ℕ) (ps : List PointerView) (a : Kind) (p : ℕ) → points a ≡ true → Counts decls n ps a p → (p < length ps) × ((pointer_at ps p).found < n)
-found_there decls n ps (Maybe q j) p e h = (h.0, h.1.found)
-found_there decls n ps (Entry q o) p e h = (h.0, h.1.found)
-found_there decls n ps a p e h = absurd (cc)
 
 -- ---- what a part of a slot is stored into
 
@@ -70,17 +65,11 @@ left_by decls packet v ps w maps (Entry q o) p x n (key, there, z) r some e = ap
 left_by decls packet v ps w maps Stale p x n (inl z) r some e = ap machine.underlying z
 left_by decls packet v ps w maps Stale p x n (inr (q, key, o, z)) r some e = ap machine.underlying z
 
-left_is : (decls : List MapDecl) (packet : PacketIn) (v : ℕ → ℕ) (ps : List PointerView) (node : ℕ) (k : Kinds) (h : Held) (m : Machine) (s : ℕ) (n : Number) → IsKnown decls packet v ps node k h m → s < 64
+left_is : (decls : List MapDecl) (packet : PacketIn) (v : ℕ → ℕ) (ps : List PointerView) (node : ℕ) (k : Kinds) (h : RegisterCells) (m : Machine) (s : ℕ) (n : Number) → IsKnown decls packet v ps node k h m → s < 64
     → underlying (get_or k.slots s Unset) ≡ Ok n → machine.underlying (get_or m.stack s is.Unset) ≡ left_of v (get_or k.slots s Unset) (slice_index h.slots s)
 left_is decls packet v ps node k h m s n known below e =
     left_by decls packet v ps known.world m.maps (get_or k.slots s Unset) (slice_index h.slots s) (get_or m.stack s is.Unset) n
     (known.stands.described.slots s) (slot_read decls packet v ps node k h m s known below) (known.filled s below) e
-
-pub underlying_is : (a : Kind) (n : Number) → ((m : Number) → a ≢ Num m) → a ≢ Unset → underlying a ≡ Ok n → Known 0 ≡ n
-underlying_is (Num m) n f g e = absurd (f m refl)
-underlying_is Unset n f g e = absurd (g refl)
-underlying_is Mixed n f g e = absurd (cc)
-underlying_is a n f g e = cc
 
 -- ---- a slot that is stored into
 
@@ -129,28 +118,9 @@ part_fills decls ps B at a p n q old new c other found = over decls ps B at a p 
 part_fills decls ps H at a p n q old new c other found = over decls ps H at a p n q old new c (λ s t. refl) found (underlying a) refl
 part_fills decls ps W at a p n q old new c other found = over decls ps W at a p n q old new c (λ s t. refl) found (underlying a) refl
 
--- a slot gets a value whole
-pub whole_fills : (decls : List MapDecl) (ps : List PointerView) (at : ℕ) (a : Kind) (p : ℕ) (b : Kind) (q : ℕ) (old new : List CellView) (c : ℕ) → Yields decls ps b q b q old new b c (λ s t. Some t)
-    → Fills decls ps Dw at a p b q old new b c
-whole_fills decls ps at a p b q old new c yields = record {
-  grows = yields.grows;
-  counts = yields.counts;
-  holds = λ packet v s t y run short under read e. yields.holds packet v t t y run short read read (kept t y e);
-}
-  where
-    kept : (t y : Value) → is.held t ≡ Some y → Some t ≡ Some y
-    kept is.Unset y e = absurd (cc)
-    kept t y e = e
-
--- nothing else is stored into a part
-pub other_refused : (size : Size) (at : ℕ) (a b : Kind) (P : Kind → Type 0) → size ≢ Dw → ((n : Number) → b ≢ Num n) → IfOk (access.to_slot size at a b) P
-other_refused size at a (Num n) P other f = absurd (f n refl)
-other_refused Dw at a b P other f = absurd (other refl)
-other_refused size at a b P other f = tt
-
 -- ---- a store into the stack
 
-stack_fills : (decls : List MapDecl) (ps : List PointerView) (node : ℕ) (is_ref : Bool) (k : Kinds) (h : Held) (old new : List CellView) (o offset : ℤ) (size : Size) (b : Kind) (q : ℕ) (t : Machine → Value) (a c : ℕ) (x : Kind)
+stack_fills : (decls : List MapDecl) (ps : List PointerView) (node : ℕ) (is_ref : Bool) (k : Kinds) (h : RegisterCells) (old new : List CellView) (o offset : ℤ) (size : Size) (b : Kind) (q : ℕ) (t : Machine → Value) (a c : ℕ) (x : Kind)
     → length k.slots ≡ 64 → length h.slots ≡ 64 → a < 512 → machine.in_stack (o +ℤ offset) (bytes_in size) ≡ Some a → AreInside decls (length old) ps h k → IsSource decls ps node k h b q t
     → Fills decls ps size (a % 8) (get_or k.slots (a / 8) Unset) (slice_index h.slots (a / 8)) b q old new x c
     → Leaves decls ps node k h (record h { slots = slice_set h.slots (a / 8) c }) old new (with_slot k (a / 8) x) (λ m. machine.stored m (is.Stack o) offset size (t m))
@@ -171,7 +141,7 @@ slot_stored Q decls node is_ref k o offset size b a place h =
     let z = aligned_is (o +ℤ offset +ℤ pos 512) (bytes_in size) 512 a place in
     rw (z.0, z.1, z.2) (bind_ok (access.to_slot size (a % 8) (get_or k.slots (a / 8) Unset) b) _ _ (λ x i. subst (λ r. IfOk r (λ y. Q (with_slot k (a / 8) y))) i h))
 
-pub stack_stores : (decls : List MapDecl) (ps : List PointerView) (node : ℕ) (is_ref : Bool) (k : Kinds) (h : Held) (old new : List CellView) (o offset : ℤ) (size : Size) (b : Kind) (q : ℕ) (t : Machine → Value) (a c : ℕ)
+pub stack_stores : (decls : List MapDecl) (ps : List PointerView) (node : ℕ) (is_ref : Bool) (k : Kinds) (h : RegisterCells) (old new : List CellView) (o offset : ℤ) (size : Size) (b : Kind) (q : ℕ) (t : Machine → Value) (a c : ℕ)
     → length k.slots ≡ 64 → length h.slots ≡ 64 → a < 512 → machine.in_stack (o +ℤ offset) (bytes_in size) ≡ Some a → AreInside decls (length old) ps h k → IsSource decls ps node k h b q t
     → IfOk (access.to_slot size (a % 8) (get_or k.slots (a / 8) Unset) b) (λ x. Fills decls ps size (a % 8) (get_or k.slots (a / 8) Unset) (slice_index h.slots (a / 8)) b q old new x c)
     → IfOk (access.stored decls k (Stack o) offset size b) (λ e. Leaves decls ps node k h (record h { slots = slice_set h.slots (a / 8) c }) old new (changed node is_ref false k e) (λ m. machine.stored m (is.Stack o) offset size (t m)))
@@ -196,7 +166,7 @@ number_stored Q node is_ref k size x a h = by (nat_le (a + bytes_in size) 256) r
     by true e false g = rw (e, g) tt
     by false e t g = rw e tt
 
-pub packet_stores : (decls : List MapDecl) (ps : List PointerView) (node : ℕ) (is_ref : Bool) (k : Kinds) (h : Held) (old new : List CellView) (o : ℕ) (offset : ℤ) (size : Size) (i : Number) (q : ℕ) (t : Machine → Value) (a : ℕ) (cs : List ℕ)
+pub packet_stores : (decls : List MapDecl) (ps : List PointerView) (node : ℕ) (is_ref : Bool) (k : Kinds) (h : RegisterCells) (old new : List CellView) (o : ℕ) (offset : ℤ) (size : Size) (i : Number) (q : ℕ) (t : Machine → Value) (a : ℕ) (cs : List ℕ)
     → length h.window ≡ 256 → inside (pos o +ℤ offset) (bytes_in size) 256 ≡ Some a → a + bytes_in size ≤ 256 → AreInside decls (length old) ps h k → IsSource decls ps node k h (Num i) q t
     → MakesBytes old new (bytes_in size) cs (λ v. little_bytes (bytes_in size) (number_of v i q))
     → IfOk (access.stored decls k (Packet o) offset size (Num i)) (λ e. Leaves decls ps node k h (record h { window = patched h.window a cs }) old new (changed node is_ref false k e) (λ m. machine.stored m (is.Packet (pos o)) offset size (t m)))
@@ -219,7 +189,7 @@ pub all_ok : {A : Type 0} (r : Result A Why) (P : A → Type 0) → ((a : A) →
 all_ok (Ok a) P f = f a
 all_ok (Err e) P f = tt
 
-pub packet_stored_by : {R E : Type 0} (r : Result R E) (decls : List MapDecl) (ps : List PointerView) (node : ℕ) (is_ref : Bool) (k : Kinds) (h next : Held) (old new : List CellView) (o : ℕ) (offset : ℤ) (size : Size) (b : Kind) (i : Number) (q : ℕ) (t : Machine → Value) (a : ℕ)
+pub packet_stored_by : {R E : Type 0} (r : Result R E) (decls : List MapDecl) (ps : List PointerView) (node : ℕ) (is_ref : Bool) (k : Kinds) (h next : RegisterCells) (old new : List CellView) (o : ℕ) (offset : ℤ) (size : Size) (b : Kind) (i : Number) (q : ℕ) (t : Machine → Value) (a : ℕ)
     → b ≡ Num i → length h.window ≡ 256 → inside (pos o +ℤ offset) (bytes_in size) 256 ≡ Some a → a + bytes_in size ≤ 256 → AreInside decls (length old) ps h k → IsSource decls ps node k h b q t
     → OnOk r ((bytes : List ℕ) × (next ≡ record h { window = patched h.window a bytes }) × MakesBytes old new (bytes_in size) bytes (λ v. little_bytes (bytes_in size) (number_of v i q)))
     → IfOk (access.stored decls k (Packet o) offset size b) (λ e. OnOk r (Leaves decls ps node k h next old new (changed node is_ref false k e) (λ m. machine.stored m (is.Packet (pos o)) offset size (t m))))
@@ -248,7 +218,7 @@ number_refused decls k o offset size b P a other e = rw (inside_is (pos o +ℤ o
 
 -- ---- stores
 
-pub leaves_as : (decls : List MapDecl) (ps : List PointerView) (node : ℕ) (k : Kinds) (h next : Held) (old new : List CellView) (after : Kinds) (f g : Machine → Option Machine)
+pub leaves_as : (decls : List MapDecl) (ps : List PointerView) (node : ℕ) (k : Kinds) (h next : RegisterCells) (old new : List CellView) (after : Kinds) (f g : Machine → Option Machine)
     → ((packet : PacketIn) (v : ℕ → ℕ) (m : Machine) → IsKnown decls packet v ps node k h m → f m ≡ g m) → Leaves decls ps node k h next old new after f → Leaves decls ps node k h next old new after g
 leaves_as decls ps node k h next old new after f g same leaves = record {
   grows = leaves.grows;
@@ -257,7 +227,7 @@ leaves_as decls ps node k h next old new after f g same leaves = record {
 }
 
 -- a store through the destination
-pub store_as : {R E : Type 0} (r : Result R E) (decls : List MapDecl) (ps : List PointerView) (node : ℕ) (is_ref : Bool) (k : Kinds) (h next : Held) (i : Insn) (old new : List CellView) (base : Kind) (b : Value) (size : Size) (x y : Kind) (t : Machine → Value) {z : ℤ}
+pub store_as : {R E : Type 0} (r : Result R E) (decls : List MapDecl) (ps : List PointerView) (node : ℕ) (is_ref : Bool) (k : Kinds) (h next : RegisterCells) (i : Insn) (old new : List CellView) (base : Kind) (b : Value) (size : Size) (x y : Kind) (t : Machine → Value) {z : ℤ}
     → kinds.register k i.dst ≡ base → z ≡ i.offset → y ≡ x → ((packet : PacketIn) (v : ℕ → ℕ) (m : Machine) → IsKnown decls packet v ps node k h m → register m.registers i.dst ≡ b)
     → IfOk (access.stored decls k base z size y) (λ e. OnOk r (Leaves decls ps node k h next old new (changed node is_ref false k e) (λ m. machine.stored m b z size (t m))))
     → IfOk (access.stored decls k (kinds.register k i.dst) i.offset size x) (λ e. OnOk r (Leaves decls ps node k h next old new (changed node is_ref false k e) (λ m. machine.stored m (register m.registers i.dst) i.offset size (t m))))
@@ -290,7 +260,7 @@ store_passed P decls node is_ref k i size s allowed kind_is leaves =
     subst P (sym (ap (changed_if node is_ref false k) e.1)) (subst (λ q. IfOk q (λ f. P (changed node is_ref false k f))) (sym kind_is ∙ b.2) leaves)
 
 -- it carries this
-pub store_carried : {R E : Type 0} (r : Result R E) (decls : List MapDecl) (ps : List PointerView) (node : ℕ) (is_ref : Bool) (k : Kinds) (h next : Held) (i : Insn) (old new : List CellView) (size : Size) (s : Src)
+pub store_carried : {R E : Type 0} (r : Result R E) (decls : List MapDecl) (ps : List PointerView) (node : ℕ) (is_ref : Bool) (k : Kinds) (h next : RegisterCells) (i : Insn) (old new : List CellView) (size : Size) (s : Src)
     → verdict (effect_of decls k i) ≡ passed → effect_as decls k i i.op ≡ access.stored decls k (kinds.register k i.dst) i.offset size (operand k i s)
     → ((refs : List ℕ) (m : Machine) → step.effect refs m i i.op ≡ machine.stored m (register m.registers i.dst) i.offset size (step.operand m.registers i s))
     → IfOk (access.stored decls k (kinds.register k i.dst) i.offset size (operand k i s)) (λ e. OnOk r (Leaves decls ps node k h next old new (changed node is_ref false k e) (λ m. machine.stored m (register m.registers i.dst) i.offset size (step.operand m.registers i s))))

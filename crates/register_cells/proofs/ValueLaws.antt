@@ -3,7 +3,7 @@ use Rattle.std.proofs.Common.{◌≡◌, ℕ, ◌+◌, ◌≤◌, max, Bool, tru
 use Rattle.cell_core.specs.bpf_isa.declared.operation.AluCode.{AluCode}
 use Rattle.cell_core.specs.bpf_isa.declared.operation.AluCode.TheVariants.{Add, Lsh, Rsh, Arsh}
 use Rattle.cell_core.specs.bpf_isa.declared.operation.Width.{Width}
-use Rattle.kind_core.specs.declared.why.Why.{Why}
+use Rattle.xdp_state.specs.declared.refusal.Why.{Why}
 use Rattle.kind_core.specs.declared.number.Number.{Number}
 use Rattle.kind_core.specs.declared.number.Number.TheVariants.{Known, Unknown}
 use Rattle.kind_core.specs.declared.kind.Kind.{Kind}
@@ -16,7 +16,7 @@ use Rattle.operator_cells.specs.Rising.{Rises}
 use Rattle.operator_cells.proofs.MakingLaws.{grown}
 use Rattle.operator_cells.proofs.RisingLaws.{stand_none, stand_more, rises_then, rises_by}
 use Rattle.operator_cells.specs.row_rules.PlaceRows.Origins.{is_open, open_row}
-use Rattle.operator_cells.specs.HeldCells.Held.{PointerView, number_of}
+use Rattle.operator_cells.specs.HeldCells.RegisterCells.{PointerView, number_of}
 use Rattle.operator_cells.specs.HeldCells.Rows.{number_row, value_row}
 use Rattle.operator_cells.proofs.HeldCells.RowLaws.{grows_by}
 use Rattle.register_cells.specs.Reading.{Finds}

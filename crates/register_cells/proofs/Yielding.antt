@@ -4,7 +4,7 @@ use Rattle.cell_core.specs.bpf_isa.declared.operation.Width.{Width}
 use Rattle.cell_core.specs.bpf_isa.declared.operation.Width.TheVariants.{Bits64}
 use Rattle.cell_core.specs.bpf_isa.declared.operation.AluCode.TheVariants.{Add, Sub, Mov}
 use Rattle.cell_core.specs.bpf_isa.declared.operation.AluCode.{AluCode}
-use Rattle.kind_core.specs.declared.why.Why.{Why}
+use Rattle.xdp_state.specs.declared.refusal.Why.{Why}
 use Rattle.std.specs.Prelude.{unsigned_abs}
 use Rattle.std.specs.Ordering.{int_eq}
 use Rattle.cell_core.specs.xdp_maps.declared.decl.MapDecl.{MapDecl}
@@ -18,7 +18,7 @@ use Rattle.kind_core.specs.declared.kind.Kind.TheVariants.{Num}
 use Rattle.kind_core.specs.Numbers.{from_one}
 use Rattle.kind_core.specs.Pointers.{sum, difference, copied, computed, combined}
 use Rattle.cell_core.specs.Cells.{CellView}
-use Rattle.operator_cells.specs.HeldCells.Held.{PointerView, number_of}
+use Rattle.operator_cells.specs.HeldCells.RegisterCells.{PointerView, number_of}
 use Rattle.register_cells.specs.Reading.{Finds, Yields}
 
 -- of one, whatever the other value is

@@ -13,7 +13,7 @@ use Rattle.cell_core.specs.xdp_machine.Memory.{loaded_plain, loaded_signed}
 use Rattle.cell_core.specs.xdp_machine.Step as machine
 use Rattle.kind_core.specs.declared.kind.Kind.{Kind}
 use Rattle.kind_core.specs.declared.kind.Kinds.{Kinds}
-use Rattle.kind_core.specs.declared.why.Why.{Why}
+use Rattle.xdp_state.specs.declared.refusal.Why.{Why}
 use Rattle.kind_core.specs.Kinds as kinds
 use Rattle.kind_core.specs.Access as kind
 use Rattle.kind_core.specs.Effects as effects

@@ -2,7 +2,7 @@
 use Rattle.std.specs.Prelude.{ℕ, ◌≡◌, ◌⊎◌, Some}
 use Rattle.kind_core.specs.declared.kind.Kind.{Kind}
 use Rattle.kind_core.specs.declared.kind.Kinds.{Kinds}
-use Rattle.operator_cells.specs.declared.held_cells.held.Held.{Held}
+use Rattle.operator_cells.specs.declared.held_cells.machine_cells.RegisterCells.{RegisterCells}
 use Rattle.operator_cells.specs.HeldCells.Pointing.{Pointing, pointing_as, HoldsPointer}
 
 -- A result is a pointer only where the value that it is made of is that pointer.
@@ -14,5 +14,5 @@ abbrev pub MovesEither : Kind → ℕ → Kind → ℕ → Kind → ℕ → Type
 MovesEither a p b q x c = (y : Pointing) → pointing_as x c ≡ Some y → (pointing_as a p ≡ Some y) ⊎ (pointing_as b q ≡ Some y)
 
 -- only where that pointer is held
-abbrev pub MovesHeld : Kinds → Held → Kind → ℕ → Type 0
+abbrev pub MovesHeld : Kinds → RegisterCells → Kind → ℕ → Type 0
 MovesHeld k h x c = (y : Pointing) → pointing_as x c ≡ Some y → HoldsPointer k h y

@@ -9,7 +9,7 @@ use Rattle.kind_core.specs.declared.kind.Kind.{Kind}
 use Rattle.kind_core.specs.declared.kind.Kind.TheVariants.{Num, Packet, End, Maybe, Entry}
 use Rattle.cell_core.specs.Cells.{CellView, IsRun}
 use Rattle.operator_cells.specs.Making.{Grows}
-use Rattle.operator_cells.specs.HeldCells.Held.{PointerView, Holds, Counts, number_of, IsThere}
+use Rattle.operator_cells.specs.HeldCells.RegisterCells.{PointerView, Holds, Counts, number_of, IsThere}
 
 -- of a number that is not known there is a cell
 abbrev pub HasNumber : ℕ → Kind → ℕ → Type 0

@@ -12,8 +12,8 @@ use Rattle.kind_core.specs.declared.kind.Kinds.{Kinds}
 use Rattle.kind_core.specs.Access.{underlying}
 use Rattle.cell_core.specs.Cells.{CellView, IsRun}
 use Rattle.operator_cells.specs.Making.{Grows}
-use Rattle.operator_cells.specs.declared.held_cells.held.Held.{Held}
-use Rattle.operator_cells.specs.HeldCells.Held.{PointerView, Holds, Counts, AreHeld, AreInside, number_of}
+use Rattle.operator_cells.specs.declared.held_cells.machine_cells.RegisterCells.{RegisterCells}
+use Rattle.operator_cells.specs.HeldCells.RegisterCells.{PointerView, Holds, Counts, AreHeld, AreInside, number_of}
 use Rattle.operator_cells.specs.HeldCells.Carrying.{IsKnown}
 use Rattle.register_cells.specs.Reading.{IsRead}
 
@@ -29,10 +29,10 @@ left_of v (Num n) c = number_of v n c
 left_of v k c = 0
 
 -- The values of a machine are those of a kind, and of cell q.
-abbrev pub IsSource : List MapDecl → List PointerView → ℕ → Kinds → Held → Kind → ℕ → (Machine → Value) → Type 0
+abbrev pub IsSource : List MapDecl → List PointerView → ℕ → Kinds → RegisterCells → Kind → ℕ → (Machine → Value) → Type 0
 IsSource decls ps node k h b q t = (packet : PacketIn) (v : ℕ → ℕ) (m : Machine) → IsKnown decls packet v ps node k h m → IsRead decls packet v ps b q (t m)
 
--- More cells, and number c holds, by this kind, what a slot is behind a store of a value that is read into it, whole or in part.
+-- More cells, and number c holds, by this kind, what a slot is after a store of a value that is read into it, whole or in part.
 pub record Fills (decls : List MapDecl) (ps : List PointerView) (size : Size) (at : ℕ) (a : Kind) (p : ℕ) (b : Kind) (q : ℕ) (old new : List CellView) (x : Kind) (c : ℕ) : Type 0 where
   pub grows : Grows old new
   pub counts : Counts decls (length new) ps x c
@@ -40,7 +40,7 @@ pub record Fills (decls : List MapDecl) (ps : List PointerView) (size : Size) (a
       → IsRead decls packet v ps b q t → machine.to_slot size at s t ≡ Some y → Holds decls v ps x c y
 
 -- More cells, and what is held afterwards holds, by these kinds, what comes of a machine where something does.
-pub record Leaves (decls : List MapDecl) (ps : List PointerView) (node : ℕ) (k : Kinds) (h next : Held) (old new : List CellView) (after : Kinds) (made : Machine → Option Machine) : Type 0 where
+pub record Leaves (decls : List MapDecl) (ps : List PointerView) (node : ℕ) (k : Kinds) (h next : RegisterCells) (old new : List CellView) (after : Kinds) (made : Machine → Option Machine) : Type 0 where
   pub grows : Grows old new
   pub inside : AreInside decls (length new) ps next after
   pub holds : (packet : PacketIn) (v : ℕ → ℕ) (m n : Machine) → IsRun packet new v → IsKnown decls packet v ps node k h m → made m ≡ Some n → AreHeld decls packet v ps next after n

@@ -10,7 +10,7 @@ ghost use Rattle.operator_cells.specs.Making.{seen, Makes};
 ghost use Rattle.kind_core.specs.declared.number.Number.TheVariants.{Unknown};
 ghost use Rattle.kind_core.specs.declared.kind.Kind.TheVariants.{Num};
 ghost use Rattle.operator_cells.specs.Rising.{Rises};
-ghost use Rattle.operator_cells.specs.HeldCells.Held.{PointerView, number_of, IsThere};
+ghost use Rattle.operator_cells.specs.HeldCells.RegisterCells.{PointerView, number_of, IsThere};
 ghost use Rattle.operator_cells.specs.HeldCells.Rows.{number_row};
 ghost use Rattle.register_cells.specs.Reading.{Finds};
 ghost use Rattle.register_cells.specs.Shifting.{is_shift};

@@ -14,7 +14,7 @@ ghost use Rattle.operator_cells.specs.Rising.{Rises};
 ghost use Rattle.kind_core.specs.declared.kind.Kind.TheVariants as kind_is;
 ghost use Rattle.kind_core.specs.declared.number.Number.{Number};
 ghost use Rattle.register_cells.specs.Reading.{HasNumber};
-ghost use Rattle.operator_cells.specs.HeldCells.Held.{PointerView, AreInside, number_of, IsThere};
+ghost use Rattle.operator_cells.specs.HeldCells.RegisterCells.{PointerView, AreInside, number_of, IsThere};
 ghost use Rattle.operator_cells.specs.HeldCells.Carrying.{Carries};
 ghost use Rattle.operator_cells.specs.HeldCells.Rows.{value_row, held_row, CarriesTo};
 ghost use Rattle.operator_cells.specs.HeldCells.Pointing.{KeepPointers};
@@ -25,7 +25,7 @@ use cell_core::operator::Operator;
 use cell_core::xdp_state::bpf_isa::{Insn, Op};
 use kind_core::{Kind, Kinds, Number};
 use operator_cells::cells::{constant, operate, slice};
-use operator_cells::held_cells::held::Held;
+use operator_cells::held_cells::machine_cells::RegisterCells;
 use operator_cells::held_cells::operand::number_cell;
 use std::alloc::AllocError;
 
@@ -42,7 +42,7 @@ fn time(cells: &mut Vec<Cell>) -> Result<u32, AllocError>
 /// The time: R0 gets that of the packet's capture.
 pub fn carry_time(
     cells: &mut Vec<Cell>,
-    held: &mut Held,
+    held: &mut RegisterCells,
     kinds: &Kinds,
     insn: &Insn,
 ) -> Result<(), AllocError>
@@ -117,7 +117,7 @@ fn number_in(cells: &mut Vec<Cell>, kind: Kind, held: u32) -> Result<u32, AllocE
 /// A redirect: where its flags are 0, R0 gets XDP_REDIRECT and the target becomes the interface; else R0 gets XDP_ABORTED.
 pub fn carry_redirect(
     cells: &mut Vec<Cell>,
-    held: &mut Held,
+    held: &mut RegisterCells,
     kinds: &Kinds,
     insn: &Insn,
 ) -> Result<(), AllocError>

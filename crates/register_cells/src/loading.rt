@@ -12,10 +12,10 @@ ghost use Rattle.kind_core.specs.declared.kind.Kind.TheVariants as kind_is;
 ghost use Rattle.kind_core.specs.Access as access;
 ghost use Rattle.kind_core.specs.Kinds.{register};
 ghost use Rattle.kind_core.specs.declared.kind.Kinds.{Kinds};
-ghost use Rattle.operator_cells.specs.declared.held_cells.held.Held.{Held};
+ghost use Rattle.operator_cells.specs.declared.held_cells.machine_cells.RegisterCells.{RegisterCells};
 ghost use Rattle.cell_core.specs.Formed.{AreFormed};
 ghost use Rattle.operator_cells.specs.Making.{seen};
-ghost use Rattle.operator_cells.specs.HeldCells.Held.{PointerView, AreInside, Counts, number_of};
+ghost use Rattle.operator_cells.specs.HeldCells.RegisterCells.{PointerView, AreInside, Counts, number_of};
 ghost use Rattle.operator_cells.specs.HeldCells.Carrying.{Gives};
 ghost use Rattle.register_cells.specs.Reading.{HasNumber, Yields, Finds};
 ghost use Rattle.register_cells.specs.Giving.{given};
@@ -33,7 +33,7 @@ use cell_core::xdp_state::bpf_isa::{Insn, Op, Size, Width};
 use cell_core::xdp_state::memory::{aligned, bytes_in, inside};
 use kind_core::{Kind, Kinds, Number};
 use operator_cells::cells::{constant, operate};
-use operator_cells::held_cells::held::Held;
+use operator_cells::held_cells::machine_cells::RegisterCells;
 use operator_cells::slicing::{copy, extend, join_bytes};
 use std::alloc::AllocError;
 
@@ -117,7 +117,7 @@ pub(crate) fn slot_at(base: Kind, offset: i16, size: Size) -> Option<usize>
 // Bytes of the stack.
 fn from_stack(
     cells: &mut Vec<Cell>,
-    held: &Held,
+    held: &RegisterCells,
     kinds: &Kinds,
     base: Kind,
     offset: i16,
@@ -148,7 +148,7 @@ fn from_stack(
 // Bytes of the packet, the lowest first.
 fn from_packet(
     cells: &mut Vec<Cell>,
-    held: &Held,
+    held: &RegisterCells,
     kinds: &Kinds,
     o: u16,
     offset: i16,
@@ -170,7 +170,7 @@ fn from_packet(
 
 // A field of the context.
 fn from_context(cells: &mut Vec<Cell>, offset: i16, size: Size) -> Result<u32, AllocError>
-    ensures gives { (decls : List MapDecl) (ps : List PointerView) (node : ℕ) (k : Kinds) (h : Held) → IfOk (access.from_context offset size) (λ x. IfOk result (λ c. Gives decls ps node k h (seen cells.old.items) (seen cells.new.items) x c (λ m. machine.loaded_plain m is.Context offset size))) }
+    ensures gives { (decls : List MapDecl) (ps : List PointerView) (node : ℕ) (k : Kinds) (h : RegisterCells) → IfOk (access.from_context offset size) (λ x. IfOk result (λ c. Gives decls ps node k h (seen cells.old.items) (seen cells.new.items) x c (λ m. machine.loaded_plain m is.Context offset size))) }
     ensures rows { (ps : List PointerView) → IfOk (access.from_context offset size) (λ x. IfOk result (λ c. ValueTo (seen cells.old.items) (seen cells.new.items) ps x c (λ row. 0))) }
 {
     if offset == 12 {
@@ -184,7 +184,7 @@ fn from_context(cells: &mut Vec<Cell>, offset: i16, size: Size) -> Result<u32, A
 /// MEM, but for entries of maps.
 pub fn loaded_plain(
     cells: &mut Vec<Cell>,
-    held: &Held,
+    held: &RegisterCells,
     kinds: &Kinds,
     insn: &Insn,
     size: Size,
@@ -234,7 +234,7 @@ fn signed(cells: &mut Vec<Cell>, size: Size, kind: Kind, p: u32) -> Result<u32, 
 // A signed number of the stack.
 fn signed_from_stack(
     cells: &mut Vec<Cell>,
-    held: &Held,
+    held: &RegisterCells,
     kinds: &Kinds,
     base: Kind,
     offset: i16,
@@ -259,7 +259,7 @@ fn signed_from_stack(
 // A signed number of the packet.
 fn signed_from_packet(
     cells: &mut Vec<Cell>,
-    held: &Held,
+    held: &RegisterCells,
     kinds: &Kinds,
     o: u16,
     offset: i16,
@@ -283,7 +283,7 @@ fn signed_from_packet(
 /// MEMSX, but for entries of maps.
 pub fn loaded_signed(
     cells: &mut Vec<Cell>,
-    held: &Held,
+    held: &RegisterCells,
     kinds: &Kinds,
     insn: &Insn,
     size: Size,

@@ -12,7 +12,7 @@ ghost use Rattle.cell_core.specs.Formed.{AreFormed};
 ghost use Rattle.cell_core.specs.bpf_isa.declared.operation.AluCode.TheVariants as alu;
 ghost use Rattle.operator_cells.specs.Making.{seen, Makes};
 ghost use Rattle.operator_cells.specs.Rising.{Rises};
-ghost use Rattle.operator_cells.specs.HeldCells.Held.{PointerView, Counts};
+ghost use Rattle.operator_cells.specs.HeldCells.RegisterCells.{PointerView, Counts};
 ghost use Rattle.operator_cells.specs.HeldCells.Rows.{value_row};
 ghost use Rattle.register_cells.specs.Reading.{HasNumber, Yields, place_of};
 ghost use Rattle.register_cells.specs.Combining.{worked_row, combined_row};

@@ -9,7 +9,7 @@ ghost use Rattle.kind_core.specs.Soundness.{is_store};
 ghost use Rattle.kind_core.specs.Tests.{passed};
 ghost use Rattle.cell_core.specs.Formed.{AreFormed};
 ghost use Rattle.operator_cells.specs.Making.{seen};
-ghost use Rattle.operator_cells.specs.HeldCells.Held.{pointed, AreInside};
+ghost use Rattle.operator_cells.specs.HeldCells.RegisterCells.{pointed, AreInside};
 ghost use Rattle.operator_cells.specs.HeldCells.Carrying.{Carries};
 ghost use Rattle.operator_cells.specs.HeldCells.Rows.{held_row, CarriesTo};
 ghost use Rattle.operator_cells.specs.HeldCells.Pointing.{KeepPointers};
@@ -21,7 +21,7 @@ use crate::storing::carry_store;
 use cell_core::cell::Cell;
 use cell_core::xdp_state::bpf_isa::{Insn, Op};
 use kind_core::{Kind, Kinds};
-use operator_cells::held_cells::held::{Held, Pointer};
+use operator_cells::held_cells::machine_cells::{Pointer, RegisterCells};
 use std::alloc::AllocError;
 
 // Whether it is a place in an entry of a map.
@@ -56,7 +56,7 @@ pub fn is_plain(kinds: &Kinds, insn: &Insn) -> bool
 pub fn carry_plain(
     cells: &mut Vec<Cell>,
     pointers: &[Pointer],
-    held: &mut Held,
+    held: &mut RegisterCells,
     kinds: &Kinds,
     insn: &Insn,
 ) -> Result<(), AllocError>

@@ -14,7 +14,7 @@ ghost use Rattle.kind_core.specs.Profile.{writes_destination};
 ghost use Rattle.kind_core.specs.Tests.{passed};
 ghost use Rattle.cell_core.specs.Formed.{AreFormed};
 ghost use Rattle.operator_cells.specs.Making.{seen};
-ghost use Rattle.operator_cells.specs.HeldCells.Held.{PointerView, AreInside};
+ghost use Rattle.operator_cells.specs.HeldCells.RegisterCells.{PointerView, AreInside};
 ghost use Rattle.operator_cells.specs.HeldCells.Carrying.{Gives, Carries};
 ghost use Rattle.operator_cells.specs.HeldCells.Rows.{held_row, CarriesTo};
 ghost use Rattle.operator_cells.specs.HeldCells.Pointing.{KeepPointers};
@@ -32,7 +32,7 @@ use crate::sizes::are_whole;
 use cell_core::cell::Cell;
 use cell_core::xdp_state::bpf_isa::{AluCode, Insn, Op, Size, Src, Width};
 use kind_core::{Kind, Kinds, Number};
-use operator_cells::held_cells::held::Held;
+use operator_cells::held_cells::machine_cells::RegisterCells;
 use std::alloc::AllocError;
 
 // The kind of the second operand.
@@ -49,7 +49,7 @@ pub(crate) fn operand(kinds: &Kinds, insn: &Insn, src: Src) -> Kind
 // What arithmetic with two operands gives.
 fn combine(
     cells: &mut Vec<Cell>,
-    held: &Held,
+    held: &RegisterCells,
     kinds: &Kinds,
     insn: &Insn,
     width: Width,
@@ -75,7 +75,7 @@ fn combine(
 // What the number in the destination with the other sign is.
 fn negate(
     cells: &mut Vec<Cell>,
-    held: &Held,
+    held: &RegisterCells,
     kinds: &Kinds,
     insn: &Insn,
     width: Width,
@@ -98,7 +98,7 @@ fn negate(
 // The number in the destination with its low bytes in an order.
 fn order(
     cells: &mut Vec<Cell>,
-    held: &Held,
+    held: &RegisterCells,
     kinds: &Kinds,
     insn: &Insn,
     end: Src,
@@ -126,7 +126,12 @@ fn order(
 }
 
 // What an instruction that is no load puts into its destination.
-fn give(cells: &mut Vec<Cell>, held: &Held, kinds: &Kinds, insn: &Insn) -> Result<u32, AllocError>
+fn give(
+    cells: &mut Vec<Cell>,
+    held: &RegisterCells,
+    kinds: &Kinds,
+    insn: &Insn,
+) -> Result<u32, AllocError>
     requires insn { IsInsn insn.now }
     requires formed { AreFormed (seen cells.old.items) }
     requires inside { (decls : List MapDecl) × (ps : List PointerView) × AreInside decls (length (seen cells.old.items)) ps held.now kinds.now }
@@ -159,7 +164,7 @@ fn give(cells: &mut Vec<Cell>, held: &Held, kinds: &Kinds, insn: &Insn) -> Resul
 /// An instruction that writes its destination, but for loads: its cells, and the destination's.
 pub fn carry_computed(
     cells: &mut Vec<Cell>,
-    held: &mut Held,
+    held: &mut RegisterCells,
     kinds: &Kinds,
     insn: &Insn,
 ) -> Result<(), AllocError>
@@ -181,7 +186,7 @@ pub fn carry_computed(
 /// A load from the packet, the stack or the context: its cells, and the destination's.
 pub fn carry_load(
     cells: &mut Vec<Cell>,
-    held: &mut Held,
+    held: &mut RegisterCells,
     kinds: &Kinds,
     insn: &Insn,
     size: Size,
@@ -204,7 +209,7 @@ pub fn carry_load(
 /// The same where the sign of what is loaded is extended.
 pub fn carry_signed(
     cells: &mut Vec<Cell>,
-    held: &mut Held,
+    held: &mut RegisterCells,
     kinds: &Kinds,
     insn: &Insn,
     size: Size,
@@ -227,7 +232,7 @@ pub fn carry_signed(
 /// An instruction that writes its destination and reads no entry of a map.
 pub fn carry_register(
     cells: &mut Vec<Cell>,
-    held: &mut Held,
+    held: &mut RegisterCells,
     kinds: &Kinds,
     insn: &Insn,
 ) -> Result<(), AllocError>

@@ -3,10 +3,10 @@
 ghost use Rattle.std.specs.Prelude.{◌≡◌, length};
 
 use kind_core::{Kind, Kinds};
-use operator_cells::held_cells::held::Held;
+use operator_cells::held_cells::machine_cells::RegisterCells;
 
 /// Kinds and cells are those of 11 registers, 64 slots and 256 bytes.
-pub(crate) fn are_whole(held: &Held, kinds: &Kinds)
+pub(crate) fn are_whole(held: &RegisterCells, kinds: &Kinds)
     ensures registers { length kinds.now.registers ≡ 11 }
     ensures slots { length kinds.now.slots ≡ 64 }
     ensures register_cells { length held.now.registers ≡ 11 }

@@ -23,7 +23,7 @@ ghost use Rattle.kind_core.specs.Tests.{passed};
 ghost use Rattle.cell_core.specs.Formed.{AreFormed};
 ghost use Rattle.operator_cells.specs.Making.{seen, Makes};
 ghost use Rattle.operator_cells.specs.Spreading.{MakesBytes};
-ghost use Rattle.operator_cells.specs.HeldCells.Held.{PointerView, pointed, pointer_at, AreInside, Counts, number_of, IsThere};
+ghost use Rattle.operator_cells.specs.HeldCells.RegisterCells.{PointerView, pointed, pointer_at, AreInside, Counts, number_of, IsThere};
 ghost use Rattle.operator_cells.specs.HeldCells.Carrying.{Carries};
 ghost use Rattle.register_cells.specs.Reading.{HasNumber, Finds};
 ghost use Rattle.register_cells.specs.Storing.{points, left_of, IsSource, Fills, Leaves};
@@ -42,7 +42,7 @@ use cell_core::xdp_state::bpf_isa::{Insn, Op, Size, Src};
 use cell_core::xdp_state::memory::bytes_in;
 use kind_core::{Kind, Kinds, Number};
 use operator_cells::cells::{constant, operate};
-use operator_cells::held_cells::held::{Held, Pointer};
+use operator_cells::held_cells::machine_cells::{Pointer, RegisterCells};
 use operator_cells::held_cells::operand::number_cell;
 use operator_cells::spreading::{patch, spread};
 use std::alloc::AllocError;
@@ -139,7 +139,7 @@ fn part_stored(
     }
 }
 
-// A slot behind a store: it takes any value whole.
+// A slot after a store: it takes any value whole.
 fn to_slot(
     cells: &mut Vec<Cell>,
     pointers: &[Pointer],
@@ -177,7 +177,7 @@ fn to_slot(
 fn to_stack(
     cells: &mut Vec<Cell>,
     pointers: &[Pointer],
-    held: &mut Held,
+    held: &mut RegisterCells,
     kinds: &Kinds,
     base: Kind,
     offset: i16,
@@ -224,7 +224,7 @@ fn overwrite(window: &mut [u32], at: usize, bytes: &[u32])
 // A store of a number into the first 256 bytes of the packet.
 fn to_window(
     cells: &mut Vec<Cell>,
-    held: &mut Held,
+    held: &mut RegisterCells,
     at: usize,
     size: Size,
     n: Number,
@@ -245,7 +245,7 @@ fn to_window(
 // A store into the packet.
 fn to_packet(
     cells: &mut Vec<Cell>,
-    held: &mut Held,
+    held: &mut RegisterCells,
     kinds: &Kinds,
     o: u16,
     offset: i16,
@@ -272,7 +272,7 @@ fn to_packet(
 fn store(
     cells: &mut Vec<Cell>,
     pointers: &[Pointer],
-    held: &mut Held,
+    held: &mut RegisterCells,
     kinds: &Kinds,
     insn: &Insn,
     size: Size,
@@ -300,7 +300,7 @@ fn store(
 pub fn carry_store(
     cells: &mut Vec<Cell>,
     pointers: &[Pointer],
-    held: &mut Held,
+    held: &mut RegisterCells,
     kinds: &Kinds,
     insn: &Insn,
 ) -> Result<(), AllocError>

@@ -1,5 +1,4 @@
 pub mod CountLaws
 pub mod WireLemmas
-pub mod EdgeLemmas
 pub mod StayLemmas
 pub mod SpanLemmas

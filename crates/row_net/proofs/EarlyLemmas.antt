@@ -1,26 +1,22 @@
 -- What products of a row take.
 use Rattle.std.specs.Prelude.{nat_le}
-use Rattle.std.proofs.Common.{◌≡◌, ◌⊎◌, inl, inr, ℕ, zero, suc, ◌<◌, ◌≤◌, true, false, ◌||◌, All, List, [], ◌∷◌, length, take, get_or, refl, sym, ◌∙◌, ap, subst, arith, slice_index}
+use Rattle.std.proofs.Common.{◌≡◌, ◌⊎◌, inl, inr, ℕ, zero, suc, ◌<◌, ◌≤◌, true, false, ◌||◌, All, List, length, take, get_or, refl, sym, ◌∙◌, ap, subst, arith, slice_index}
 use Rattle.std.proofs.lemmas.Bool.{le-leb, leb-true}
 use Rattle.std.proofs.lemmas.List.{length-take, get_or-take, get_or_default}
 use Rattle.std.proofs.lemmas.List.Elements.{All-contains}
+use Rattle.block_core.proofs.list_laws_laws.BoolLaws.{either_of, left_or, right_or}
 use Rattle.overlay_net.specs.cell_core.declared.operator.Operator.{Operator}
 use Rattle.overlay_net.specs.cell_core.declared.operator.Operator.TheVariants.{Mul, Quotient, Remainder, NonZero}
 use Rattle.overlay_net.specs.cell_core.Cells.{cell_at, is_heavy, bit}
 use Rattle.overlay_net.specs.cell_core.Formed.{AreFormed, divides}
-use Rattle.overlay_net.specs.cell_core.Rows.{AreRows, greatest}
+use Rattle.overlay_net.specs.cell_core.Rows.{AreRows}
 use Rattle.overlay_net.specs.cell_core.Sites.{ProgramView}
 use Rattle.cell_nets.specs.Computing.{makes_product, taken}
 use Rattle.row_plan.specs.Plan.{Plan}
+use Rattle.row_plan.proofs.cell_core_laws.RowLaws.{greatest_above}
 use Rattle.row_net.specs.Apart.{TakeClean}
 use Rattle.row_net.specs.Lists.{is_non_zero, is_early}
-use Rattle.row_net.proofs.ApartLemmas.{divides_two}
-use Rattle.row_net.proofs.ListLemmas.{left_or, right_or, either_of}
-
-under_greatest : (row : ℕ → ℕ) (xs : List ℕ) → All (λ i. row i ≤ greatest row xs) xs
-under_greatest row [] k d h = absurd (omega arith)
-under_greatest row (x ∷ xs) zero d h = omega arith
-under_greatest row (x ∷ xs) (suc k) d h = omega (arith, under_greatest row xs k d (omega arith))
+use Rattle.row_net.proofs.ApartLaws.{divides_two}
 
 -- a product or a `NonZero` is heavy, or it divides
 kind_of : (op : Operator) → (is_non_zero op || makes_product op) ≡ true → ((is_heavy op ≡ true) × (divides op ≡ false)) ⊎ (divides op ≡ true)
@@ -46,7 +42,7 @@ module _ (p : ProgramView) (plan : Plan) (formed : AreFormed p.cells) (rows : Ar
 
   -- what a heavy cell takes is of an earlier row
   heavy_later : (k : ℕ) → k < length p.cells → is_heavy (op_of k) ≡ true → All (λ i. row i < row k) (ins_of k)
-  heavy_later k lt heavy n d inside = let e : bit (is_heavy (op_of k)) ≡ 1 = ap bit heavy in omega (arith, rows.each k lt, under_greatest row (ins_of k) n d inside, e)
+  heavy_later k lt heavy n d inside = let e : bit (is_heavy (op_of k)) ≡ 1 = ap bit heavy in omega (arith, rows.each k lt, greatest_above row (ins_of k) n d inside, e)
 
   heavy_some : (k : ℕ) → k < length p.cells → is_heavy (op_of k) ≡ true → 0 < row k
   heavy_some k lt heavy = let e : bit (is_heavy (op_of k)) ≡ 1 = ap bit heavy in omega (arith, rows.each k lt, e)
@@ -66,7 +62,7 @@ module _ (p : ProgramView) (plan : Plan) (formed : AreFormed p.cells) (rows : Ar
     is_some = ((formed.each k lt).divisor div).op
 
     divisor_row : row divisor ≤ row k
-    divisor_row = omega (arith, rows.each k lt, under_greatest row (ins_of k) 1 0 two)
+    divisor_row = omega (arith, rows.each k lt, greatest_above row (ins_of k) 1 0 two)
 
     divisor_heavy : is_heavy (op_of divisor) ≡ true
     divisor_heavy = ap is_heavy is_some

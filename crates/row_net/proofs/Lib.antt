@@ -1,5 +1,7 @@
+pub mod FlagLaws
+pub mod TableLaws
 pub mod TableLemmas
-pub mod ApartLemmas
+pub mod ApartLaws
 pub mod RowLemmas
 pub mod MarkLemmas
 pub mod ListLemmas

@@ -4,6 +4,7 @@ use Rattle.std.specs.List.{filter, list_any}
 use Rattle.std.proofs.Common.{◌≡◌, ◌∙◌, ◌⊎◌, inl, inr, ℕ, zero, suc, ◌+◌, ◌<◌, ◌≤◌, Bool, true, false, ◌||◌, cond, List, [], ◌∷◌, ◌++◌, length, take, append-nil, refl, sym, ap, arith, slice_index}
 use Rattle.std.proofs.lemmas.Bool.{eqb-true, eqb-false, eq-eqb}
 use Rattle.std.proofs.lemmas.List.Elements.{filter-append}
+use Rattle.block_core.proofs.list_laws_laws.BoolLaws.{either_of}
 use Rattle.overlay_net.specs.cell_core.Rows.{numbers}
 use Rattle.row_plan.proofs.cell_core_laws.NumberLaws.{numbers_more}
 
@@ -65,17 +66,6 @@ module _ (q : ℕ → Bool) where
 or_true : (b : Bool) → (b || true) ≡ true
 or_true true = refl
 or_true false = refl
-
-pub left_or : (a b : Bool) → a ≡ true → (a || b) ≡ true
-left_or a b e = rw e refl
-
-pub right_or : (a b : Bool) → b ≡ true → (a || b) ≡ true
-right_or true b e = refl
-right_or false b e = e
-
-pub either_of : (a b : Bool) → (a || b) ≡ true → (a ≡ true) ⊎ (b ≡ true)
-either_of true b e = inl refl
-either_of false b e = inr e
 
 pub any_of : (xs : List ℕ) (k : ℕ) → Contains xs k → list_any (λ c. c == k) xs ≡ true
 any_of [] k (i, lt, e) = absurd (omega (arith, lt))

@@ -1,16 +1,19 @@
 -- Marks, one after another.
 use Rattle.std.specs.Prelude.{◌==◌, Contains}
-use Rattle.std.proofs.Common.{◌≡◌, ◌∙◌, ◌⊎◌, inl, inr, ℕ, zero, suc, ◌+◌, ◌-◌, ◌<◌, ◌≤◌, Bool, true, false, List, [], ◌∷◌, ◌++◌, length, take, get_or, set, slice_index, refl, sym, ap, subst, arith}
+use Rattle.std.proofs.Common.{◌≡◌, ◌∙◌, ◌⊎◌, inl, inr, ℕ, zero, suc, ◌+◌, ◌-◌, ◌<◌, ◌≤◌, Bool, true, false, List, [], ◌∷◌, ◌++◌, length, take, get_or, slice_index, refl, sym, ap, subst, arith}
 use Rattle.std.proofs.lemmas.Bool.{eqb-true, eqb-false}
-use Rattle.std.proofs.lemmas.List.{get_or-set_same, get_or-set_other, length-set, get_or_default}
+use Rattle.std.proofs.lemmas.List.{get_or_default}
 use Rattle.std.proofs.lemmas.List.Elements.{All-contains, Contains-append_left, Contains-append_right, Contains-append_cases}
-use Rattle.std.proofs.Math.Seq.{take-length, take-suc}
+use Rattle.std.proofs.Math.Seq.{take-length}
+use Rattle.block_core.proofs.list_laws_laws.NumberLaws.{last_or_not}
+use Rattle.block_core.proofs.list_laws_laws.OneMoreLaws.{same_one, one_same, take_one}
 use Rattle.overlay_net.specs.cell_core.Cells.{CellView, cell_at, is_read}
 use Rattle.overlay_net.specs.cell_core.Formed.{AreFormed}
 use Rattle.overlay_net.specs.cell_core.Rows.{taken_by}
 use Rattle.overlay_net.specs.cell_core.Sites.{SiteView, ProgramView}
 use Rattle.row_plan.specs.Plan.{answer_cells}
 use Rattle.row_net.specs.Needed.{IsUsed, Answered, AtSite, Read, Taken, flag, AreNeeded, Marks, OfSites, Closes}
+use Rattle.row_net.proofs.FlagLaws.{marked_inside}
 
 abbrev pub Use : Type 1
 Use = ℕ → Type 0
@@ -44,40 +47,12 @@ marks_both N M P a b c n m split f g = record {
 pub marks_as : (N M : Use) (a b : List Bool) → ((k : ℕ) → N k → M k) → ((k : ℕ) → M k → N k) → Marks N a b → Marks M a b
 marks_as N M a b n m f = marks_both N (λ k. ⊥) M a b b n (λ k h. absurd h) (λ k h. inl (m k h)) f (marks_none (λ k. ⊥) b (λ k h. h))
 
--- ---- one mark
-pub mark_set : (xs : List Bool) (at : ℕ) → at < length xs → Marks (λ k. k ≡ at) xs (set xs at true)
-mark_set xs at inside = record { count = length-set xs at true; grows = λ k h. grow k h (k == at) refl; met = λ k e below. met k e; some = λ k h. some k h (k == at) refl }
-  where
-    met : (k : ℕ) → k ≡ at → flag (set xs at true) k ≡ true
-    met k e = ap (flag (set xs at true)) e ∙ get_or-set_same xs at true false inside
-
-    grow : (k : ℕ) → flag xs k ≡ true → (t : Bool) → (k == at) ≡ t → flag (set xs at true) k ≡ true
-    grow k h true e = met k (eqb-true k at e)
-    grow k h false e = get_or-set_other xs at k true false (eqb-false k at e) ∙ h
-
-    some : (k : ℕ) → flag (set xs at true) k ≡ true → (t : Bool) → (k == at) ≡ t → (flag xs k ≡ true) ⊎ (k ≡ at)
-    some k h true e = inr (eqb-true k at e)
-    some k h false e = inl (sym (get_or-set_other xs at k true false (eqb-false k at e)) ∙ h)
-
-pub mark_past : (xs : List Bool) (at : ℕ) → length xs ≤ at → Marks (λ k. k ≡ at) xs xs
-mark_past xs at past = record { count = refl; grows = λ k h. h; met = λ k e below. absurd (omega (arith, e, below, past)); some = λ k h. inl h }
-
 -- ---- of lists
-same_one : {X : Type 0} (x y : X) → Contains (x ∷ []) y → y ≡ x
-same_one x y (zero, below, at) = sym at
-same_one x y (suc k, below, at) = absurd (omega (arith, below))
-
-one_same : {X : Type 0} (x y : X) → y ≡ x → Contains (x ∷ []) y
-one_same x y is = (0, omega arith, sym is)
-
 pub marks_one : (x : ℕ) (a b : List Bool) → Marks (λ k. k ≡ x) a b → Marks (Contains (x ∷ [])) a b
 marks_one x a b f = marks_as (λ k. k ≡ x) (Contains (x ∷ [])) a b (one_same x) (same_one x) f
 
 pub marks_append : (xs ys : List ℕ) (a b c : List Bool) → Marks (Contains xs) a b → Marks (Contains ys) b c → Marks (Contains (xs ++ ys)) a c
 marks_append xs ys a b c f g = marks_both (Contains xs) (Contains ys) (Contains (xs ++ ys)) a b c (Contains-append_left xs ys) (Contains-append_right xs ys) (Contains-append_cases xs ys) f g
-
-take_one : {X : Type 0} (xs : List X) (i : ℕ) (x : X) → i < length xs → x ≡ get_or xs i x → take (i + 1) xs ≡ take i xs ++ x ∷ []
-take_one xs i x inside is = let e : i + 1 ≡ suc i = omega arith in ap (λ n. take n xs) e ∙ take-suc xs i x inside ∙ ap (λ y. take i xs ++ y ∷ []) (sym is)
 
 pub marks_next : (xs : List ℕ) (i x : ℕ) (a b c : List Bool) → i < length xs → x ≡ get_or xs i x → Marks (Contains (take i xs)) a b → Marks (λ k. k ≡ x) b c → Marks (Contains (take (i + 1) xs)) a c
 marks_next xs i x a b c inside is f g = subst (λ l. Marks (Contains l) a c) (sym (take_one xs i x inside is)) (marks_append (take i xs) (x ∷ []) a b c f (marks_one x b c g))
@@ -118,13 +93,6 @@ sites_all sites i a b e f = subst (λ ss. Marks (OfSites ss) a b) (ap (λ n. tak
 abbrev pub FirstReads : List CellView → ℕ → ℕ → Type 0
 FirstReads cells n k = (k < n) × (is_read (cell_at cells k).op ≡ true)
 
-last_or_not : (n i : ℕ) → i < n + 1 → (i < n) ⊎ (i ≡ n)
-last_or_not n i below = by_test (i == n) refl
-  where
-    by_test : (b : Bool) → (i == n) ≡ b → (i < n) ⊎ (i ≡ n)
-    by_test true t = inr (eqb-true i n t)
-    by_test false t = inl (omega (arith, below, eqb-false i n t))
-
 abbrev IsReadAt : List CellView → ℕ → Type 0
 IsReadAt cells k = is_read (cell_at cells k).op ≡ true
 
@@ -162,11 +130,6 @@ pub record ClosesFrom (p : ProgramView) (at : ℕ) (old new : List Bool) : Type 
   pub grows : (k : ℕ) → flag old k ≡ true → flag new k ≡ true
   pub closed : (c k : ℕ) → at ≤ c → flag new c ≡ true → Contains (cell_at p.cells c).ins k → flag new k ≡ true
   pub only : ((k : ℕ) → flag old k ≡ true → IsUsed p k) → (k : ℕ) → flag new k ≡ true → IsUsed p k
-
-marked_inside : (xs : List Bool) (k : ℕ) → flag xs k ≡ true → k < length xs
-marked_inside [] k h = cc
-marked_inside (x ∷ xs) zero h = omega arith
-marked_inside (x ∷ xs) (suc k) h = omega (arith, marked_inside xs k h)
 
 pub closes_none : (p : ProgramView) (at : ℕ) (xs : List Bool) → at ≡ length p.cells → length xs ≡ length p.cells → ClosesFrom p at xs xs
 closes_none p at xs e count = record {

@@ -1,9 +1,10 @@
 -- What is made and carried is there where it is taken.
 use Rattle.std.specs.Prelude.{◌==◌, ◌≢◌, nat_lt, nat_le, Contains, not}
 use Rattle.std.specs.List.{list_any}
-use Rattle.std.proofs.Common.{◌≡◌, ◌⊎◌, inl, inr, ℕ, zero, suc, ◌-◌, ◌<◌, ◌≤◌, Bool, true, false, ◌||◌, ◌&&◌, All, List, [], ◌∷◌, length, take, get_or, refl, arith, slice_index}
+use Rattle.std.proofs.Common.{◌≡◌, ◌⊎◌, inl, inr, ℕ, suc, ◌-◌, ◌<◌, ◌≤◌, Bool, true, false, ◌||◌, ◌&&◌, All, List, length, take, get_or, refl, arith, slice_index}
 use Rattle.std.proofs.lemmas.Bool.{eqb-true, eqb-false, eq-eqb, le-leb, leb-true, lt-ltb, ltb-true}
 use Rattle.std.proofs.lemmas.List.Elements.{Contains-get_or, filter_passes}
+use Rattle.block_core.proofs.list_laws_laws.BoolLaws.{both_of, either_of, left_or, right_or, and_is}
 use Rattle.overlay_net.specs.cell_core.Cells.{cell_at}
 use Rattle.overlay_net.specs.cell_core.Formed.{AreFormed}
 use Rattle.overlay_net.specs.cell_core.Rows.{RowsRise, numbers}
@@ -12,21 +13,11 @@ use Rattle.cell_nets.specs.Computing.{is_outside}
 use Rattle.row_plan.specs.Plan.{Plan, IsPlan, Taken, Answered, answer_cells}
 use Rattle.row_net.specs.Needed.{AreNeeded, flag}
 use Rattle.row_net.specs.Needed as needs
-use Rattle.row_net.specs.Lists.{varies, is_made, is_carried, made_cells, carried_cells, IsBrought, Same, Outside, Carried, CellsArePlaced, has_place, HavePlaces}
+use Rattle.row_net.specs.Lists.{varies, is_made, is_carried, made_cells, carried_cells, IsBrought, Same, Outside, Carried, CellsArePlaced}
 use Rattle.row_net.specs.Table.{is_constant}
-use Rattle.row_net.proofs.ListLemmas.{left_or, right_or, either_of, kept_in, kept_before, any_of, of_any}
+use Rattle.row_net.proofs.ListLemmas.{kept_in, kept_before, any_of, of_any}
 use Rattle.row_net.proofs.EarlyLemmas.{early_takes}
-
-both_of : (a b : Bool) → (a && b) ≡ true → (a ≡ true) × (b ≡ true)
-both_of true b e = (refl, e)
-both_of false b e = cc
-
-both : (a b : Bool) → a ≡ true → b ≡ true → (a && b) ≡ true
-both a b e f = rw (e, f) refl
-
-not_of : (b : Bool) → not b ≡ true → b ≡ false
-not_of true e = cc
-not_of false e = refl
+use Rattle.row_net.proofs.FlagLaws.{marked_inside}
 
 of_not : (b : Bool) → b ≡ false → not b ≡ true
 of_not true e = cc
@@ -35,11 +26,6 @@ of_not false e = refl
 test : (b : Bool) → (b ≡ true) ⊎ (b ≡ false)
 test true = inl refl
 test false = inr refl
-
-marked_inside : (xs : List Bool) (k : ℕ) → flag xs k ≡ true → k < length xs
-marked_inside [] k h = cc
-marked_inside (x ∷ xs) zero h = omega arith
-marked_inside (x ∷ xs) (suc k) h = omega (arith, marked_inside xs k h)
 
 passed : (q : ℕ → Bool) (xs : List ℕ) (n : ℕ) → n < length xs → All (λ x. q x ≡ true) xs → q (slice_index xs n) ≡ true
 passed q xs n lt h = h n 0 lt
@@ -59,7 +45,7 @@ module _ (rise : RowsRise) (p : ProgramView) (plan : Plan) (needed : List Bool) 
   flag_of k h = (both_of (flag needed k) (not (is_constant (cell_at p.cells k))) h).0
 
   varies_of : (k : ℕ) → flag needed k ≡ true → is_constant (cell_at p.cells k) ≡ false → varies p needed k ≡ true
-  varies_of k h c = both (flag needed k) (not (is_constant (cell_at p.cells k))) h (of_not (is_constant (cell_at p.cells k)) c)
+  varies_of k h c = and_is (flag needed k) (not (is_constant (cell_at p.cells k))) h (of_not (is_constant (cell_at p.cells k)) c)
 
   made_varies : (at k : ℕ) → is_made p plan needed at k ≡ true → varies p needed k ≡ true
   made_varies at k h = (both_of (varies p needed k) (not (is_outside (cell_at p.cells k).op) && row k == at) h).0
@@ -71,8 +57,8 @@ module _ (rise : RowsRise) (p : ProgramView) (plan : Plan) (needed : List Bool) 
 
   made_of : (at k : ℕ) → varies p needed k ≡ true → is_outside (cell_at p.cells k).op ≡ false → row k ≡ at → is_made p plan needed at k ≡ true
   made_of at k h o e =
-      both (varies p needed k) (not (is_outside (cell_at p.cells k).op) && row k == at) h
-      (both (not (is_outside (cell_at p.cells k).op)) (row k == at) (of_not (is_outside (cell_at p.cells k).op) o) (eq-eqb (row k) at e))
+      and_is (varies p needed k) (not (is_outside (cell_at p.cells k).op) && row k == at) h
+      (and_is (not (is_outside (cell_at p.cells k).op)) (row k == at) (of_not (is_outside (cell_at p.cells k).op) o) (eq-eqb (row k) at e))
 
   -- the last place carries what the answer takes
   abbrev for_answer : ℕ → ℕ → Bool
@@ -82,7 +68,7 @@ module _ (rise : RowsRise) (p : ProgramView) (plan : Plan) (needed : List Bool) 
   goes_on at k = nat_lt at (kept k) || for_answer at k
 
   carried_of : (at k : ℕ) → varies p needed k ≡ true → row k ≤ at → goes_on at k ≡ true → is_carried p plan needed at k ≡ true
-  carried_of at k h le g = both (varies p needed k) (nat_le (row k) at && goes_on at k) h (both (nat_le (row k) at) (goes_on at k) (le-leb (row k) at le) g)
+  carried_of at k h le g = and_is (varies p needed k) (nat_le (row k) at && goes_on at k) h (and_is (nat_le (row k) at) (goes_on at k) (le-leb (row k) at le) g)
 
   carried_varies : (at k : ℕ) → is_carried p plan needed at k ≡ true → varies p needed k ≡ true
   carried_varies at k h = (both_of (varies p needed k) (nat_le (row k) at && goes_on at k) h).0
@@ -183,51 +169,7 @@ module _ (rise : RowsRise) (p : ProgramView) (plan : Plan) (needed : List Bool) 
       by_kind (inl e) = inl e
       by_kind (inr e) =
           inr (in_carried plan.last k (carried_of plan.last k (varies_of k (are.used k lt (needs.Answered k there)) e) le
-          (right_or (nat_lt plan.last (kept k)) (for_answer plan.last k) (both (plan.last == plan.last) (list_any (λ c. c == k) (answer_cells p)) (eq-eqb plan.last plan.last refl) (any_of (answer_cells p) k there)))))
-
--- ---- which plans have a place for each cell
-differ : (b : Bool) → not b ≡ true → b ≡ true → ⊥
-differ true e f = cc
-differ false e f = cc
-
-module _ (p : ProgramView) (plan : Plan) (needed : List Bool) where
-  abbrev at_row : ℕ → ℕ
-  at_row = slice_index plan.rows
-
-  abbrev outside : ℕ → Bool
-  outside k = is_outside (cell_at p.cells k).op
-
-  abbrev in_places : ℕ → Bool
-  in_places k = nat_le (at_row k) plan.last && (at_row k == 0 || not (outside k))
-
-  -- of a needed cell
-  placed : (k : ℕ) → has_place p plan needed k ≡ true → flag needed k ≡ true → in_places k ≡ true
-  placed k h marked = by_cases (either_of (not (flag needed k)) (in_places k) h)
-    where
-      by_cases : (not (flag needed k) ≡ true) ⊎ (in_places k ≡ true) → in_places k ≡ true
-      by_cases (inl e) = absurd (differ (flag needed k) e marked)
-      by_cases (inr e) = e
-
-  pub all_have : ((k : ℕ) → k < length p.cells → has_place p plan needed k ≡ true) → HavePlaces p plan needed
-  all_have h = record {
-    rows = λ k lt marked. leb-true (at_row k) plan.last (both_of (nat_le (at_row k) plan.last) (at_row k == 0 || not (outside k)) (placed k (h k lt) marked)).0;
-    sources = λ k lt marked from. first k from (either_of (at_row k == 0) (not (outside k)) (both_of (nat_le (at_row k) plan.last) (at_row k == 0 || not (outside k)) (placed k (h k lt) marked)).1);
-  }
-    where
-      first : (k : ℕ) → outside k ≡ true → ((at_row k == 0) ≡ true) ⊎ (not (outside k) ≡ true) → at_row k ≡ 0
-      first k from (inl e) = eqb-true (at_row k) 0 e
-      first k from (inr e) = absurd (differ (outside k) e from)
-
-  pub one_has : HavePlaces p plan needed → (k : ℕ) → k < length p.cells → has_place p plan needed k ≡ true
-  one_has h k lt = by_mark (test (flag needed k))
-    where
-      by_source : flag needed k ≡ true → (outside k ≡ true) ⊎ (outside k ≡ false) → (at_row k == 0 || not (outside k)) ≡ true
-      by_source marked (inl e) = left_or (at_row k == 0) (not (outside k)) (eq-eqb (at_row k) 0 (h.sources k lt marked e))
-      by_source marked (inr e) = right_or (at_row k == 0) (not (outside k)) (of_not (outside k) e)
-
-      by_mark : (flag needed k ≡ true) ⊎ (flag needed k ≡ false) → has_place p plan needed k ≡ true
-      by_mark (inl e) = right_or (not (flag needed k)) (in_places k) (both (nat_le (at_row k) plan.last) (at_row k == 0 || not (outside k)) (le-leb (at_row k) plan.last (h.rows k lt e)) (by_source e (test (outside k))))
-      by_mark (inr e) = left_or (not (flag needed k)) (in_places k) (of_not (flag needed k) e)
+          (right_or (nat_lt plan.last (kept k)) (for_answer plan.last k) (and_is (plan.last == plan.last) (list_any (λ c. c == k) (answer_cells p)) (eq-eqb plan.last plan.last refl) (any_of (answer_cells p) k there)))))
 
 pub cells_placed : RowsRise → CellsArePlaced
 cells_placed rise p plan needed formed is are = record {

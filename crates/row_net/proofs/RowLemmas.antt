@@ -3,12 +3,13 @@ use Rattle.std.specs.Prelude.{◌==◌, ◌≢◌, ◌||◌, Option, Contains}
 use Rattle.std.proofs.Common.{◌≡◌, ◌⊎◌, inl, inr, ℕ, zero, suc, ◌+◌, ◌<◌, Bool, true, false, Some, None, All, List, [], ◌∷◌, ◌++◌, length, take, get_or, set, map, refl, sym, ◌∙◌, ap, ap₂, subst, arith, slice_index}
 use Rattle.std.proofs.lemmas.Bool.{eqb-true, eqb-false}
 use Rattle.std.proofs.lemmas.List.{get_or-set_same, get_or-set_other, length-set, get_or-map}
-use Rattle.std.proofs.lemmas.List.Elements.{All-nil, All-cons, All-head, All-tail, All-append, All-contains, Contains-append_left, Contains-append_right}
+use Rattle.std.proofs.lemmas.List.Elements.{All-append, All-contains, Contains-append_left, Contains-append_right}
 use Rattle.std.proofs.Math.Seq.{take-suc}
 use Rattle.net_core.specs.Value.{Env}
 use Rattle.overlay_net.specs.xdp_machine.State.{PacketIn}
 use Rattle.block_core.specs.declared.name.Name.{Name}
 use Rattle.block_core.specs.Blocks.{BlockWireTree}
+use Rattle.block_core.proofs.list_laws_laws.AllLaws.{both_all}
 use Rattle.overlay_net.specs.cell_core.Cells.{CellView, cell_at, number, value, bits_from}
 use Rattle.overlay_net.specs.cell_core.Formed.{IsFormed, divides}
 use Rattle.cell_nets.specs.declared.operand.Operand.{Operand}
@@ -17,7 +18,7 @@ use Rattle.cell_nets.specs.Operands.{number_in, IsOperand, IsAvailable}
 use Rattle.cell_nets.specs.Wires.{behind, HasBits, GivesBy}
 use Rattle.row_net.specs.Table.{Stands, IsIn, IsTable, AreThere, Holds, AreOperands}
 use Rattle.row_net.specs.Made.{IsReady, AreValues, IsRow}
-use Rattle.row_net.proofs.ApartLemmas.{divides_two, taken_all, cell_apart}
+use Rattle.row_net.proofs.ApartLaws.{divides_two, taken_all, cell_apart}
 
 -- ---- a table with one entry changed
 module _ {N : Type 0} (table : List (Option (Operand N))) (k : ℕ) (a : Operand N) (inside : k < length table) where
@@ -120,25 +121,6 @@ cell_row {P} p cells k old new table after args out none within formed t o is gi
 
 pub no_packet : PacketIn
 no_packet = record { frame = []; ifindex = 0; time = 0 }
-
--- ---- cells after others
-both_all : {X : Type 0} (Q : X → Type 0) (xs ys : List X) → All Q (xs ++ ys) → All Q xs × All Q ys
-both_all Q [] ys h = (All-nil Q, h)
-both_all Q (x ∷ xs) ys h = let r = both_all Q xs ys (All-tail Q x (xs ++ ys) h) in (All-cons Q x xs (All-head Q x (xs ++ ys) h) r.0, r.1)
-
-pub no_row : {P : Type 0} (p : P) (cells : List CellView) (ws : List (BlockWireTree (Name P))) (table : List (Option (Operand (Name P)))) → IsTable cells table → IsRow p cells [] ws ws table table
-no_row p cells ws table t = record {
-  table = t;
-  all_in = λ n d lt. absurd (omega (arith, lt));
-  grows = λ k h. h;
-  kept = λ k h. refl;
-  earlier = λ v s. s;
-  stays = λ outside a h. h;
-  wires = λ outside a h. a;
-  there = λ outside a h. h;
-  value = λ outside v packet val a h fit solved vals holds. holds;
-  apart = λ clean marks t keep. (marks, keep);
-}
 
 pub row_then :
     {P : Type 0} (p : P) (cells : List CellView) (xs ys : List ℕ) (old mid new : List (BlockWireTree (Name P))) (a b c : List (Option (Operand (Name P)))) → IsRow p cells xs old mid a b → IsRow p cells ys mid new b c → IsRow p cells (xs ++ ys) old new a c

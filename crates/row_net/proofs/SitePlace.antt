@@ -1,4 +1,5 @@
 pub mod ChangeLemmas
+pub mod PointingLaws
 pub mod PointingLemmas
 pub mod ListLemmas
 pub mod SetLemmas

@@ -1,76 +1,18 @@
 -- What stands for cells.
-use Rattle.std.specs.Prelude.{◌==◌, Option, IsSome, ◌≢◌}
-use Rattle.std.proofs.Common.{◌≡◌, ℕ, zero, suc, ◌+◌, ◌^◌, ◌<◌, ◌≤◌, Bool, true, false, ◌||◌, Some, None, List, [], ◌∷◌, ◌++◌, length, get_or, map, refl, sym, ◌∙◌, ap, subst, arith, slice_index}
-use Rattle.std.proofs.lemmas.Bool.{eq-eqb, eqb-true, eqb-false}
-use Rattle.std.proofs.lemmas.List.{get_or-map, get_or_push, get_or_append_left, get_or_default}
-use Rattle.std.proofs.Math.Pow.{pow_mono}
+use Rattle.std.specs.Prelude.{◌==◌, Option, IsSome}
+use Rattle.std.proofs.Common.{◌≡◌, ℕ, ◌+◌, ◌^◌, ◌<◌, Bool, true, false, Some, None, List, [], ◌∷◌, ◌++◌, length, get_or, map, refl, sym, ◌∙◌, ap, subst, arith, slice_index}
+use Rattle.std.proofs.lemmas.Bool.{eqb-true, eqb-false}
+use Rattle.std.proofs.lemmas.List.{get_or_push, get_or_append_left, get_or_default}
 use Rattle.overlay_net.specs.xdp_machine.State.{PacketIn}
-use Rattle.overlay_net.specs.cell_core.declared.cell.Cell.{Cell}
-use Rattle.overlay_net.specs.cell_core.declared.operator.Operator.{Operator}
-use Rattle.overlay_net.specs.cell_core.declared.operator.Operator.TheVariants.{Constant}
-use Rattle.overlay_net.specs.cell_core.Cells.{CellView, cell_at, no_cell, number, value, bits_from}
-use Rattle.overlay_net.specs.cell_core.View.{cell_of}
+use Rattle.overlay_net.specs.cell_core.Cells.{CellView, cell_at, number, value}
 use Rattle.cell_nets.specs.declared.operand.Operand.{Operand}
 use Rattle.cell_nets.specs.declared.operand.Operand.TheVariants.{Known}
 use Rattle.cell_nets.specs.Operands.{number_in, IsOperand, IsAvailable}
 use Rattle.cell_nets.specs.Wires.{HasBits}
-use Rattle.row_net.specs.Table.{Stands, IsIn, is_number, is_constant, IsConstantOf, AreConstants}
-
-pub cell_is : (xs : List Cell) (n : ℕ) (c : Cell) → n < length xs → c ≡ get_or xs n c → cell_at (map cell_of xs) n ≡ cell_of c
-cell_is xs n c inside is = get_or-map cell_of xs n c no_cell inside ∙ ap cell_of (sym is)
-
-pub stands_inside : {N : Type 0} (table : List (Option (Operand N))) (k : ℕ) (a : Operand N) → Stands table k a → k < length table
-stands_inside [] k a s = cc
-stands_inside (x ∷ table) zero a s = omega arith
-stands_inside (x ∷ table) (suc k) a s = omega (arith, stands_inside table k a s)
+use Rattle.row_net.specs.Table.{Stands, IsIn, IsConstantOf, AreConstants}
+use Rattle.row_net.proofs.TableLaws.{stands_inside}
 
 -- ---- constants
-no_bits : (n from w : ℕ) → w ≡ 0 → 0 ≡ bits_from n from w
-no_bits n from w e = let P : ℕ → Type 0 = λ k. 0 ≡ bits_from n from k in subst P (sym e) (omega arith)
-
-or_true : (b : Bool) → (b || true) ≡ true
-or_true true = refl
-or_true false = refl
-
-some_is : {N : Type 0} (a b : Operand N) → Some a ≡ Some b → b ≡ a
-some_is a b e = cc
-
-pub known_of : {N : Type 0} (c : CellView) (n : ℕ) → is_constant c ≡ true → n < 2 ^ c.width → c.width ≤ 64 → ((packet : PacketIn) (val : ℕ → ℕ) → n ≡ value packet val c) → IsConstantOf {N = N} c (Some (Known n))
-known_of c n is small most e = record {
-  known = λ h. refl;
-  only = λ a f. is;
-  number = λ a f. (n, some_is (Known n) a f, omega (arith, small, pow_mono {i = c.width} {j = 64} most), small, e);
-}
-
-pub none_of_bits : {N : Type 0} (c : CellView) → c.width ≡ 0 → IsConstantOf {N = N} c (Some (Known 0))
-none_of_bits c e =
-    let t : (c.width == 0) ≡ true = eq-eqb c.width 0 e in
-    let P : ℕ → Type 0 = λ w. 0 < 2 ^ w in
-    known_of c 0 (ap (λ b. b || is_number c.op) t) (subst P (sym e) (omega arith)) (omega arith) (λ packet val. no_bits (number packet c.op (map val c.ins)) c.from c.width e)
-
-pub constant_of : {N : Type 0} (c : CellView) (n r : ℕ) → c.op ≡ Constant n → r ≡ bits_from n c.from c.width → r < 2 ^ c.width → c.width ≤ 64 → IsConstantOf {N = N} c (Some (Known r))
-constant_of c n r e is small most =
-    known_of c r (ap (λ o. c.width == 0 || is_number o) e ∙ or_true (c.width == 0)) small most
-    (λ packet val. is ∙ ap (λ o. bits_from (number packet o (map val c.ins)) c.from c.width) (sym e))
-
-no_number : (op : Operator) → ((n : ℕ) → op ≢ Constant n) → is_number op ≡ false
-no_number (Constant n) h = absurd (h n refl)
-no_number op h = refl
-
-no_test : (n : ℕ) → n ≢ 0 → (n == 0) ≡ false
-no_test n h = by_test (n == 0) refl
-  where
-    by_test : (t : Bool) → (n == 0) ≡ t → (n == 0) ≡ false
-    by_test true e = absurd (h (eqb-true n 0 e))
-    by_test false e = e
-
-pub nothing_of : {N : Type 0} (c : CellView) → c.width ≢ 0 → ((n : ℕ) → c.op ≢ Constant n) → IsConstantOf {N = N} c None
-nothing_of c some h =
-    let no : is_constant c ≡ false = ap (λ b. b || is_number c.op) (no_test c.width some) ∙ no_number c.op h in
-    record { known = λ e. absurd (other (is_constant c) no e); only = λ a e. cc; number = λ a e. cc }
-  where
-    other : (b : Bool) → b ≡ false → b ≡ true → ⊥
-    other b e f = cc
 
 pub constants_are : {N : Type 0} (cells : List CellView) (table : List (Option (Operand N))) → length table ≡ length cells → ((k : ℕ) → k < length cells → IsConstantOf (cell_at cells k) (get_or table k None)) → AreConstants cells table
 constants_are {N} cells table count each = record {

@@ -69,14 +69,6 @@ pub record ArePlaced (p : ProgramView) (plan : Plan) (needed : List Bool) : Type
       → (is_constant (cell_at p.cells k) ≡ true) ⊎ Contains (carried_cells p plan needed plan.last) k
 
 -- ---- which plans have a place for each cell
--- the row of a cell, if it is needed, is not past the last, and if it comes from outside it is the first
-abbrev pub has_place : ProgramView → Plan → List Bool → ℕ → Bool
-has_place p plan needed k =
-    not (flag needed k) || (nat_le (slice_index plan.rows k) plan.last && (slice_index plan.rows k == 0 || not (is_outside (cell_at p.cells k).op)))
-
-pub record HavePlaces (p : ProgramView) (plan : Plan) (needed : List Bool) : Type 0 where
-  pub rows : (k : ℕ) → k < length p.cells → flag needed k ≡ true → slice_index plan.rows k ≤ plan.last
-  pub sources : (k : ℕ) → k < length p.cells → flag needed k ≡ true → is_outside (cell_at p.cells k).op ≡ true → slice_index plan.rows k ≡ 0
 
 -- The lists of each plan are so.
 abbrev pub CellsArePlaced : Type 0

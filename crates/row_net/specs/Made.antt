@@ -26,7 +26,7 @@ pub record AreValues (packet : PacketIn) (cells : List CellView) (made : List �
   pub each : All (λ k. val k ≡ value packet val (cell_at cells k)) made
   pub divisors : All (λ k. divides (cell_at cells k).op ≡ true → val (slice_index (cell_at cells k).ins 1) ≢ 0) made
 
--- Wires and a table become more. The table gets the cells that are made, and nothing else changes in it. Whatever comes from outside, behind
+-- Wires and a table become more. The table gets the cells that are made, and nothing else changes in it. Whatever comes from outside, after
 -- the wires stands all that is in the table, and it has the values of the cells where that was so before and the made cells have values. Products
 -- stay apart, where they did and take clean cells alone.
 pub record IsRow {P : Type 0} (p : P) (cells : List CellView) (made : List ℕ) (old new : List (BlockWireTree (Name P))) (before after : List (Option (Operand (Name P)))) : Type 0 where

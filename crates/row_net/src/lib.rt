@@ -1,5 +1,5 @@
 //! The cells of a stage as wires.
-//! `place_net` has a stage of a program without maps and the exit, `site_place` a stage of a program that operates on maps.
+//! `place_net` has the cells that come from outside, the registers that stand for cells, and the exit, `site_place` a stage.
 #![tactic(auto)]
 
 pub mod laws;

@@ -1,4 +1,4 @@
-//! The places of a pipeline that makes cells row by row, as blocks, and the block that keeps the answers of packets that leave it.
+//! The cells that come from outside, the registers that stand for cells after a stage, and the block that keeps the answers of packets that leave.
 
 mod arriving;
 mod leaving;
@@ -8,4 +8,4 @@ mod placing;
 pub use arriving::source_cells;
 pub use leaving::exit;
 pub use outputs::{AnswerByte, Outputs};
-pub use placing::{place, take_registers};
+pub use placing::take_registers;

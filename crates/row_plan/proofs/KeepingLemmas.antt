@@ -1,25 +1,17 @@
 -- Rows that values are kept up to, raised one after another.
-use Rattle.std.proofs.Common.{◌≡◌, ◌∙◌, ◌⊎◌, inl, inr, ℕ, zero, suc, ◌+◌, ◌<◌, ◌≤◌, Some, Bool, true, false, List, [], ◌∷◌, ◌++◌, length, take, get_or, slice_index, Contains, refl, sym, ap, subst, arith}
-use Rattle.std.specs.Prelude.{◌==◌}
-use Rattle.std.proofs.lemmas.Bool.{eqb-true, eqb-false}
-use Rattle.std.proofs.Math.Seq.{take-length, take-suc}
+use Rattle.std.proofs.Common.{◌≡◌, ◌∙◌, ◌⊎◌, inl, inr, ℕ, ◌+◌, ◌<◌, ◌≤◌, Some, true, List, [], ◌∷◌, ◌++◌, length, take, get_or, slice_index, Contains, refl, sym, ap, subst, arith}
+use Rattle.std.proofs.Math.Seq.{take-length}
 use Rattle.std.proofs.lemmas.List.Elements.{Contains-append_left, Contains-append_right, Contains-append_cases}
 use Rattle.cell_core.specs.Cells.{CellView, cell_at, site_in}
 use Rattle.cell_core.specs.Sites.{SiteView, ProgramView, site_at, records}
 use Rattle.cell_core.specs.Rows.{taken_by}
+use Rattle.cell_core.proofs.list_laws_laws.NumberLaws.{last_or_not}
+use Rattle.cell_core.proofs.list_laws_laws.OneMoreLaws.{same_one, one_same, take_one}
 use Rattle.row_plan.specs.Plan.{AreKept, IsNeeded, Made, Taken, AtSite, Written, Answered, answer_cells}
 use Rattle.row_plan.specs.Steps.{Keeps, OfOne, OfAll, OfInputs, OfWrites, OfSites}
 
 abbrev pub Need : Type 1
 Need = ℕ → ℕ → Type 0
-
--- a number below the next is below this, or is this
-last_or_not : (n i : ℕ) → i < n + 1 → (i < n) ⊎ (i ≡ n)
-last_or_not n i below = by_test (i == n) refl
-  where
-    by_test : (b : Bool) → (i == n) ≡ b → (i < n) ⊎ (i ≡ n)
-    by_test true t = inr (eqb-true i n t)
-    by_test false t = inl (omega (arith, below, eqb-false i n t))
 
 -- where nothing is needed
 pub keeps_none : (N : Need) (xs : List ℕ) → ((k at : ℕ) → ¬ N k at) → Keeps N xs xs
@@ -56,13 +48,6 @@ keeps_both N M P a b c n m split f g = record {
     second k below (inr need) = inr (m k _ need)
 
 -- ---- some cells after others
-same_one : {X : Type 0} (x y : X) → Contains (x ∷ []) y → y ≡ x
-same_one x y (zero, below, at) = sym at
-same_one x y (suc k, below, at) = absurd (omega (arith, below))
-
-one_same : {X : Type 0} (x y : X) → y ≡ x → Contains (x ∷ []) y
-one_same x y is = (0, omega arith, sym is)
-
 pub of_one : (x row : ℕ) (a b : List ℕ) → Keeps (OfOne x row) a b → Keeps (OfAll (x ∷ []) row) a b
 of_one x row a b f = keeps_both (λ k at. ⊥) (OfOne x row) (OfAll (x ∷ []) row) a a b (λ k at need. absurd need) (λ k at need. (one_same x k need.0, need.1))
     (λ k at need. inr (same_one x k need.0, need.1)) (keeps_none (λ k at. ⊥) a (λ k at need. need)) f
@@ -74,16 +59,10 @@ of_more xs ys row a b c f g = keeps_both (OfAll xs row) (OfAll ys row) (OfAll (x
     split : (k at : ℕ) → OfAll (xs ++ ys) row k at → OfAll xs row k at ⊎ OfAll ys row k at
     split k at need = elim (Contains-append_cases xs ys k need.0) [ inl there ↦ inl (there, need.1) | inr there ↦ inr (there, need.1) ]
 
--- one more element of a list
-take_more : {X : Type 0} (xs : List X) (i : ℕ) (x : X) → i < length xs → x ≡ get_or xs i x → take (i + 1) xs ≡ take i xs ++ x ∷ []
-take_more xs i x within is =
-    let e : i + 1 ≡ suc i = omega arith in
-    ap (λ n. take n xs) e ∙ take-suc xs i x within ∙ ap (λ y. take i xs ++ y ∷ []) (sym is)
-
 pub of_next : (xs : List ℕ) (row i x : ℕ) (a b c : List ℕ) → i < length xs → x ≡ get_or xs i x → Keeps (OfAll (take i xs) row) a b → Keeps (OfOne x row) b c → Keeps (OfAll (take (i + 1) xs) row) a c
 of_next xs row i x a b c within is f g =
     let P : List ℕ → Type 0 = λ ys. Keeps (OfAll ys row) a c in
-    subst P (sym (take_more xs i x within is)) (of_more (take i xs) (x ∷ []) row a b c f (of_one x row b c g))
+    subst P (sym (take_one xs i x within is)) (of_more (take i xs) (x ∷ []) row a b c f (of_one x row b c g))
 
 pub inputs_next : (cells : List CellView) (rows : List ℕ) (n : ℕ) (a b c : List ℕ) → Keeps (OfInputs cells rows n) a b → Keeps (OfAll (cell_at cells n).ins (slice_index rows n)) b c → Keeps (OfInputs cells rows (n + 1)) a c
 inputs_next cells rows n a b c f g = keeps_both (OfInputs cells rows n) (OfAll (cell_at cells n).ins (slice_index rows n)) (OfInputs cells rows (n + 1)) a b c
@@ -123,7 +102,7 @@ writes_not cells sites commit n a b none f = keeps_both (OfWrites cells sites co
 pub sites_next : (sites : List SiteView) (commit i : ℕ) (s : SiteView) (a b c : List ℕ) → i < length sites → s ≡ get_or sites i s → Keeps (OfSites (take i sites) commit) a b → Keeps (OfAll (taken_by s) commit) b c → Keeps (OfSites (take (i + 1) sites) commit) a c
 sites_next sites commit i s a b c within is f g =
     let P : List SiteView → Type 0 = λ ss. Keeps (OfSites ss commit) a c in
-    subst P (sym (take_more sites i s within is)) (keeps_both (OfSites (take i sites) commit) (OfAll (taken_by s) commit) (OfSites (take i sites ++ s ∷ []) commit) a b c
+    subst P (sym (take_one sites i s within is)) (keeps_both (OfSites (take i sites) commit) (OfAll (taken_by s) commit) (OfSites (take i sites ++ s ∷ []) commit) a b c
     (λ k at need. ((need.0.0, Contains-append_left (take i sites) (s ∷ []) need.0.0 need.0.1, need.0.2), need.1))
     (λ k at need. ((s, Contains-append_right (take i sites) (s ∷ []) s (one_same s s refl), need.0), need.1)) split f g)
   where

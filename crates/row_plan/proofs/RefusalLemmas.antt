@@ -3,8 +3,8 @@ use Rattle.std.proofs.Common.{◌≡◌, ◌∙◌, ℕ, zero, suc, ◌+◌, ◌
 use Rattle.std.proofs.Math.Seq.{drop-cons}
 use Rattle.std.proofs.lemmas.Bool.Decides.{nat_tests}
 use Rattle.std.proofs.lemmas.List.{take-append-drop}
-use Rattle.kind_core.specs.declared.why.Refusal.{Refusal}
-use Rattle.kind_core.specs.declared.why.Why.{Why}
+use Rattle.xdp_state.specs.declared.refusal.Refusal.{Refusal}
+use Rattle.xdp_state.specs.declared.refusal.Why.{Why}
 use Rattle.cell_core.specs.declared.program.Node.{Node}
 use Rattle.cell_core.specs.Cells.{CellView, cell_at, bit, is_heavy}
 use Rattle.cell_core.specs.Sites.{ProgramView}
@@ -12,6 +12,7 @@ use Rattle.cell_core.specs.Formed.{AreFormed}
 use Rattle.cell_core.specs.Rows.{greatest, AreRows, node_row, last_row}
 use Rattle.row_plan.specs.Plan.{IsTooLate}
 use Rattle.row_plan.specs.Steps.{no_node, IsLateNode}
+use Rattle.row_plan.proofs.RowLaws.{below_last}
 
 -- ---- one list of rows
 greatest_same : (row other : ℕ → ℕ) (ins : List ℕ) → All (λ i. row i ≡ other i) ins → greatest row ins ≡ greatest other ins
@@ -78,9 +79,6 @@ one_refusal p r s formed a b =
     λ i. made (at i) (why i)
 
 -- ---- none where the last row is in its bound
-below_last : (row : ℕ → ℕ) (xs more : List Node) (n : Node) → node_row row n ≤ last_row row (xs ++ n ∷ more)
-below_last row [] more n = omega arith
-below_last row (x ∷ xs) more n = omega (arith, below_last row xs more n)
 
 pub none_late : (p : ProgramView) (rows : List ℕ) (last : ℕ) (r : Refusal) → AreFormed p.cells → length rows ≡ length p.cells → AreRows p.cells (slice_index rows) → last ≡ last_row (slice_index rows) p.nodes → last ≤ 256 → ¬ IsTooLate p r
 none_late p rows last r formed count are is few late =

@@ -1,14 +1,12 @@
 -- Rows of cells, one cell after another.
-use Rattle.std.proofs.Common.{◌≡◌, ◌∙◌, Bool, true, false, ℕ, zero, suc, ◌+◌, ◌-◌, ◌<◌, ◌≤◌, List, [], ◌∷◌, ◌++◌, length, slice_index, refl, sym, ap, ap₂, max, arith, below_more, get_or, drop, take, map, append-nil, cond, subst}
+use Rattle.std.proofs.Common.{◌≡◌, ◌∙◌, Bool, true, false, ℕ, zero, suc, ◌+◌, ◌-◌, ◌<◌, ◌≤◌, List, [], ◌∷◌, ◌++◌, length, slice_index, refl, sym, ap, ap₂, max, arith, below_more, get_or, drop, take, append-nil, cond, subst}
 use Rattle.std.specs.Prelude.{All}
 use Rattle.std.specs.List.{filter}
 use Rattle.std.proofs.Math.Seq.{drop-cons, take-suc}
 use Rattle.cell_core.specs.declared.program.Node.{Node}
-use Rattle.std.proofs.lemmas.List.{get_or-map, length-append}
-use Rattle.cell_core.specs.declared.cell.Cell.{Cell}
-use Rattle.cell_core.specs.View.{cell_of}
+use Rattle.std.proofs.lemmas.List.{length-append}
 use Rattle.std.proofs.lemmas.List.Elements.{All-append, All-cons, All-nil, filter-append}
-use Rattle.cell_core.specs.Cells.{CellView, no_cell, cell_at, bit, is_heavy}
+use Rattle.cell_core.specs.Cells.{CellView, cell_at, bit, is_heavy}
 use Rattle.cell_core.specs.Formed.{AreFormed}
 use Rattle.cell_core.specs.Rows.{greatest, numbers, node_row, last_row}
 use Rattle.cell_core.proofs.NumberLaws.{numbers_more}
@@ -34,7 +32,7 @@ same_greatest : (rows : List ℕ) (x : ℕ) (ins : List ℕ) → All (λ i. i < 
 same_greatest rows x [] h = refl
 same_greatest rows x (i ∷ ins) h = ap₂ max (old_row rows x i (h 0 0 (omega arith))) (same_greatest rows x ins (λ k d l. h (suc k) d (omega (arith, l))))
 
--- and none of these is greater than the number of the cell behind them
+-- and none of these is greater than the number of the cell after them
 greatest_below : (rows : List ℕ) (n : ℕ) (ins : List ℕ) → ((k : ℕ) → k < n → slice_index rows k ≤ suc k) → All (λ i. i < n) ins → greatest (slice_index rows) ins ≤ n
 greatest_below rows n [] small h = omega arith
 greatest_below rows n (i ∷ ins) small h =
@@ -99,20 +97,9 @@ live_next row kept at n =
     let e : 0 + n ≡ n = omega arith in
     ap (filter (is_live row kept at)) (numbers_more 0 n ∙ ap (λ k. numbers 0 n ++ k ∷ []) e) ∙ filter-append (is_live row kept at) (numbers 0 n) (n ∷ [])
 
--- ---- what is in memory
-pub cell_is : (cells : List Cell) (n : ℕ) (c : Cell) → n < length cells → c ≡ get_or cells n c → cell_at (map cell_of cells) n ≡ cell_of c
-cell_is cells n c within is = get_or-map cell_of cells n c no_cell within ∙ ap cell_of (sym is)
-
 -- the greatest of three
 pub max_more : (most x now more : ℕ) → now ≡ max most x → max now more ≡ max most (max x more)
 max_more most x now more is = omega (arith, is)
-
-pub greatest_append : (row : ℕ → ℕ) (xs ys : List ℕ) → greatest row (xs ++ ys) ≡ max (greatest row xs) (greatest row ys)
-greatest_append row [] ys = omega arith
-greatest_append row (x ∷ xs) ys = ap (max (row x)) (greatest_append row xs ys) ∙ max_more_right (row x) (greatest row xs) (greatest row ys)
-  where
-    max_more_right : (a b c : ℕ) → max a (max b c) ≡ max (max a b) c
-    max_more_right a b c = omega arith
 
 -- one node more
 pub last_next : (row : ℕ → ℕ) (nodes : List Node) (i : ℕ) (d : Node) → i < length nodes → last_row row (drop i nodes) ≡ max (node_row row (get_or nodes i d)) (last_row row (drop (i + 1) nodes))

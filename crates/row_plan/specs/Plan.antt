@@ -1,8 +1,9 @@
 -- In which row each value of a program is made, and up to which it is kept.
 use Rattle.std.specs.Prelude.{ℕ, suc, ◌≡◌, ◌<◌, ◌≤◌, max, nat_le, Bool, true, ◌&&◌, if◌then◌else◌, Some, List, [], ◌∷◌, ◌++◌, length, slice_index, All, Contains, map as map_list}
 use Rattle.std.specs.List.{filter}
-use Rattle.kind_core.specs.declared.why.Refusal.{Refusal}
-use Rattle.kind_core.specs.declared.why.Why.TheVariants.{Stages}
+use Rattle.xdp_state.specs.declared.refusal.Refusal.{Refusal}
+use Rattle.xdp_state.specs.declared.refusal.Why.TheVariants.{Stages}
+use Rattle.xdp_state.specs.Reasons.{most_stages}
 use Rattle.cell_core.specs.declared.program.Node.{Node}
 use Rattle.cell_core.specs.Cells.{CellView, cell_at, site_in, is_read}
 use Rattle.cell_core.specs.Sites.{SiteView, ProgramView, site_at, records}
@@ -62,11 +63,11 @@ pub record IsPlan (p : ProgramView) (plan : Plan) : Type 0 where
   pub rows : AreRows p.cells (slice_index plan.rows)
   pub commit : plan.commit ≡ commit_row (slice_index plan.rows) p
   pub last : plan.last ≡ last_row (slice_index plan.rows) p.nodes
-  pub few : plan.last ≤ 256
+  pub few : plan.last ≤ most_stages
   pub kept_count : length plan.kept ≡ length p.cells
   pub kept : AreKept p (slice_index plan.rows) (slice_index plan.kept) plan.commit plan.last
 
--- A node is refused whose row exceeds 256, and none before it.
+-- A node is refused whose row exceeds the most stages, 256, and none before it.
 pub record IsTooLate (p : ProgramView) (r : Refusal) : Type 0 where
   pub rows : List ℕ
   pub row_count : length rows ≡ length p.cells
@@ -75,7 +76,7 @@ pub record IsTooLate (p : ProgramView) (r : Refusal) : Type 0 where
   pub node : Node
   pub after : List Node
   pub nodes_are : p.nodes ≡ before ++ node ∷ after
-  pub within : All (λ n. node_row (slice_index rows) n ≤ 256) before
-  pub beyond : 256 < node_row (slice_index rows) node
+  pub within : All (λ n. node_row (slice_index rows) n ≤ most_stages) before
+  pub beyond : most_stages < node_row (slice_index rows) node
   pub at_is : r.at ≡ node.place
   pub why_is : r.why ≡ Stages

@@ -1,10 +1,11 @@
 -- What the steps of planning say.
 use Rattle.std.specs.Prelude.{ℕ, ◌≡◌, ◌⊎◌, ◌<◌, ◌≤◌, true, Some, List, length, slice_index, take, All, Contains}
 use Rattle.std.proofs.Common.{get_or}
-use Rattle.kind_core.specs.declared.why.Refusal.{Refusal}
-use Rattle.kind_core.specs.declared.why.Why.TheVariants.{Stages}
-use Rattle.kind_core.specs.declared.why.BuildError.{BuildError}
-use Rattle.kind_core.specs.declared.why.BuildError.TheVariants.{Refused, NoMemory}
+use Rattle.xdp_state.specs.declared.refusal.Refusal.{Refusal}
+use Rattle.xdp_state.specs.declared.refusal.Why.TheVariants.{Stages}
+use Rattle.xdp_state.specs.declared.refusal.BuildError.{BuildError}
+use Rattle.xdp_state.specs.declared.refusal.BuildError.TheVariants.{Refused, NoMemory}
+use Rattle.xdp_state.specs.Reasons.{most_stages}
 use Rattle.cell_core.specs.declared.program.Node.{Node}
 use Rattle.cell_core.specs.Cells.{CellView, cell_at, site_in}
 use Rattle.cell_core.specs.Sites.{ProgramView, SiteView, site_at, records}
@@ -51,7 +52,7 @@ no_node = record { place = 0; guard = 0; first = 0; end = 0 }
 pub record IsLateNode (rows : List ℕ) (nodes : List Node) (r : Refusal) : Type 0 where
   pub index : ℕ
   pub below : index < length nodes
-  pub within : All (λ n. node_row (slice_index rows) n ≤ 256) (take index nodes)
-  pub beyond : 256 < node_row (slice_index rows) (get_or nodes index no_node)
+  pub within : All (λ n. node_row (slice_index rows) n ≤ most_stages) (take index nodes)
+  pub beyond : most_stages < node_row (slice_index rows) (get_or nodes index no_node)
   pub at_is : r.at ≡ (get_or nodes index no_node).place
   pub why_is : r.why ≡ Stages

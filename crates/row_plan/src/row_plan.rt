@@ -4,7 +4,8 @@ ghost use Rattle.std.specs.Prelude.{◌≡◌, ◌⊎◌, ◌<◌, ◌≤◌, �
 ghost use Rattle.std.proofs.Common.{get_or};
 ghost use Rattle.std.specs.declared.vec.Vec.{Vec};
 ghost use Rattle.std.specs.declared.alloc.Global.{Global};
-ghost use Rattle.kind_core.specs.declared.why.Refusal.{Refusal};
+ghost use Rattle.xdp_state.specs.declared.refusal.Refusal.{Refusal};
+ghost use Rattle.xdp_state.specs.Reasons.{most_stages};
 ghost use Rattle.cell_core.specs.Formed.{AreFormed};
 ghost use Rattle.cell_core.specs.Rows.{last_row};
 ghost use Rattle.cell_core.specs.View.{program_of};
@@ -14,12 +15,9 @@ ghost use Rattle.row_plan.specs.Steps.{IsRefusedBy, IsLateNode};
 use crate::keeping::keep_needed;
 use crate::rows::{node_row, read_row, row_in, rows_of, site_row};
 use cell_core::program::{CellProgram, Node};
-use kind_core::{BuildError, Refusal, Why};
 use std::alloc::{AllocError, Global};
 use std::marker::Model;
-
-/// The greatest row that a node may have.
-const MOST_ROW: u32 = 256;
+use xdp_state::{BuildError, MOST_STAGES, Refusal, Why};
 
 /// In which row of a pipeline each value of a program is made, and up to which it is kept. Contracts see it as a `Plan`.
 #[derive(Debug, Drop)]
@@ -48,13 +46,13 @@ impl Model for RowPlan {
 
 // The last row of the nodes, or the first node whose row is too great.
 fn last_row(rows: &[u32], nodes: &[Node]) -> Result<u32, Refusal>
-    ensures ok { IfOk result (λ last. (last ≡ last_row (slice_index rows.now) nodes.now) × (last ≤ MOST_ROW)) }
+    ensures ok { IfOk result (λ last. (last ≡ last_row (slice_index rows.now) nodes.now) × (last ≤ most_stages)) }
     ensures err { IfErr result (IsLateNode rows.now nodes.now) }
 {
     let mut last = 0;
     for node in nodes {
         let row = node_row(rows, node);
-        if row > MOST_ROW {
+        if row > MOST_STAGES {
             return Err(Refusal {
                 at: node.place,
                 why: Why::Stages,
@@ -94,7 +92,7 @@ fn live_rows(
     last: u32,
 ) -> Result<Vec<Vec<u32>>, AllocError>
     requires few { length rows.now < 2 ^ 32 }
-    requires last { last ≤ MOST_ROW }
+    requires last { last ≤ most_stages }
     ensures count { IfOk result (λ lists. length lists.items ≡ suc last) }
     ensures lists { IfOk result (λ lists. (at : ℕ) (d : Vec ℕ Global) → at ≤ last → (get_or lists.items at d).items ≡ live_cells (slice_index rows.now) (slice_index kept.now) at (length rows.now)) }
 {

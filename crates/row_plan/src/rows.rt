@@ -31,7 +31,7 @@ pub(crate) fn greatest(rows: &[u32], cells: &[u32]) -> u32
     most
 }
 
-// The row of a cell behind those whose rows are listed.
+// The row of a cell after those whose rows are listed.
 fn next_row(rows: &[u32], cell: &Cell) -> u32
     requires { greatest (slice_index rows.now) (cell_of cell.now).ins < 2 ^ 32 - 1 }
     ensures { result ≡ greatest (slice_index rows.now) (cell_of cell.now).ins + bit (is_heavy cell.now.op) }

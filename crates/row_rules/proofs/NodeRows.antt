@@ -1,3 +1,4 @@
 pub mod PlaceLemmas
-pub mod RowsLemmas
+pub mod RowsLaws
 pub mod OneOutcomeLaws
+pub mod CountLaws

@@ -1,13 +1,8 @@
 -- What the lists of calls make fail, and what a failed write leaves.
-use Rattle.std.proofs.Common.{◌≡◌, ℕ, ◌+◌, List, [], length, Option, Some, None, sym, ap, ◌∙◌, inl, inr}
+use Rattle.std.proofs.Common.{◌≡◌, ℕ, ◌+◌, List, length, Option, Some, None, sym, ap, ◌∙◌, inl, inr}
 use Rattle.std.proofs.Math.Seq.{take-append_seam, take-append-add}
 use Rattle.shelf_core.specs.Shelf.{LeavesFront}
-use Rattle.shelf_core.specs.Plan.{Plan, next_left}
 use Rattle.shelf_core.specs.Memory.{LeavesListed}
-
--- where a list is empty, no call is to fail
-pub none_listed : (plan : Plan) → plan.failing ≡ [] → next_left plan ≡ None
-none_listed plan empty = rw empty
 
 -- nothing was added
 unchanged : (old : Option (List ℕ)) (bytes : List ℕ) (new : Option (List ℕ)) → new ≡ old → LeavesFront old bytes new

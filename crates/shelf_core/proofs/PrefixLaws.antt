@@ -1,8 +1,7 @@
 -- Fronts of what is written, for those who write in parts, and counts over several calls.
-use Rattle.std.proofs.Common.{◌⊎◌, ℕ, ◌-◌, ◌^◌, ◌<◌, ◌≤◌, List, ◌++◌, length, min, Option, Some, sym, ap, ◌∙◌, arith, inl, inr}
+use Rattle.std.proofs.Common.{ℕ, ◌-◌, ◌≤◌, List, ◌++◌, length, min, Option, Some, sym, ap, ◌∙◌, arith}
 use Rattle.std.proofs.lemmas.List.{take_min, take-append-le}
 use Rattle.std.proofs.Math.Seq.{take-append_seam}
-use Rattle.std.proofs.lemmas.Bool.{cases_lt}
 use Rattle.shelf_core.specs.Shelf.{HoldsFront, Rose}
 
 -- a front of the parts so far is a front of them with more
@@ -15,10 +14,6 @@ front_of_more whole more held front = record {
 -- what was written whole is a front of it with more
 pub front_of_whole : (whole more : List ℕ) → HoldsFront (whole ++ more) (Some whole)
 front_of_whole whole more = record { many = length whole; front = ap Some (sym (take-append_seam whole more)) }
-
--- a count that rose is greater, or stands at 2^64 - 1
-pub rose_cases : (before now : ℕ) → Rose before now → (before < now) ⊎ (2 ^ 64 - 1 ≤ now)
-rose_cases before now rose = elim (cases_lt before now) [ inl less ↦ inl less | inr stands ↦ inr (omega arith) ]
 
 -- a count that rose in one of several calls rose over them all
 pub rose_within : (first before now last : ℕ) → first ≤ before → Rose before now → now ≤ last → Rose first last

@@ -1,6 +1,6 @@
 -- How far a name has been read.
-use Rattle.std.proofs.Common.{◌≡◌, ◌≤◌, ◌<◌, ◌+◌, ℕ, List, [], ◌++◌, length, take, Option, Some, None, arith, ap, refl, sym, ◌∙◌}
-use Rattle.std.proofs.Math.Seq.{take-add, take-length}
+use Rattle.std.proofs.Common.{◌≡◌, ◌≤◌, ◌<◌, ◌+◌, ℕ, List, [], ◌++◌, length, take, Option, Some, None, ap, refl, ◌∙◌}
+use Rattle.std.proofs.Math.Seq.{take-add}
 use Rattle.std.proofs.lemmas.List.{length-append, length-take-le}
 use Rattle.shelf_core.specs.Shelf.{Reads}
 
@@ -15,9 +15,3 @@ read_more (Some content) all into n front room some reads =
     let many : length (all ++ take n into) ≡ length all + n = length-append all (take n into) ∙ ap (λ k. length all + k) (length-take-le n into room) in
     let same : take (length all + n) content ≡ all ++ take n into = take-add (length all) n content ∙ rw (front.0, reads.bytes) refl in
     (rw many same, rw many (reads.within some))
-
-pub read_all : (held : Option (List ℕ)) (all into : List ℕ) → HasRead held all → 0 < length into → Reads held (length all) 0 into → held ≡ Some all
-read_all None all into front room reads = absurd reads
-read_all (Some content) all into front room reads =
-    let whole : length all ≡ length content = omega (arith, front.1, reads.end refl room) in
-    ap Some (sym (take-length content) ∙ rw whole at front.0)

@@ -13,15 +13,15 @@ use Rattle.cell_core.specs.Cells.{CellView}
 use Rattle.cell_core.specs.Sites.{SiteView}
 use Rattle.cell_core.specs.Rows.{AreRows, greatest}
 use Rattle.cell_core.specs.declared.site.Act.{Act}
+use Rattle.cell_core.proofs.RowLaws.{greatest_append}
 use Rattle.operator_cells.specs.Making.{Grows}
 use Rattle.operator_cells.specs.Rising.{Rises, RiseAll}
-use Rattle.operator_cells.proofs.RisingLaws.{greatest_append}
 use Rattle.operator_cells.specs.row_rules.declared.place_rows.span.Span.{Span}
 use Rattle.operator_cells.specs.row_rules.PlaceRows.Spans.{no_place, one, is_in, span_row, spans_row}
 use Rattle.operator_cells.specs.row_rules.PlaceRows.Reading.{result_row}
 use Rattle.operator_cells.specs.row_rules.PlaceRows.Writing.{writes_as, record_as, is_open_in, taken_row, made_row}
-use Rattle.operator_cells.specs.declared.held_cells.held.Held.{Held}
-use Rattle.operator_cells.specs.HeldCells.Held.{PointerView, pointer_at}
+use Rattle.operator_cells.specs.declared.held_cells.machine_cells.RegisterCells.{RegisterCells}
+use Rattle.operator_cells.specs.HeldCells.RegisterCells.{PointerView, pointer_at}
 use Rattle.operator_cells.specs.HeldCells.Rows.{cells_of_pointer, value_row, map_used, row_before, written_row, WriteWithin, LeavesTo, OperatesTo}
 use Rattle.operator_cells.proofs.HeldCells.RowLaws.{grows_by, put_register}
 use Rattle.site_cells.specs.declared.here.Here.{Here}
@@ -31,7 +31,7 @@ use Rattle.site_cells.proofs.Leaving.{trans_le, register_before, nothing_leaves,
 use Rattle.site_cells.proofs.Recording.{made_taken, made_result, written_taken, open_register, one_write}
 
 -- ---- what is read
-pub pointer_before : (row : ℕ → ℕ) (ps : List PointerView) (h : Held) (k : Kinds) (used : Option ℕ) (c r q o : ℕ) (p : PointerView) → r ≤ 10 → register k r ≡ Entry q o → p ≡ pointer_at ps (slice_index h.registers r)
+pub pointer_before : (row : ℕ → ℕ) (ps : List PointerView) (h : RegisterCells) (k : Kinds) (used : Option ℕ) (c r q o : ℕ) (p : PointerView) → r ≤ 10 → register k r ≡ Entry q o → p ≡ pointer_at ps (slice_index h.registers r)
     → greatest row (cells_of_pointer p) ≤ span_row (row_before row ps h k used c) (one r)
 pointer_before row ps h k used c r q o p small base p_is =
     subst (λ (x : PointerView). greatest row (cells_of_pointer x) ≤ span_row (row_before row ps h k used c) (one r)) (sym p_is)
@@ -45,7 +45,7 @@ read_low row p operands pending most a b c =
 pub site_low : (row : ℕ → ℕ) (p : PointerView) (operands : List ℕ) (most : ℕ) → greatest row (cells_of_pointer p) ≤ most → greatest row operands ≤ most → greatest row (p.key ++ (operands ++ p.found ∷ [])) ≤ most
 site_low row p operands most a b = omega (arith, greatest_append row p.key (operands ++ p.found ∷ []), greatest_append row operands (p.found ∷ []), a, b)
 
-module _ (decls : List MapDecl) (i : Insn) (here : Here) (k : Kinds) (h : Held) (ps : List PointerView) (q : ℕ) (used : map_used k i i.op ≡ Some q) (there : q < length decls) where
+module _ (decls : List MapDecl) (i : Insn) (here : Here) (k : Kinds) (h : RegisterCells) (ps : List PointerView) (q : ℕ) (used : map_used k i i.op ≡ Some q) (there : q < length decls) where
   abbrev before : (ℕ → ℕ) → ℕ → ℕ
   before row = row_before row ps h k (map_used k i i.op) here.pending
 

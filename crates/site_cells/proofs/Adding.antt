@@ -14,11 +14,12 @@ use Rattle.cell_core.specs.Cells.{CellView, cell_at, no_cell, site_in, bits_from
 use Rattle.cell_core.specs.Sites.{SiteView, site_at, no_site, applied, after, read_on}
 use Rattle.cell_core.specs.View.{site_of}
 use Rattle.operator_cells.specs.Making.{Adds, GrowsWith}
-use Rattle.operator_cells.specs.declared.held_cells.held.Pointer.{Pointer}
-use Rattle.operator_cells.specs.HeldCells.Held.{PointerView, pointer_of, pointed, pointer_at, no_pointer}
+use Rattle.operator_cells.specs.declared.held_cells.machine_cells.Pointer.{Pointer}
+use Rattle.operator_cells.specs.HeldCells.RegisterCells.{PointerView, pointer_of, pointed, pointer_at, no_pointer}
 use Rattle.operator_cells.specs.HeldCells.Steps.{AreRead}
 use Rattle.site_cells.specs.Sited.{sited}
 use Rattle.site_cells.specs.Siting.{IsReadOf}
+use Rattle.site_cells.proofs.SitedLaws.{sited_length}
 
 -- ---- in memory
 
@@ -26,10 +27,6 @@ pub sited_more : (sites : List Site) (s : Site) → sited (sites ++ s ∷ []) �
 unfolding sited
 sited_more [] s = refl
 sited_more (r ∷ sites) s = ap (λ (xs : List SiteView). site_of r ∷ xs) (sited_more sites s)
-
-pub sited_length : (sites : List Site) → length (sited sites) ≡ length sites
-unfolding sited
-sited_length sites = length-map sites site_of
 
 pub pointed_next : (ps qs : List Pointer) (p : Pointer) → qs ≡ ps ++ p ∷ [] → pointed qs ≡ pointed ps ++ pointer_of p ∷ []
 unfolding pointed

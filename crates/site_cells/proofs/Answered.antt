@@ -1,4 +1,4 @@
--- What is held behind a helper's answer, among more pointers.
+-- What is held after a helper's answer, among more pointers.
 use Rattle.std.proofs.Common.{◌≡◌, ℕ, zero, suc, ◌+◌, ◌<◌, ◌≤◌, pos, true, List, [], ◌∷◌, ◌++◌, length, length-append, drop, get_or, set as set_list, slice_index, slice_set, sym, ◌∙◌, ap, subst, arith}
 use Rattle.std.proofs.lemmas.List.{get_or-set_same, get_or-set_other, get_or-drop}
 use Rattle.cell_core.specs.xdp_maps.declared.decl.MapDecl.{MapDecl}
@@ -11,8 +11,8 @@ use Rattle.kind_core.specs.declared.kind.Kind.{Kind}
 use Rattle.kind_core.specs.declared.kind.Kind.TheVariants.{Unset, Num, Maybe, Entry}
 use Rattle.kind_core.specs.declared.kind.Kinds.{Kinds}
 use Rattle.kind_core.specs.Kinds.{answering}
-use Rattle.operator_cells.specs.declared.held_cells.held.Held.{Held}
-use Rattle.operator_cells.specs.HeldCells.Held.{PointerView, IsPointer, Holds, Counts, AreHeld, AreInside, entry_or_null, key_of}
+use Rattle.operator_cells.specs.declared.held_cells.machine_cells.RegisterCells.{RegisterCells}
+use Rattle.operator_cells.specs.HeldCells.RegisterCells.{PointerView, IsPointer, Holds, Counts, AreHeld, AreInside, entry_or_null, key_of}
 use Rattle.operator_cells.proofs.HeldCells.PointerLaws.{pointer_later}
 use Rattle.cell_core.specs.Cells.{on}
 use Rattle.site_cells.proofs.Adding.{old_pointer}
@@ -34,7 +34,7 @@ holds_among decls n v ps more (Maybe q j) c y h e = e ∙ ap (entry_or_null decl
 holds_among decls n v ps more (Entry q o) c y h e = subst (λ (p : PointerView). (on (v p.found) ≡ true) × (y ≡ is.Entry q (key_of decls v q p) (pos o))) (sym (old_pointer ps more c h.0)) e
 holds_among decls n v ps more x c y h e = tt
 
-pub inside_among : (decls : List MapDecl) (n m : ℕ) (ps more : List PointerView) (h : Held) (k : Kinds) → n ≤ m → AreInside decls n ps h k → AreInside decls m (ps ++ more) h k
+pub inside_among : (decls : List MapDecl) (n m : ℕ) (ps more : List PointerView) (h : RegisterCells) (k : Kinds) → n ≤ m → AreInside decls n ps h k → AreInside decls m (ps ++ more) h k
 inside_among decls n m ps more h k l i = record {
   registers = λ r s. counts_among decls n m ps more _ _ l (i.registers r s);
   slots = λ r s. counts_among decls n m ps more _ _ l (i.slots r s);
@@ -42,7 +42,7 @@ inside_among decls n m ps more h k l i = record {
   target = omega (arith, l, i.target);
 }
 
-pub held_among : (decls : List MapDecl) (packet : PacketIn) (n : ℕ) (v : ℕ → ℕ) (ps more : List PointerView) (h : Held) (k : Kinds) (m : Machine) → AreInside decls n ps h k → AreHeld decls packet v ps h k m
+pub held_among : (decls : List MapDecl) (packet : PacketIn) (n : ℕ) (v : ℕ → ℕ) (ps more : List PointerView) (h : RegisterCells) (k : Kinds) (m : Machine) → AreInside decls n ps h k → AreHeld decls packet v ps h k m
     → AreHeld decls packet v (ps ++ more) h k m
 held_among decls packet n v ps more h k m i held = record {
   registers = λ r s. holds_among decls n v ps more _ _ _ (i.registers r s) (held.registers r s);
@@ -72,7 +72,7 @@ answered P ks hs xs c k y some one none all (suc (suc (suc (suc (suc (suc r)))))
     let h : slice_index (set_list hs 0 c) (suc (suc (suc (suc (suc (suc r)))))) ≡ slice_index hs (suc (suc (suc (suc (suc (suc r)))))) = get_or-set_other hs 0 (suc (suc (suc (suc (suc (suc r)))))) c 0 (λ q. absurd (omega (arith, q))) in
     rw (get_or-drop 6 ks r Unset ∙ ap (λ (j : ℕ). get_or ks j Unset) e, h, get_or-drop 6 xs r is.Unset ∙ ap (λ (j : ℕ). get_or xs j is.Unset) e) (all (suc (suc (suc (suc (suc (suc r)))))) l)
 
-pub answered_inside : (decls : List MapDecl) (n : ℕ) (ps : List PointerView) (h : Held) (k : Kinds) (x : Kind) (c : ℕ) → length h.registers ≡ 11 → AreInside decls n ps h k → Counts decls n ps x c
+pub answered_inside : (decls : List MapDecl) (n : ℕ) (ps : List PointerView) (h : RegisterCells) (k : Kinds) (x : Kind) (c : ℕ) → length h.registers ≡ 11 → AreInside decls n ps h k → Counts decls n ps x c
     → AreInside decls n ps (record h { registers = slice_set h.registers 0 c }) (answering x k)
 answered_inside decls n ps h k x c whole i one = record {
   registers = λ r l. answered (λ a b y. Counts decls n ps a b) k.registers h.registers [] c x is.Unset (omega (arith, whole)) one (λ a y. tt) i.registers r l;
@@ -81,7 +81,7 @@ answered_inside decls n ps h k x c whole i one = record {
   target = i.target;
 }
 
-pub answered_held : (decls : List MapDecl) (packet : PacketIn) (v : ℕ → ℕ) (ps : List PointerView) (h : Held) (k : Kinds) (m : Machine) (x : Kind) (c : ℕ) (y : Value) → length h.registers ≡ 11
+pub answered_held : (decls : List MapDecl) (packet : PacketIn) (v : ℕ → ℕ) (ps : List PointerView) (h : RegisterCells) (k : Kinds) (m : Machine) (x : Kind) (c : ℕ) (y : Value) → length h.registers ≡ 11
     → AreHeld decls packet v ps h k m → Holds decls v ps x c y → AreHeld decls packet v ps (record h { registers = slice_set h.registers 0 c }) (answering x k) (helpers.answering y m)
 answered_held decls packet v ps h k m x c y whole held one = record {
   registers = λ r l. answered (Holds decls v ps) k.registers h.registers m.registers c x y (omega (arith, whole)) one (λ a b. tt) held.registers r l;

@@ -11,8 +11,8 @@ use Rattle.kind_core.specs.declared.kind.Kind.{Kind}
 use Rattle.kind_core.specs.declared.kind.Kind.TheVariants.{Unset}
 use Rattle.kind_core.specs.declared.kind.Kinds.{Kinds}
 use Rattle.kind_core.specs.Kinds.{with_register}
-use Rattle.operator_cells.specs.declared.held_cells.held.Held.{Held}
-use Rattle.operator_cells.specs.HeldCells.Held.{PointerView, Holds, Counts, AreHeld, AreInside}
+use Rattle.operator_cells.specs.declared.held_cells.machine_cells.RegisterCells.{RegisterCells}
+use Rattle.operator_cells.specs.HeldCells.RegisterCells.{PointerView, Holds, Counts, AreHeld, AreInside}
 
 assigned_each : (P : Kind → ℕ → Value → Type 0) (ks : List Kind) (hs : List ℕ) (xs : List Value) (i c : ℕ) (k : Kind) (y : Value) → i ≤ 10 → length ks ≡ 11 → length hs ≡ 11 → length xs ≡ 11 → P k c y
     → ((r : ℕ) → r ≤ 10 → P (get_or ks r Unset) (slice_index hs r) (get_or xs r is.Unset))
@@ -28,7 +28,7 @@ assigned_each P ks hs xs i c k y l a b d one all r s = by (r == i) refl
         let other : r ≢ i = grind arith in
         rw (get_or-set_other ks i r k Unset other, get_or-set_other hs i r c 0 other, get_or-set_other xs i r y is.Unset other) (all r s)
 
-pub assigned_inside : (decls : List MapDecl) (n : ℕ) (ps : List PointerView) (h : Held) (k : Kinds) (i c : ℕ) (x : Kind) → i ≤ 10 → length k.registers ≡ 11 → length h.registers ≡ 11 → AreInside decls n ps h k → Counts decls n ps x c
+pub assigned_inside : (decls : List MapDecl) (n : ℕ) (ps : List PointerView) (h : RegisterCells) (k : Kinds) (i c : ℕ) (x : Kind) → i ≤ 10 → length k.registers ≡ 11 → length h.registers ≡ 11 → AreInside decls n ps h k → Counts decls n ps x c
     → AreInside decls n ps (record h { registers = slice_set h.registers i c }) (with_register k i x)
 assigned_inside decls n ps h k i c x l ks hs inside one = record {
   registers = assigned_each (λ a b y. Counts decls n ps a b) k.registers h.registers (map_list (λ a. is.Unset) k.registers) i c x is.Unset l ks hs (length-map k.registers (λ a. is.Unset) ∙ ks) one inside.registers;
@@ -37,7 +37,7 @@ assigned_inside decls n ps h k i c x l ks hs inside one = record {
   target = inside.target;
 }
 
-pub assigned_held : (decls : List MapDecl) (packet : PacketIn) (v : ℕ → ℕ) (ps : List PointerView) (h : Held) (k : Kinds) (m : Machine) (i c : ℕ) (x : Kind) (y : Value) → i ≤ 10
+pub assigned_held : (decls : List MapDecl) (packet : PacketIn) (v : ℕ → ℕ) (ps : List PointerView) (h : RegisterCells) (k : Kinds) (m : Machine) (i c : ℕ) (x : Kind) (y : Value) → i ≤ 10
     → length k.registers ≡ 11 → length h.registers ≡ 11 → length m.registers ≡ 11 → AreHeld decls packet v ps h k m → Holds decls v ps x c y
     → AreHeld decls packet v ps (record h { registers = slice_set h.registers i c }) (with_register k i x) (record m { registers = slice_set m.registers i y })
 assigned_held decls packet v ps h k m i c x y l ks hs ms held one = record {

@@ -26,22 +26,22 @@ use Rattle.operator_cells.specs.row_rules.declared.place_rows.span.Span.{Span}
 use Rattle.operator_cells.specs.row_rules.PlaceRows.Spans.{no_place, one, pending, map_of, pending_of, is_in, span_row, spans_row}
 use Rattle.operator_cells.specs.row_rules.PlaceRows.Reading.{compared_span, result_as, result_row}
 use Rattle.operator_cells.specs.row_rules.PlaceRows.Writing.{old_value, writes_as, record_as, through, taken_row}
-use Rattle.operator_cells.proofs.row_rules_laws.PlaceRows.SpanLaws.{is_inside, span_above}
-use Rattle.operator_cells.specs.declared.held_cells.held.Held.{Held}
-use Rattle.operator_cells.specs.HeldCells.Held.{PointerView, pointer_at}
+use Rattle.operator_cells.proofs.row_rules_laws.PlaceRows.SpanLaws.{is_inside, span_above, no_places}
+use Rattle.operator_cells.specs.declared.held_cells.machine_cells.RegisterCells.{RegisterCells}
+use Rattle.operator_cells.specs.HeldCells.RegisterCells.{PointerView, pointer_at}
 use Rattle.operator_cells.specs.HeldCells.Rows.{cells_of_pointer, value_row, held_row, map_used, row_before, written_row, is_some_place, OperatesTo}
 use Rattle.operator_cells.proofs.HeldCells.RowLaws.{register_row, rise_one}
 use Rattle.site_cells.specs.declared.here.Here.{Here}
 use Rattle.site_cells.specs.Siting.{Accesses, access_site}
 use Rattle.site_cells.specs.Changing.{code_of, taken_by, HoldsOperands}
 use Rattle.site_cells.proofs.Allowed.{AtomicAllowed}
-use Rattle.site_cells.proofs.Leaving.{trans_le, span_before, pending_before, in_nothing}
+use Rattle.site_cells.proofs.Leaving.{trans_le, span_before, pending_before}
 use Rattle.site_cells.proofs.Recording.{written_taken, written_result, some_place, one_write}
 use Rattle.site_cells.proofs.AccessRows.{pointer_before, read_low, site_low, answer_rows, quiet_rows}
 use Rattle.site_cells.proofs.EntryRows.{placed_map}
 
 -- ---- the operands
-pub held_span : (row : ℕ → ℕ) (ps : List PointerView) (h : Held) (k : Kinds) (r : ℕ) → r ≤ 10 → value_row row ps (register k r) (slice_index h.registers r) ≤ span_row (held_row row ps h k) (one r)
+pub held_span : (row : ℕ → ℕ) (ps : List PointerView) (h : RegisterCells) (k : Kinds) (r : ℕ) → r ≤ 10 → value_row row ps (register k r) (slice_index h.registers r) ≤ span_row (held_row row ps h k) (one r)
 held_span row ps h k r l =
     subst (λ (n : ℕ). n ≤ span_row (held_row row ps h k) (one r)) (register_row row ps h k r (omega (arith, l))) (span_above (held_row row ps h k) (one r) r (is_inside r (one r) (omega arith) (omega arith)))
 
@@ -49,13 +49,13 @@ held_span row ps h k r l =
 pub two_rise : {a b d : List CellView} {s c : ℕ} {f g last : (ℕ → ℕ) → ℕ} → Rises a b s f → Rises b d c g → ((row : ℕ → ℕ) → f row ≤ last row) → ((row : ℕ → ℕ) → g row ≤ last row) → RiseAll a d (s ∷ c ∷ []) last
 two_rise one two h g = rise_more refl (rise_one one h) two g
 
-pub compared_low : (row : ℕ → ℕ) (ps : List PointerView) (h : Held) (k : Kinds) (i : Insn) → compares i ≡ true
+pub compared_low : (row : ℕ → ℕ) (ps : List PointerView) (h : RegisterCells) (k : Kinds) (i : Insn) → compares i ≡ true
     → value_row row ps (register k 0) (slice_index h.registers 0) ≤ spans_row (held_row row ps h k) (one i.src ∷ compared_span i ∷ [])
 compared_low row ps h k i e =
     let low = held_span row ps h k 0 (omega arith) in
     subst (λ (s : Span). value_row row ps (register k 0) (slice_index h.registers 0) ≤ spans_row (held_row row ps h k) (one i.src ∷ s ∷ [])) (sym (ap (λ (t : Bool). if t then one 0 else no_place) e)) (omega (arith, low))
 
-pub source_low : (row : ℕ → ℕ) (ps : List PointerView) (h : Held) (k : Kinds) (i : Insn) → i.src ≤ 10
+pub source_low : (row : ℕ → ℕ) (ps : List PointerView) (h : RegisterCells) (k : Kinds) (i : Insn) → i.src ≤ 10
     → value_row row ps (register k i.src) (slice_index h.registers i.src) ≤ spans_row (held_row row ps h k) (one i.src ∷ compared_span i ∷ [])
 source_low row ps h k i l = let low = held_span row ps h k i.src l in omega (arith, low)
 
@@ -76,7 +76,7 @@ goes_nowhere i = by (compares i) (fetches (code_of i))
     by false true e = absurd (cc)
     by false false e = refl
 
-module _ (decls : List MapDecl) (i : Insn) (here : Here) (is_ref : Bool) (k : Kinds) (h : Held) (old mid new : List CellView) (ps : List PointerView) (sites sites2 : List SiteView) (size : Size) (q o a s c : ℕ) (at : AtomicChange) (p : PointerView)
+module _ (decls : List MapDecl) (i : Insn) (here : Here) (is_ref : Bool) (k : Kinds) (h : RegisterCells) (old mid new : List CellView) (ps : List PointerView) (sites sites2 : List SiteView) (size : Size) (q o a s c : ℕ) (at : AtomicChange) (p : PointerView)
     (op : i.op ≡ Atomic size) (dst : i.dst ≤ 10) (base : register k i.dst ≡ Entry q o) (allowed : AtomicAllowed decls k i size q o) (p_is : p ≡ pointer_at ps (slice_index h.registers i.dst)) (operands : HoldsOperands k h i old mid s c)
     (rises : RiseAll old mid (s ∷ c ∷ []) (λ row. spans_row (held_row row ps h k) (one i.src ∷ compared_span i ∷ []))) where
   abbrev before : (ℕ → ℕ) → ℕ → ℕ
@@ -110,7 +110,7 @@ module _ (decls : List MapDecl) (i : Insn) (here : Here) (is_ref : Bool) (k : Ki
   silent_rows to sites_are =
       let writes : writes_as k i i.op ≡ no_place ∷ no_place ∷ [] = ap (writes_as k i) op ∙ ap (λ (x : Span). x ∷ no_place ∷ []) (goes_nowhere i to) in
       quiet_rows decls i here k h ps q used there after old mid sites sites2 (act.Atomic a at) p (s ∷ c ∷ []) takes _ (allowed.not_taken here.node is_ref false to)
-      (λ place. ap (list_any (is_in place)) writes ∙ in_nothing place) write operands.grows rises low led sites_are
+      (λ place. ap (list_any (is_in place)) writes ∙ no_places place) write operands.grows rises low led sites_are
 
   result : (row : ℕ → ℕ) → result_row (before row) decls k after i ≡ spans_row (before row) (one i.dst ∷ one i.src ∷ compared_span i ∷ pending q ∷ []) + 1
   result row = ap (result_as (before row) decls k after i) op ∙ ap (λ (x : Kind). spans_row (before row) (one i.dst ∷ one i.src ∷ compared_span i ∷ pending_of x ∷ []) + 1) base

@@ -20,14 +20,15 @@ use Rattle.cell_core.specs.declared.site.Act.TheVariants as act
 use Rattle.cell_core.specs.Cells.{CellView}
 use Rattle.cell_core.specs.Sites.{SiteView}
 use Rattle.cell_core.specs.Rows.{AreRows, greatest}
+use Rattle.cell_core.proofs.RowLaws.{greatest_append}
 use Rattle.operator_cells.specs.Rising.{GrowsTo, Rises, RiseAll}
-use Rattle.operator_cells.proofs.RisingLaws.{greatest_append, stand_none, stand_more, stand_all, rises_then}
+use Rattle.operator_cells.proofs.RisingLaws.{stand_none, stand_more, stand_all, rises_then}
 use Rattle.operator_cells.specs.row_rules.declared.place_rows.span.Span.{Span}
 use Rattle.operator_cells.specs.row_rules.PlaceRows.Spans.{no_place, one, region, map_of, pending_of, value_in, span_row, spans_row}
 use Rattle.operator_cells.specs.row_rules.PlaceRows.Reading.{key_span, call_reads, result_row}
 use Rattle.operator_cells.specs.row_rules.PlaceRows.Writing.{writes_as, record_as, called_on, is_open_in, taken_row, made_row}
-use Rattle.operator_cells.specs.declared.held_cells.held.Held.{Held}
-use Rattle.operator_cells.specs.HeldCells.Held.{PointerView}
+use Rattle.operator_cells.specs.declared.held_cells.machine_cells.RegisterCells.{RegisterCells}
+use Rattle.operator_cells.specs.HeldCells.RegisterCells.{PointerView}
 use Rattle.operator_cells.specs.HeldCells.Rows.{value_row, held_row, map_used, row_before, is_some_place, written_row, LeavesTo, OperatesTo}
 use Rattle.operator_cells.proofs.HeldCells.RowLaws.{grows_by, put_register}
 use Rattle.site_cells.specs.declared.here.Here.{Here}
@@ -39,7 +40,7 @@ use Rattle.site_cells.proofs.LookupRows.{call_used, call_writes, call_result, ke
 use Rattle.site_cells.proofs.Recording.{made_taken, made_result, written_taken, written_result, open_register, some_place, one_write}
 
 -- ---- a change
-module _ (decls : List MapDecl) (i : Insn) (here : Here) (is_ref : Bool) (k : Kinds) (h : Held) (ps : List PointerView) (q : ℕ) (z : ℤ) (op : i.op ≡ Call) (imm : i.imm ≡ z) (plain : int_eq z (pos 23) ≡ false) (map : register k 1 ≡ MapRef q)
+module _ (decls : List MapDecl) (i : Insn) (here : Here) (is_ref : Bool) (k : Kinds) (h : RegisterCells) (ps : List PointerView) (q : ℕ) (z : ℤ) (op : i.op ≡ Call) (imm : i.imm ≡ z) (plain : int_eq z (pos 23) ≡ false) (map : register k 1 ≡ MapRef q)
     (there : q < length decls) (is : transferred decls k i here.node is_ref false ≡ changed here.node is_ref false k (calls.change_of decls q)) where
   abbrev before : (ℕ → ℕ) → ℕ → ℕ
   before row = row_before row ps h k (map_used k i i.op) here.pending
@@ -93,7 +94,7 @@ module _ (decls : List MapDecl) (i : Insn) (here : Here) (is_ref : Bool) (k : Ki
       }
 
 -- ---- deletes
-pub delete_rows : (decls : List MapDecl) (i : Insn) (here : Here) (is_ref : Bool) (k : Kinds) (h : Held) (old mid new : List CellView) (ps : List PointerView) (sites sites2 : List SiteView) (base : Kind) (count map c : ℕ) (key words looked none : List ℕ)
+pub delete_rows : (decls : List MapDecl) (i : Insn) (here : Here) (is_ref : Bool) (k : Kinds) (h : RegisterCells) (old mid new : List CellView) (ps : List PointerView) (sites sites2 : List SiteView) (base : Kind) (count map c : ℕ) (key words looked none : List ℕ)
     → i.op ≡ Call → i.imm ≡ pos 3 → verdict (effect_of decls k i) ≡ passed → length h.registers ≡ 11
     → base ≡ register k 2 → count ≡ key_bytes decls map → ((q : ℕ) → register k 1 ≡ MapRef q → map ≡ q) → key ≡ words → looked ≡ [] → none ≡ []
     → RiseAll old mid words (λ row. span_row (held_row row ps h k) (region base (pos 0) count)) → Changes mid new sites sites2 here map act.Delete key looked none c
@@ -121,7 +122,7 @@ delete_rows decls i here is_ref k h old mid new ps sites sites2 base count map c
     (made.sites_are ∙ ap (λ (n : ℕ). sites ++ change_site here n act.Delete key none ∷ []) (map_is f.0 f.1))
 
 -- ---- updates
-pub update_rows : (decls : List MapDecl) (i : Insn) (here : Here) (is_ref : Bool) (k : Kinds) (h : Held) (old mid next end new : List CellView) (ps : List PointerView) (sites sites2 : List SiteView) (base second : Kind) (count size map c flags : ℕ) (key words looked values operands : List ℕ)
+pub update_rows : (decls : List MapDecl) (i : Insn) (here : Here) (is_ref : Bool) (k : Kinds) (h : RegisterCells) (old mid next end new : List CellView) (ps : List PointerView) (sites sites2 : List SiteView) (base second : Kind) (count size map c flags : ℕ) (key words looked values operands : List ℕ)
     → i.op ≡ Call → i.imm ≡ pos 2 → verdict (effect_of decls k i) ≡ passed → length h.registers ≡ 11
     → base ≡ register k 2 → second ≡ register k 3 → count ≡ key_bytes decls map → size ≡ value_bytes decls map → ((q : ℕ) → register k 1 ≡ MapRef q → map ≡ q) → key ≡ words → looked ≡ flags ∷ [] → operands ≡ flags ∷ values
     → RiseAll old mid words (λ row. span_row (held_row row ps h k) (region base (pos 0) count)) → RiseAll mid next values (λ row. span_row (held_row row ps h k) (region second (pos 0) size))

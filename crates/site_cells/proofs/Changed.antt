@@ -37,9 +37,10 @@ use Rattle.cell_core.specs.declared.site.Atomic.{Atomic as AtomicChange}
 use Rattle.cell_core.specs.declared.site.Act.TheVariants as act
 use Rattle.cell_core.specs.Cells.{CellView, IsRun, bits_from, on}
 use Rattle.cell_core.specs.Sites.{SiteView, after, bytes_of, change_of, operation_on, read_on, number_or, answer as answer_of}
+use Rattle.cell_core.proofs.BitLaws.{small_bits}
 use Rattle.operator_cells.specs.Making.{GrowsWith}
-use Rattle.operator_cells.specs.declared.held_cells.held.Held.{Held}
-use Rattle.operator_cells.specs.HeldCells.Held.{PointerView, AreHeld, AreInside, pointer_at, key_of}
+use Rattle.operator_cells.specs.declared.held_cells.machine_cells.RegisterCells.{RegisterCells}
+use Rattle.operator_cells.specs.HeldCells.RegisterCells.{PointerView, AreHeld, AreInside, pointer_at, key_of}
 use Rattle.operator_cells.specs.HeldCells.Carrying.{IsKnown}
 use Rattle.operator_cells.specs.HeldCells.Steps.{AreRead}
 use Rattle.operator_cells.specs.HeldCells.Operating.{Operates}
@@ -53,7 +54,7 @@ use Rattle.site_cells.proofs.Answered.{inside_among}
 use Rattle.site_cells.proofs.Assigned.{assigned_inside, assigned_held}
 use Rattle.site_cells.proofs.Atomics.{Changes, entry_changed, compares_is, wide_bytes, change_is, fetch_is, taken, not_taken}
 use Rattle.site_cells.proofs.Calling.{decl_is}
-use Rattle.site_cells.proofs.Entries.{bits_whole, value_bytes_fit, entry_held, entry_pointer, place_fits, placed_operation}
+use Rattle.site_cells.proofs.Entries.{value_bytes_fit, entry_held, entry_pointer, place_fits, placed_operation}
 use Rattle.site_cells.proofs.Loads.{key_is_site}
 use Rattle.site_cells.proofs.Stores.{written}
 
@@ -90,7 +91,7 @@ taken_small i r small to = by (compares i) (fetches (code_of i)) to
     by false false h = absurd (cc)
 
 -- The code of an atomic change through a pointer of this kind: its operands, and its site.
-pub record Made (decls : List MapDecl) (i : Insn) (here : Here) (k : Kinds) (h : Held) (old mid new : List CellView) (ps : List PointerView) (sites sites2 : List SiteView) (size : Size) (q o a s c : ℕ) (at : AtomicChange) : Type 0 where
+pub record Made (decls : List MapDecl) (i : Insn) (here : Here) (k : Kinds) (h : RegisterCells) (old mid new : List CellView) (ps : List PointerView) (sites sites2 : List SiteView) (size : Size) (q o a s c : ℕ) (at : AtomicChange) : Type 0 where
   pub op : i.op ≡ Atomic size
   pub sized : IsSized (Atomic size)
   pub dst : i.dst ≤ 10
@@ -105,7 +106,7 @@ pub record Made (decls : List MapDecl) (i : Insn) (here : Here) (k : Kinds) (h :
   pub sites_are : sites2 ≡ sites ++ access_site here q (act.Atomic a at) (pointer_at ps (slice_index h.registers i.dst)) (s ∷ c ∷ []) ∷ []
 
 -- what the code finds of a machine that does the change
-pub record Does (decls : List MapDecl) (i : Insn) (here : Here) (h : Held) (ps : List PointerView) (size : Size) (q o a s c : ℕ) (at : AtomicChange) (v : ℕ → ℕ) (m n : Machine) : Type 0 where
+pub record Does (decls : List MapDecl) (i : Insn) (here : Here) (h : RegisterCells) (ps : List PointerView) (size : Size) (q o a s c : ℕ) (at : AtomicChange) (v : ℕ → ℕ) (m n : Machine) : Type 0 where
   pub x : Change
   pub d : MapDecl
   pub old : ℕ
@@ -113,7 +114,7 @@ pub record Does (decls : List MapDecl) (i : Insn) (here : Here) (h : Held) (ps :
   pub same : change_of at (v s) (v c) ≡ x
   pub keys : bytes_of (decl_at m.maps q).key (map_list v (pointer_at ps (slice_index h.registers i.dst)).key) ≡ key_of decls v q (pointer_at ps (slice_index h.registers i.dst))
 
-module _ (decls : List MapDecl) (i : Insn) (here : Here) (k : Kinds) (h : Held) (old mid new : List CellView) (ps : List PointerView) (sites sites2 : List SiteView) (size : Size) (q o a s c : ℕ) (at : AtomicChange)
+module _ (decls : List MapDecl) (i : Insn) (here : Here) (k : Kinds) (h : RegisterCells) (old mid new : List CellView) (ps : List PointerView) (sites sites2 : List SiteView) (size : Size) (q o a s c : ℕ) (at : AtomicChange)
     (made : Made decls i here k h old mid new ps sites sites2 size q o a s c at) where
   abbrev p : PointerView
   p = pointer_at ps (slice_index h.registers i.dst)
@@ -140,8 +141,8 @@ module _ (decls : List MapDecl) (i : Insn) (here : Here) (k : Kinds) (h : Held) 
   operation : (v : ℕ → ℕ) (m n : Machine) (d : Does decls i here h ps size q o a s c at v m n) → operation_on v m.maps own ≡ map.Atomic (key_of decls v q p) a d.x at.fetch
   operation v m n d = ap (λ (bs : List ℕ). map.Atomic bs a (change_of at (v s) (v c)) at.fetch) d.keys ∙ ap (λ (y : Change). map.Atomic (key_of decls v q p) a y at.fetch) d.same
 
-  -- the site, and what its operation leaves, whatever is held behind it
-  pub operates : (is_ref edge : Bool) (next : Held) → AreInside decls (length new) ps next (transferred decls k i here.node is_ref edge)
+  -- the site, and what its operation leaves, whatever is held after it
+  pub operates : (is_ref edge : Bool) (next : RegisterCells) → AreInside decls (length new) ps next (transferred decls k i here.node is_ref edge)
       → ((packet : PacketIn) (maps : MapState) (v : ℕ → ℕ) (m n : Machine) → IsRun packet new v → AreRead maps new sites2 v → on (v here.guard) ≡ true → after v maps sites ≡ m.maps → IsKnown decls packet v ps here.node k h m
       → (d : Does decls i here h ps size q o a s c at v m n) → AreHeld decls packet v ps next (transferred decls k i here.node is_ref edge) n × (n.maps ≡ with_contents m.maps q (changed (contents_at m.maps q) (key_of decls v q p) a d.x)))
       → Operates decls i here.node here.guard is_ref edge k h next old new ps ps sites sites2
@@ -239,5 +240,5 @@ module _ (decls : List MapDecl) (i : Insn) (here : Here) (k : Kinds) (h : Held) 
           ∙ ap (λ (st : MapState). bits_from (read_on v st own (Answer (length sites))) 0 width) after_is
           ∙ ap (λ (o : Operation). bits_from (answer_of m.maps q (act.Atomic a at) o) 0 width) (operation v m n d)
           ∙ ap (λ (o : Option ℕ). bits_from (number_or o) 0 width) d.changes.before
-          ∙ bits_whole d.old width (subst (λ (w : ℕ). d.old < 2 ^ w) (sym (width_is ∙ ap (λ (b : ℕ). 8 * b) (sym (wide_whole size d.x.wide d.changes.parts.wide))))
+          ∙ small_bits d.old width (subst (λ (w : ℕ). d.old < 2 ^ w) (sym (width_is ∙ ap (λ (b : ℕ). 8 * b) (sym (wide_whole size d.x.wide d.changes.parts.wide))))
           (old_small m.maps q d.d (key_of decls v q p) a d.x.wide d.old known.in_range.maps d.changes.placed.decl d.changes.before))

@@ -36,10 +36,11 @@ use Rattle.cell_core.specs.declared.site.Act.TheVariants as act
 use Rattle.cell_core.specs.Cells.{CellView, IsRun, bits_from}
 use Rattle.cell_core.specs.Sites.{SiteView, records, operation_on, answer, bytes_of}
 use Rattle.cell_core.specs.Formed.{FitsMap, IsBelow}
+use Rattle.cell_core.proofs.BitLaws.{small_bits}
 use Rattle.operator_cells.specs.Making.{GrowsWith, Grows, Makes}
 use Rattle.operator_cells.proofs.MakingLaws.{grown}
-use Rattle.operator_cells.specs.declared.held_cells.held.Held.{Held}
-use Rattle.operator_cells.specs.HeldCells.Held.{PointerView, AreInside, AreHeld, number_of}
+use Rattle.operator_cells.specs.declared.held_cells.machine_cells.RegisterCells.{RegisterCells}
+use Rattle.operator_cells.specs.HeldCells.RegisterCells.{PointerView, AreInside, AreHeld, number_of}
 use Rattle.site_cells.proofs.Slots.{bound, register_number}
 use Rattle.operator_cells.specs.HeldCells.Carrying.{IsKnown}
 use Rattle.operator_cells.specs.HeldCells.Operating.{Operates}
@@ -52,7 +53,6 @@ use Rattle.site_cells.proofs.Answered.{inside_among, answered_inside, answered_h
 use Rattle.site_cells.proofs.Stale.{changed_inside, changed_held}
 use Rattle.site_cells.proofs.Allowed.{delete_allowed, update_allowed}
 use Rattle.site_cells.proofs.Calling.{helper_called, key_is, keyed_operation, decl_is}
-use Rattle.site_cells.proofs.Entries.{bits_whole}
 use Rattle.site_cells.proofs.Stores.{written}
 
 -- what a helper does on a machine: an operation, which its site is, and a number that it answers
@@ -65,7 +65,7 @@ pub record Helps (i : Insn) (v : ℕ → ℕ) (m n : Machine) (q : ℕ) (site : 
   pub answers : answer m.maps q site.act op ≡ number
   pub fits : number < 2 ^ 64
 
-pub change_operates : (decls : List MapDecl) (i : Insn) (here : Here) (is_ref taken : Bool) (k : Kinds) (h : Held) (old mid new : List CellView) (ps : List PointerView) (sites sites2 : List SiteView) (q c : ℕ) (a : Act) (key looked operands : List ℕ)
+pub change_operates : (decls : List MapDecl) (i : Insn) (here : Here) (is_ref taken : Bool) (k : Kinds) (h : RegisterCells) (old mid new : List CellView) (ps : List PointerView) (sites sites2 : List SiteView) (q c : ℕ) (a : Act) (key looked operands : List ℕ)
     → transferred decls k i here.node is_ref taken ≡ changed here.node is_ref taken k (calls.change_of decls q) → length h.registers ≡ 11 → AreInside decls (length old) ps h k → Grows old mid
     → FitsMap decls (change_site here q a key operands) → IsBelow (length mid) (change_site here q a key operands) → Changes mid new sites sites2 here q a key looked operands c → records a ≡ true
     → ((packet : PacketIn) (v : ℕ → ℕ) (m n : Machine) (refs : List ℕ) → IsRun packet new v → IsKnown decls packet v ps here.node k h m → effect refs m i i.op ≡ Some n → Helps i v m n q (change_site here q a key operands))
@@ -91,7 +91,7 @@ change_operates decls i here is_ref taken k h old mid new ps sites sites2 q c a 
           ∙ ap (λ (s : MapState). bits_from (answer s q a (operation_on v s site)) 0 64) after_is
           ∙ ap (λ (o : Operation). bits_from (answer m.maps q a o) 0 64) w.site_is
           ∙ ap (λ (x : ℕ). bits_from x 0 64) w.answers
-          ∙ bits_whole w.number 64 w.fits in
+          ∙ small_bits w.number 64 w.fits in
           let held : AreHeld decls packet v ps h k (record m { maps = operated m.maps q w.op }) = record {
             registers = known.held.registers;
             slots = known.held.slots;
@@ -111,7 +111,7 @@ change_operates decls i here is_ref taken k h old mid new ps sites sites2 q c a 
 
 -- ---- deletes
 
-delete_helps : (R : ℕ → ℕ → Type 0) (decls : List MapDecl) (i : Insn) (here : Here) (k : Kinds) (h : Held) (old mid new : List CellView) (ps : List PointerView) (q : ℕ) (words : List ℕ) → i.op ≡ Call → i.imm ≡ pos 3 → kinds.register k 1 ≡ MapRef q
+delete_helps : (R : ℕ → ℕ → Type 0) (decls : List MapDecl) (i : Insn) (here : Here) (k : Kinds) (h : RegisterCells) (old mid new : List CellView) (ps : List PointerView) (q : ℕ) (words : List ℕ) → i.op ≡ Call → i.imm ≡ pos 3 → kinds.register k 1 ≡ MapRef q
     → GrowsWith R mid new → HoldsRegion decls ps here.node k h old mid (kinds.register k 2) (key_bytes decls q) words
     → (packet : PacketIn) (v : ℕ → ℕ) (m n : Machine) (refs : List ℕ) → IsRun packet new v → IsKnown decls packet v ps here.node k h m → effect refs m i i.op ≡ Some n → Helps i v m n q (change_site here q act.Delete words [])
 delete_helps R decls i here k h old mid new ps q words op imm one grows region packet v m n refs run known e =
@@ -136,7 +136,7 @@ delete_helps R decls i here k h old mid new ps q words op imm one grows region p
       fits = word_of (delete_number (decl_at m.maps q) (contents_at m.maps q) key) (delete_number_fits (decl_at m.maps q).kind (contents_at m.maps q) key);
     }
 
-pub delete_made : (decls : List MapDecl) (i : Insn) (here : Here) (is_ref taken : Bool) (k : Kinds) (h : Held) (old mid new : List CellView) (ps : List PointerView) (sites sites2 : List SiteView) (base : Kind) (count map c : ℕ) (key words looked none : List ℕ)
+pub delete_made : (decls : List MapDecl) (i : Insn) (here : Here) (is_ref taken : Bool) (k : Kinds) (h : RegisterCells) (old mid new : List CellView) (ps : List PointerView) (sites sites2 : List SiteView) (base : Kind) (count map c : ℕ) (key words looked none : List ℕ)
     → i.op ≡ Call → i.imm ≡ pos 3 → verdict (effect_of decls k i) ≡ passed → here.guard < length old → length h.registers ≡ 11 → AreInside decls (length old) ps h k
     → base ≡ kinds.register k 2 → count ≡ key_bytes decls map → ((q : ℕ) → kinds.register k 1 ≡ MapRef q → map ≡ q) → key ≡ words → none ≡ []
     → (calls.region k count base ≡ passed → HoldsRegion decls ps here.node k h old mid base count words) → Changes mid new sites sites2 here map act.Delete key looked none c
@@ -158,7 +158,7 @@ delete_made decls i here is_ref taken k h old mid new ps sites sites2 base count
 updates_is : (m : Machine) (d : MapDecl) (key value : List ℕ) (flags : ℕ) → helpers.region m.stack m.frame d.value (register m.registers 3) ≡ Some value → is.number_in (register m.registers 4) ≡ Some flags → touched.updates m d key ≡ Some (map.Update key value flags)
 updates_is m d key value flags e f = rw (e, f) refl
 
-update_helps : (R : ℕ → ℕ → Type 0) (decls : List MapDecl) (i : Insn) (here : Here) (k : Kinds) (h : Held) (old mid next last new : List CellView) (ps : List PointerView) (q flags : ℕ) (x : Number) (words values : List ℕ) → i.op ≡ Call → i.imm ≡ pos 2
+update_helps : (R : ℕ → ℕ → Type 0) (decls : List MapDecl) (i : Insn) (here : Here) (k : Kinds) (h : RegisterCells) (old mid next last new : List CellView) (ps : List PointerView) (q flags : ℕ) (x : Number) (words values : List ℕ) → i.op ≡ Call → i.imm ≡ pos 2
     → kinds.register k 1 ≡ MapRef q → kinds.register k 4 ≡ Num x → GrowsWith R last new → HoldsRegion decls ps here.node k h old mid (kinds.register k 2) (key_bytes decls q) words
     → HoldsRegion decls ps here.node k h mid next (kinds.register k 3) (value_bytes decls q) values → Makes next last flags (λ packet v. number_of v x (slice_index h.registers 4))
     → (packet : PacketIn) (v : ℕ → ℕ) (m n : Machine) (refs : List ℕ) → IsRun packet new v → IsKnown decls packet v ps here.node k h m → effect refs m i i.op ≡ Some n → Helps i v m n q (change_site here q act.Update words (flags ∷ values))
@@ -197,7 +197,7 @@ update_helps R decls i here k h old mid next last new ps q flags x words values 
       fits = word_of (update_number (decl_at m.maps q) (contents_at m.maps q) key f.0) (update_number_fits (decl_at m.maps q).kind (decl_at m.maps q) (contents_at m.maps q) key f.0);
     }
 
-pub update_made : (decls : List MapDecl) (i : Insn) (here : Here) (is_ref taken : Bool) (k : Kinds) (h : Held) (old mid next last new : List CellView) (ps : List PointerView) (sites sites2 : List SiteView) (base second : Kind) (count size map c flags : ℕ) (key words looked values operands : List ℕ)
+pub update_made : (decls : List MapDecl) (i : Insn) (here : Here) (is_ref taken : Bool) (k : Kinds) (h : RegisterCells) (old mid next last new : List CellView) (ps : List PointerView) (sites sites2 : List SiteView) (base second : Kind) (count size map c flags : ℕ) (key words looked values operands : List ℕ)
     → i.op ≡ Call → i.imm ≡ pos 2 → verdict (effect_of decls k i) ≡ passed → here.guard < length old → length h.registers ≡ 11 → AreInside decls (length old) ps h k
     → base ≡ kinds.register k 2 → second ≡ kinds.register k 3 → count ≡ key_bytes decls map → size ≡ value_bytes decls map → ((q : ℕ) → kinds.register k 1 ≡ MapRef q → map ≡ q) → key ≡ words → operands ≡ flags ∷ values
     → (calls.region k count base ≡ passed → HoldsRegion decls ps here.node k h old mid base count words) → (calls.region k size second ≡ passed → HoldsRegion decls ps here.node k h mid next second size values)

@@ -1,7 +1,6 @@
 -- Entries that pointers lead to.
 use Rattle.std.proofs.Common.{◌≡◌, ℕ, ◌+◌, ◌*◌, ◌%◌, ◌^◌, ◌<◌, ◌≤◌, ◌==◌, nat_le, ℤ, pos, negsuc, ◌+ℤ◌, if◌then◌else◌, Bool, true, false, Option, Some, None, Result, Ok, Err, List, length, get_or, slice_range, slice_index, refl, sym, ◌∙◌, ap, subst, arith}
 use Rattle.std.specs.Prelude.{All, slice_get, IfSome}
-use Rattle.std.proofs.Math.Nat.{div-one, mod-eq_of_lt}
 use Rattle.std.proofs.lemmas.Bool.{eqb-true}
 use Rattle.std.proofs.lemmas.Option.{slice_get_within}
 use Rattle.byteorder.specs.Numbers.{little_from-lt}
@@ -23,22 +22,18 @@ use Rattle.kind_core.proofs.xdp_machine_laws.PartLaws.{at_or, bytes_in_slice, al
 use Rattle.kind_core.specs.declared.kind.Kind.{Kind}
 use Rattle.kind_core.specs.declared.kind.Kind.TheVariants.{Entry}
 use Rattle.kind_core.specs.declared.kind.Kinds.{Kinds}
-use Rattle.kind_core.specs.declared.why.Why.{Why}
+use Rattle.xdp_state.specs.declared.refusal.Why.{Why}
 use Rattle.kind_core.specs.Kinds as kinds
 use Rattle.kind_core.specs.Kinds.{value_bytes}
 use Rattle.kind_core.specs.Tests as tests
 use Rattle.kind_core.proofs.TestLaws.{bind_passed}
-use Rattle.cell_core.specs.Cells.{bits_from}
-use Rattle.operator_cells.specs.declared.held_cells.held.Held.{Held}
-use Rattle.operator_cells.specs.declared.held_cells.held.Pointer.{Pointer}
-use Rattle.operator_cells.specs.HeldCells.Held.{PointerView, pointer_of, pointed, IsPointer, Holds, Counts, AreInside, pointer_at, key_of}
+use Rattle.operator_cells.specs.declared.held_cells.machine_cells.RegisterCells.{RegisterCells}
+use Rattle.operator_cells.specs.declared.held_cells.machine_cells.Pointer.{Pointer}
+use Rattle.operator_cells.specs.HeldCells.RegisterCells.{PointerView, pointer_of, pointed, IsPointer, Holds, Counts, AreInside, pointer_at, key_of}
 use Rattle.operator_cells.specs.HeldCells.Carrying.{IsKnown}
 use Rattle.site_cells.proofs.Adding.{pointed_count, pointer_seen}
 use Rattle.site_cells.proofs.Slots.{bound}
 use Rattle.site_cells.proofs.OneSite.{is_declared}
-
-pub bits_whole : (n w : ℕ) → n < 2 ^ w → bits_from n 0 w ≡ n
-bits_whole n w h = ap (λ (k : ℕ). k % 2 ^ w) (div-one n) ∙ mod-eq_of_lt {n = n} {m = 2 ^ w} h
 
 pub number_fits : (size : Size) (a : ℕ) (bytes : List ℕ) → All (λ b. b < 256) bytes → number_at size a bytes < 2 ^ (8 * bytes_in size)
 number_fits size a bytes all = by size
@@ -57,7 +52,7 @@ value_bytes_fit maps q d key value sound decl there =
     (subst (λ (r : Option (List ℕ)). IfSome r (IsBytes (decl_at maps q).value)) there ((sound.over q (slice_get_within maps.decls q d decl)).values key)).bytes_fit
 
 -- a pointer to an entry, as a register holds it
-pub entry_held : (decls : List MapDecl) (packet : PacketIn) (v : ℕ → ℕ) (ps : List PointerView) (node : ℕ) (k : Kinds) (h : Held) (m : Machine) (r q o : ℕ) → IsKnown decls packet v ps node k h m → r ≤ 10
+pub entry_held : (decls : List MapDecl) (packet : PacketIn) (v : ℕ → ℕ) (ps : List PointerView) (node : ℕ) (k : Kinds) (h : RegisterCells) (m : Machine) (r q o : ℕ) → IsKnown decls packet v ps node k h m → r ≤ 10
     → kinds.register k r ≡ Entry q o → register m.registers r ≡ is.Entry q (key_of decls v q (pointer_at ps (slice_index h.registers r))) (pos o)
 entry_held decls packet v ps node k h m r q o known l e =
     (subst (λ (y : Kind). Holds decls v ps y (slice_index h.registers r) (register m.registers r)) e (known.held.registers r l)).1
@@ -124,12 +119,12 @@ place_aligned decls q o a y z size p offset at =
     by x false e f = absurd (cc)
 
 -- the number of a pointer in a register names one that is there
-pub entry_pointer : (decls : List MapDecl) (n : ℕ) (ps : List PointerView) (k : Kinds) (h : Held) (r q o : ℕ) → AreInside decls n ps h k → r ≤ 10 → kinds.register k r ≡ Entry q o
+pub entry_pointer : (decls : List MapDecl) (n : ℕ) (ps : List PointerView) (k : Kinds) (h : RegisterCells) (r q o : ℕ) → AreInside decls n ps h k → r ≤ 10 → kinds.register k r ≡ Entry q o
     → (slice_index h.registers r < length ps) × IsPointer decls n q (pointer_at ps (slice_index h.registers r))
 entry_pointer decls n ps k h r q o inside l e = subst (λ (x : Kind). Counts decls n ps x (slice_index h.registers r)) e (inside.registers r l)
 
 -- the same in memory
-module _ (ps : List Pointer) {decls : List MapDecl} {n : ℕ} {k : Kinds} {h : Held} {r q o : ℕ} (inside : AreInside decls n (pointed ps) h k) (small : r ≤ 10) (base : kinds.register k r ≡ Entry q o) where
+module _ (ps : List Pointer) {decls : List MapDecl} {n : ℕ} {k : Kinds} {h : RegisterCells} {r q o : ℕ} (inside : AreInside decls n (pointed ps) h k) (small : r ≤ 10) (base : kinds.register k r ≡ Entry q o) where
   pub entry_index : slice_index h.registers r < length ps
   entry_index = omega (arith, (entry_pointer decls n (pointed ps) k h r q o inside small base).0, pointed_count ps (length ps) refl)
 

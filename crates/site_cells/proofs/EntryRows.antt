@@ -28,15 +28,16 @@ use Rattle.operator_cells.proofs.RisingLaws.{stand_none, stand_more, rises_none,
 use Rattle.operator_cells.specs.row_rules.PlaceRows.Spans.{no_place, one, pending, region, map_of, pending_of, is_in, spans_row}
 use Rattle.operator_cells.specs.row_rules.PlaceRows.Reading.{is_entry, result_as, result_row}
 use Rattle.operator_cells.specs.row_rules.PlaceRows.Writing.{writes_as, record_as, through}
-use Rattle.operator_cells.specs.declared.held_cells.held.Held.{Held}
-use Rattle.operator_cells.specs.HeldCells.Held.{PointerView, pointer_at}
+use Rattle.operator_cells.specs.declared.held_cells.machine_cells.RegisterCells.{RegisterCells}
+use Rattle.operator_cells.specs.HeldCells.RegisterCells.{PointerView, pointer_at}
 use Rattle.operator_cells.specs.HeldCells.Rows.{value_row, map_used, row_before, OperatesTo}
 use Rattle.operator_cells.proofs.HeldCells.RowLaws.{rise_one}
+use Rattle.operator_cells.proofs.row_rules_laws.PlaceRows.SpanLaws.{no_places}
 use Rattle.site_cells.specs.declared.here.Here.{Here}
 use Rattle.site_cells.specs.Siting.{Accesses, ReadsNext, access_site}
 use Rattle.site_cells.proofs.Allowed.{load_allowed, signed_allowed, store_allowed}
 use Rattle.site_cells.proofs.Entries.{IsInPlace, place_fits}
-use Rattle.site_cells.proofs.Leaving.{trans_le, pending_before, register_before, in_nothing}
+use Rattle.site_cells.proofs.Leaving.{trans_le, pending_before, register_before}
 use Rattle.site_cells.proofs.Recording.{no_write}
 use Rattle.site_cells.proofs.AccessRows.{pointer_before, read_low, answer_rows, quiet_rows}
 
@@ -50,7 +51,7 @@ entry_result : (before : ℕ → ℕ) (k : Kinds) (i : Insn) (size : Size) (q o 
 entry_result before k i size q o base = ap (λ (x : Kind). spans_row before (one i.src ∷ region x i.offset (bytes_in size) ∷ pending_of x ∷ no_place ∷ []) + bit (is_entry x)) base
 
 -- what is read is answered, and then a number is made of it
-loaded_rows : (decls : List MapDecl) (i : Insn) (here : Here) (k after : Kinds) (h : Held) (old mid new : List CellView) (ps : List PointerView) (sites sites2 : List SiteView) (size : Size) (q o a answer c width : ℕ) (p : PointerView)
+loaded_rows : (decls : List MapDecl) (i : Insn) (here : Here) (k after : Kinds) (h : RegisterCells) (old mid new : List CellView) (ps : List PointerView) (sites sites2 : List SiteView) (size : Size) (q o a answer c width : ℕ) (p : PointerView)
     → map_used k i i.op ≡ Some q → writes_as k i i.op ≡ one i.dst ∷ no_place ∷ []
     → ((before : ℕ → ℕ) → result_row before decls k after i ≡ spans_row before (one i.src ∷ no_place ∷ pending q ∷ no_place ∷ []) + 1)
     → i.src ≤ 10 → i.dst ≤ 10 → register k i.src ≡ Entry q o → IsInPlace decls q (pos o +ℤ i.offset) size → after ≡ with_register k i.dst (Num Unknown)
@@ -71,7 +72,7 @@ loaded_rows decls i here k after h old mid new ps sites sites2 size q o a answer
     (λ row rows. no_write (record_as decls k i i.op) old new sites sites2 (access_site here q (act.Load a size) p []) row _ reads.sites_are refl
     (grown_with (ReadsNext sites) old mid new reads.grows (reads_none (ReadsNext sites) mid new grows)).reads)
 
-pub load_rows : (decls : List MapDecl) (i : Insn) (here : Here) (is_ref : Bool) (k : Kinds) (h : Held) (old new : List CellView) (ps : List PointerView) (sites sites2 : List SiteView) (size : Size) (q o a c width : ℕ) (p : PointerView)
+pub load_rows : (decls : List MapDecl) (i : Insn) (here : Here) (is_ref : Bool) (k : Kinds) (h : RegisterCells) (old new : List CellView) (ps : List PointerView) (sites sites2 : List SiteView) (size : Size) (q o a c width : ℕ) (p : PointerView)
     → i.op ≡ Load size → i.src ≤ 10 → i.dst ≤ 10 → register k i.src ≡ Entry q o → verdict (effect_of decls k i) ≡ passed → length k.registers ≡ 11 → length h.registers ≡ 11
     → p ≡ pointer_at ps (slice_index h.registers i.src) → Accesses old new sites sites2 here q (act.Load a size) p [] c width
     → OperatesTo decls i here.pending k h (transferred decls k i here.node is_ref false) (record h { registers = slice_set h.registers i.dst c }) old new ps ps sites sites2
@@ -81,7 +82,7 @@ load_rows decls i here is_ref k h old new ps sites sites2 size q o a c width p o
     loaded_rows decls i here k after h old new new ps sites sites2 size q o a c c width p (ap (map_used k i) op ∙ ap map_of base) (ap (writes_as k i) op)
     (λ before. ap (result_as before decls k after i) op ∙ entry_result before k i size q o base) src dst base f.0 (f.1 here.node is_ref false) ks hs p_is reads grown_none (rises_none c (λ row. row c) (λ row. omega arith))
 
-pub signed_rows : (decls : List MapDecl) (i : Insn) (here : Here) (is_ref : Bool) (k : Kinds) (h : Held) (old mid new : List CellView) (ps : List PointerView) (sites sites2 : List SiteView) (size : Size) (q o a answer c width : ℕ) (p : PointerView)
+pub signed_rows : (decls : List MapDecl) (i : Insn) (here : Here) (is_ref : Bool) (k : Kinds) (h : RegisterCells) (old mid new : List CellView) (ps : List PointerView) (sites sites2 : List SiteView) (size : Size) (q o a answer c width : ℕ) (p : PointerView)
     → i.op ≡ LoadSigned size → i.src ≤ 10 → i.dst ≤ 10 → register k i.src ≡ Entry q o → verdict (effect_of decls k i) ≡ passed → length k.registers ≡ 11 → length h.registers ≡ 11
     → p ≡ pointer_at ps (slice_index h.registers i.src) → Accesses old mid sites sites2 here q (act.Load a size) p [] answer width → Grows mid new → Rises mid new c (λ row. row answer)
     → OperatesTo decls i here.pending k h (transferred decls k i here.node is_ref false) (record h { registers = slice_set h.registers i.dst c }) old new ps ps sites sites2
@@ -92,7 +93,7 @@ signed_rows decls i here is_ref k h old mid new ps sites sites2 size q o a answe
     (λ before. ap (result_as before decls k after i) op ∙ entry_result before k i size q o base) src dst base f.0 (f.1 here.node is_ref false) ks hs p_is reads grows rises
 
 -- ---- stores
-pub store_rows : (decls : List MapDecl) (i : Insn) (here : Here) (is_ref : Bool) (k : Kinds) (h : Held) (old new : List CellView) (ps : List PointerView) (sites sites2 : List SiteView) (size : Size) (q o a source : ℕ) (p : PointerView)
+pub store_rows : (decls : List MapDecl) (i : Insn) (here : Here) (is_ref : Bool) (k : Kinds) (h : RegisterCells) (old new : List CellView) (ps : List PointerView) (sites sites2 : List SiteView) (size : Size) (q o a source : ℕ) (p : PointerView)
     → i.op ≡ Store size → i.src ≤ 10 → i.dst ≤ 10 → register k i.dst ≡ Entry q o → verdict (effect_of decls k i) ≡ passed → p ≡ pointer_at ps (slice_index h.registers i.dst)
     → Grows old new → Rises old new source (λ row. value_row row ps (register k i.src) (slice_index h.registers i.src)) → sites2 ≡ sites ++ access_site here q (act.Store a size) p (source ∷ []) ∷ []
     → OperatesTo decls i here.pending k h (transferred decls k i here.node is_ref false) h old new ps ps sites sites2
@@ -101,11 +102,11 @@ store_rows decls i here is_ref k h old new ps sites sites2 size q o a source p o
     let used : map_used k i i.op ≡ Some q = ap (map_used k i) op ∙ ap map_of base in
     let writes : writes_as k i i.op ≡ no_place ∷ no_place ∷ [] = ap (writes_as k i) op ∙ ap (λ (x : Kind). region x i.offset (bytes_in size) ∷ no_place ∷ []) base in
     quiet_rows decls i here k h ps q used (placed_map decls q (pos o +ℤ i.offset) size f.2) (transferred decls k i here.node is_ref false) old new sites sites2 (act.Store a size) p (source ∷ []) (one i.dst ∷ one i.src ∷ no_place ∷ []) (λ row. value_row row ps (register k i.src) (slice_index h.registers i.src))
-    (f.3 here.node is_ref false) (λ place. ap (list_any (is_in place)) writes ∙ in_nothing place) (ap (record_as decls k i) op ∙ ap (λ (x : Kind). through x (one i.dst ∷ one i.src ∷ no_place ∷ [])) base) grows (rise_one rises (λ row. omega arith))
+    (f.3 here.node is_ref false) (λ place. ap (list_any (is_in place)) writes ∙ no_places place) (ap (record_as decls k i) op ∙ ap (λ (x : Kind). through x (one i.dst ∷ one i.src ∷ no_place ∷ [])) base) grows (rise_one rises (λ row. omega arith))
     (λ row. let low = register_before row ps h k (map_used k i i.op) here.pending i.src src in omega (arith, low))
     (λ row. let led = pointer_before row ps h k (map_used k i i.op) here.pending i.dst q o p dst base p_is in omega (arith, led)) sites_are
 
-pub imm_rows : (decls : List MapDecl) (i : Insn) (here : Here) (is_ref : Bool) (k : Kinds) (h : Held) (old new : List CellView) (ps : List PointerView) (sites sites2 : List SiteView) (size : Size) (q o a source : ℕ) (p : PointerView)
+pub imm_rows : (decls : List MapDecl) (i : Insn) (here : Here) (is_ref : Bool) (k : Kinds) (h : RegisterCells) (old new : List CellView) (ps : List PointerView) (sites sites2 : List SiteView) (size : Size) (q o a source : ℕ) (p : PointerView)
     → i.op ≡ StoreImm size → i.dst ≤ 10 → register k i.dst ≡ Entry q o → verdict (effect_of decls k i) ≡ passed → p ≡ pointer_at ps (slice_index h.registers i.dst)
     → Grows old new → Rises old new source (λ row. 0) → sites2 ≡ sites ++ access_site here q (act.Store a size) p (source ∷ []) ∷ []
     → OperatesTo decls i here.pending k h (transferred decls k i here.node is_ref false) h old new ps ps sites sites2
@@ -114,6 +115,6 @@ imm_rows decls i here is_ref k h old new ps sites sites2 size q o a source p op 
     let used : map_used k i i.op ≡ Some q = ap (map_used k i) op ∙ ap map_of base in
     let writes : writes_as k i i.op ≡ no_place ∷ no_place ∷ [] = ap (writes_as k i) op ∙ ap (λ (x : Kind). region x i.offset (bytes_in size) ∷ no_place ∷ []) base in
     quiet_rows decls i here k h ps q used (placed_map decls q (pos o +ℤ i.offset) size f.2) (transferred decls k i here.node is_ref false) old new sites sites2 (act.Store a size) p (source ∷ []) (one i.dst ∷ no_place ∷ no_place ∷ []) (λ row. 0)
-    (f.3 here.node is_ref false) (λ place. ap (list_any (is_in place)) writes ∙ in_nothing place) (ap (record_as decls k i) op ∙ ap (λ (x : Kind). through x (one i.dst ∷ no_place ∷ no_place ∷ [])) base) grows (rise_one rises (λ row. omega arith))
+    (f.3 here.node is_ref false) (λ place. ap (list_any (is_in place)) writes ∙ no_places place) (ap (record_as decls k i) op ∙ ap (λ (x : Kind). through x (one i.dst ∷ no_place ∷ no_place ∷ [])) base) grows (rise_one rises (λ row. omega arith))
     (λ row. omega arith)
     (λ row. let led = pointer_before row ps h k (map_used k i i.op) here.pending i.dst q o p dst base p_is in omega (arith, led)) sites_are

@@ -1,4 +1,4 @@
--- In which rows stands what is held behind an operation on a map.
+-- In which rows stands what is held after an operation on a map.
 use Rattle.std.proofs.Common.{◌≡◌, ◌≢◌, ℕ, ◌+◌, ◌-◌, ◌<◌, ◌≤◌, ◌⊎◌, inl, inr, ◌==◌, nat_lt, ◌||◌, if◌then◌else◌, Bool, true, false, Option, Some, List, [], ◌∷◌, ◌++◌, length, get_or, slice_index, refl, sym, subst, arith}
 use Rattle.std.specs.List.{list_any}
 use Rattle.std.proofs.lemmas.Bool.{cases_lt, ltb-true, ltb-false, lt-ltb, le-ltb}
@@ -14,18 +14,18 @@ use Rattle.operator_cells.specs.Rising.{GrowsTo}
 use Rattle.operator_cells.specs.row_rules.declared.place_rows.span.Span.{Span}
 use Rattle.operator_cells.specs.row_rules.PlaceRows.Spans.{no_place, one, pending, pending_in, is_in, span_row}
 use Rattle.operator_cells.proofs.row_rules_laws.PlaceRows.SpanLaws.{in_none, in_one, is_inside, span_above, span_within}
-use Rattle.operator_cells.specs.declared.held_cells.held.Held.{Held}
-use Rattle.operator_cells.specs.HeldCells.Held.{PointerView, Counts, AreInside}
+use Rattle.operator_cells.specs.declared.held_cells.machine_cells.RegisterCells.{RegisterCells}
+use Rattle.operator_cells.specs.HeldCells.RegisterCells.{PointerView, Counts, AreInside}
 use Rattle.operator_cells.specs.HeldCells.Rows.{kind_at, number_at, cells_of_pointer, value_row, held_row, row_before, LeavesTo}
-use Rattle.operator_cells.proofs.HeldCells.RowLaws.{register_row, put_register}
+use Rattle.operator_cells.proofs.HeldCells.RowLaws.{register_row, put_register, number_kept}
 use Rattle.site_cells.proofs.Adding.{old_pointer}
-use Rattle.site_cells.proofs.Shedding.{IsBare, IsLess, Sheds, answer_kind, shed_kind, number_put, number_kept}
+use Rattle.site_cells.proofs.Shedding.{IsBare, IsLess, Sheds, answer_kind, shed_kind, number_put}
 
 pub trans_le : {a b c : ℕ} → a ≤ b → b ≤ c → a ≤ c
 trans_le p q = omega (arith, p, q)
 
 -- ---- before an instruction
-module _ (row : ℕ → ℕ) (ps : List PointerView) (h : Held) (k : Kinds) where
+module _ (row : ℕ → ℕ) (ps : List PointerView) (h : RegisterCells) (k : Kinds) where
   past_none : (place : ℕ) → 332 ≤ place → held_row row ps h k place ≡ 0
   past_none place l = rw (le-ltb place 11 (omega (arith, l)), le-ltb place 75 (omega (arith, l)), le-ltb place 332 l) refl
 
@@ -78,7 +78,7 @@ not_first place r is = by (is_in place (one r)) refl is
     by false e g = λ same. let t : is_in place (one r) ≡ true = is_inside place (one r) (omega (arith, same)) (omega (arith, same)) in absurd (cc)
 
 -- ---- nothing is written
-pub nothing_leaves : (ps : List PointerView) (h : Held) (k : Kinds) (q : Option ℕ) (c : ℕ) (old new : List CellView) (spans : List Span) (made result : (ℕ → ℕ) → ℕ) → ((place : ℕ) → list_any (is_in place) spans ≡ false) → GrowsTo old new made
+pub nothing_leaves : (ps : List PointerView) (h : RegisterCells) (k : Kinds) (q : Option ℕ) (c : ℕ) (old new : List CellView) (spans : List Span) (made result : (ℕ → ℕ) → ℕ) → ((place : ℕ) → list_any (is_in place) spans ≡ false) → GrowsTo old new made
     → LeavesTo (λ row. row_before row ps h k q c) ps h k h old new spans made result
 nothing_leaves ps h k q c old new spans made result none grows = record {
   grows = grows;
@@ -86,9 +86,6 @@ nothing_leaves ps h k q c old new spans made result none grows = record {
   kept = λ row rows place is. held_before row ps h k q c place;
   same = λ place l is. refl;
 }
-
-pub in_nothing : (place : ℕ) → list_any (is_in place) (no_place ∷ no_place ∷ []) ≡ false
-in_nothing place = rw (in_none place) refl
 
 -- ---- more pointers
 among_more : (decls : List MapDecl) (n : ℕ) (ps more : List PointerView) (row : ℕ → ℕ) (x : Kind) (c : ℕ) → Counts decls n ps x c → value_row row (ps ++ more) x c ≤ value_row row ps x c
@@ -98,7 +95,7 @@ among_more decls n ps more row (Num x) c h = omega arith
 among_more decls n ps more row x c h = omega arith
 
 -- what is held stands in no later row among more
-pub rows_among : (decls : List MapDecl) (n : ℕ) (ps more : List PointerView) (h : Held) (k : Kinds) → AreInside decls n ps h k → (row : ℕ → ℕ) (place : ℕ) → held_row row (ps ++ more) h k place ≤ held_row row ps h k place
+pub rows_among : (decls : List MapDecl) (n : ℕ) (ps more : List PointerView) (h : RegisterCells) (k : Kinds) → AreInside decls n ps h k → (row : ℕ → ℕ) (place : ℕ) → held_row row (ps ++ more) h k place ≤ held_row row ps h k place
 rows_among decls n ps more h k inside row place = by (nat_lt place 11) refl (nat_lt place 75) refl
   where
     rest : (b : Bool) (c : ℕ) → value_row row (ps ++ more) (if b then Num Unknown else Unset) c ≤ value_row row ps (if b then Num Unknown else Unset) c
@@ -120,11 +117,11 @@ less_row row ps a b c (inr bare) = by b bare
     by Stale t = omega arith
     by y t = absurd t
 
-pub shed_leaves : (ps qs : List PointerView) (h : Held) (k after : Kinds) (r answer : ℕ) (x : Kind) (q : Option ℕ) (c : ℕ) (old new : List CellView) (made result : (ℕ → ℕ) → ℕ) → Sheds k after r x → r ≤ 10 → length h.registers ≡ 11
+pub shed_leaves : (ps qs : List PointerView) (h : RegisterCells) (k after : Kinds) (r answer : ℕ) (x : Kind) (q : Option ℕ) (c : ℕ) (old new : List CellView) (made result : (ℕ → ℕ) → ℕ) → Sheds k after r x → r ≤ 10 → length h.registers ≡ 11
     → ((row : ℕ → ℕ) (place : ℕ) → held_row row qs h k place ≤ held_row row ps h k place) → GrowsTo old new made → ((row : ℕ → ℕ) → AreRows new row → value_row row qs x answer ≤ result row)
     → LeavesTo (λ row. row_before row ps h k q c) qs h after (put_register h r answer) old new (one r ∷ no_place ∷ []) made result
 shed_leaves ps qs h k after r answer x q c old new made result sheds small whole among grows own =
-    let next : Held = put_register h r answer in
+    let next : RegisterCells = put_register h r answer in
     record {
       grows = grows;
       written = λ row rows place is. subst (λ (p : ℕ). held_row row qs next after p ≤ result row) (sym (in_first place r is))

@@ -1,6 +1,7 @@
 mod Joining
 mod Slots
 mod Regions
+pub mod SitedLaws
 mod Adding
 mod Atomics
 mod Changed

@@ -35,8 +35,9 @@ use Rattle.cell_core.specs.declared.operator.Operator.TheVariants.{Answer}
 use Rattle.cell_core.specs.declared.site.Act.TheVariants as act
 use Rattle.cell_core.specs.Cells.{CellView, bits_from, on}
 use Rattle.cell_core.specs.Sites.{SiteView, after, bytes_of, loaded}
-use Rattle.operator_cells.specs.declared.held_cells.held.Held.{Held}
-use Rattle.operator_cells.specs.HeldCells.Held.{PointerView, AreInside, pointer_at, key_of}
+use Rattle.cell_core.proofs.BitLaws.{small_bits}
+use Rattle.operator_cells.specs.declared.held_cells.machine_cells.RegisterCells.{RegisterCells}
+use Rattle.operator_cells.specs.HeldCells.RegisterCells.{PointerView, AreInside, pointer_at, key_of}
 use Rattle.operator_cells.specs.HeldCells.Steps.{AreRead}
 use Rattle.operator_cells.specs.HeldCells.Operating.{Operates}
 use Rattle.site_cells.specs.declared.here.Here.{Here}
@@ -46,7 +47,7 @@ use Rattle.site_cells.proofs.OneSite.{adds_site, fits_map}
 use Rattle.site_cells.proofs.Answered.{inside_among}
 use Rattle.site_cells.proofs.Assigned.{assigned_inside, assigned_held, assigned_is}
 use Rattle.site_cells.proofs.Calling.{decl_is}
-use Rattle.site_cells.proofs.Entries.{bits_whole, number_fits, value_bytes_fit, entry_held, entry_pointer, IsInPlace, place_fits, Placed, entry_loaded, placed_operation}
+use Rattle.site_cells.proofs.Entries.{number_fits, value_bytes_fit, entry_held, entry_pointer, IsInPlace, place_fits, Placed, entry_loaded, placed_operation}
 
 -- the key of a pointer is that of its site
 pub key_is_site : (decls : List MapDecl) (v : ℕ → ℕ) (maps : MapState) (q : ℕ) (d : MapDecl) (p : PointerView) → maps.decls ≡ decls → slice_get maps.decls q ≡ Some d
@@ -64,14 +65,14 @@ load_answered v maps new sites sites2 here m q o a c offset size d p key value r
     ∙ ap (λ (s : MapState). bits_from (loaded a size (lookup_of (contents_at s q) (bytes_of (decl_at s q).key (map_list v p.key)))) 0 (8 * bytes_in size)) after_is
     ∙ ap (λ (k : List ℕ). bits_from (loaded a size (lookup_of (contents_at m.maps q) k)) 0 (8 * bytes_in size)) key_is
     ∙ ap (λ (r : Option (List ℕ)). bits_from (loaded a size r) 0 (8 * bytes_in size)) there
-    ∙ bits_whole (number_at size a value) (8 * bytes_in size) (number_fits size a value bytes)
+    ∙ small_bits (number_at size a value) (8 * bytes_in size) (number_fits size a value bytes)
 
 -- what a load gives its destination, by the number that it finds in an entry
 abbrev Loaded : Insn → ℕ → ℕ → Size → (ℕ → ℕ) → Type 0
 Loaded i q o size f = (refs : List ℕ) (m n : Machine) (key : List ℕ) → register m.registers i.src ≡ is.Entry q key (pos o) → effect refs m i i.op ≡ Some n
     → (y : Value) × (machine.loaded m (is.Entry q key (pos o)) i.offset size ≡ Some y) × ((x : ℕ) → y ≡ is.Number x → n ≡ record m { registers = slice_set m.registers i.dst (is.Number (f x)) })
 
-load_operates : (decls : List MapDecl) (i : Insn) (here : Here) (is_ref taken : Bool) (k : Kinds) (h : Held) (old mid new : List CellView) (ps : List PointerView) (sites sites2 : List SiteView) (size : Size) (q o a answer c : ℕ) (f : ℕ → ℕ)
+load_operates : (decls : List MapDecl) (i : Insn) (here : Here) (is_ref taken : Bool) (k : Kinds) (h : RegisterCells) (old mid new : List CellView) (ps : List PointerView) (sites sites2 : List SiteView) (size : Size) (q o a answer c : ℕ) (f : ℕ → ℕ)
     → Loaded i q o size f → ((m : Machine) → touched.operation_as m i i.op ≡ touched.accesses m.maps (register m.registers i.src) i.offset size (λ key b. map.Load key))
     → i.src ≤ 10 → i.dst ≤ 10 → kinds.register k i.src ≡ Entry q o → here.guard < length old → IsInPlace decls q (pos o +ℤ i.offset) size → transferred decls k i here.node is_ref taken ≡ with_register k i.dst (Num Unknown)
     → length k.registers ≡ 11 → length h.registers ≡ 11 → AreInside decls (length old) ps h k
@@ -138,7 +139,7 @@ signed_loaded i q o size op refs m n key r e =
           (sym (some_inj _ y.0 b.2) ∙ ap (λ (j : ℕ). is.Number (extended 64 (8 * bytes_in size) j)) (sym (some_inj x b.0 (sym (ap is.number_in x_is) ∙ z.2)))),
     )
 
-pub load_made : (decls : List MapDecl) (i : Insn) (here : Here) (is_ref taken : Bool) (k : Kinds) (h : Held) (old new : List CellView) (ps : List PointerView) (sites sites2 : List SiteView) (size : Size) (q o a c width : ℕ) (p : PointerView) (z : ℤ)
+pub load_made : (decls : List MapDecl) (i : Insn) (here : Here) (is_ref taken : Bool) (k : Kinds) (h : RegisterCells) (old new : List CellView) (ps : List PointerView) (sites sites2 : List SiteView) (size : Size) (q o a c width : ℕ) (p : PointerView) (z : ℤ)
     → i.op ≡ Load size → i.src ≤ 10 → i.dst ≤ 10 → kinds.register k i.src ≡ Entry q o → here.guard < length old → verdict (effect_of decls k i) ≡ passed → length k.registers ≡ 11 → length h.registers ≡ 11 → AreInside decls (length old) ps h k
     → z ≡ i.offset → ((b : ℕ) → aligned (pos o +ℤ z) (bytes_in size) (value_bytes decls q) ≡ Some b → a ≡ b) → p ≡ pointer_at ps (slice_index h.registers i.src) → width ≡ 8 * bytes_in size
     → Accesses old new sites sites2 here q (act.Load a size) p [] c width
@@ -150,7 +151,7 @@ load_made decls i here is_ref taken k h old new ps sites sites2 size q o a c wid
     (subst (λ (x : PointerView). Accesses old new sites sites2 here q (act.Load a size) x [] c (8 * bytes_in size)) p_is (subst (λ (j : ℕ). Accesses old new sites sites2 here q (act.Load a size) p [] c j) width_is made))
     (record { grows = grown_none; there = made.reads.there; value = λ packet v run. refl })
 
-pub signed_made : (decls : List MapDecl) (i : Insn) (here : Here) (is_ref taken : Bool) (k : Kinds) (h : Held) (old mid new : List CellView) (ps : List PointerView) (sites sites2 : List SiteView) (size : Size) (q o a answer c width : ℕ) (p : PointerView) (z : ℤ)
+pub signed_made : (decls : List MapDecl) (i : Insn) (here : Here) (is_ref taken : Bool) (k : Kinds) (h : RegisterCells) (old mid new : List CellView) (ps : List PointerView) (sites sites2 : List SiteView) (size : Size) (q o a answer c width : ℕ) (p : PointerView) (z : ℤ)
     → i.op ≡ LoadSigned size → i.src ≤ 10 → i.dst ≤ 10 → kinds.register k i.src ≡ Entry q o → here.guard < length old → verdict (effect_of decls k i) ≡ passed → length k.registers ≡ 11 → length h.registers ≡ 11 → AreInside decls (length old) ps h k
     → z ≡ i.offset → ((b : ℕ) → aligned (pos o +ℤ z) (bytes_in size) (value_bytes decls q) ≡ Some b → a ≡ b) → p ≡ pointer_at ps (slice_index h.registers i.src) → width ≡ 8 * bytes_in size
     → Accesses old mid sites sites2 here q (act.Load a size) p [] answer width → Makes mid new c (λ packet v. extended 64 width (v answer))

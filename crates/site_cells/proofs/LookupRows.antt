@@ -16,16 +16,17 @@ use Rattle.kind_core.specs.Edges.{transferred}
 use Rattle.cell_core.specs.Cells.{CellView}
 use Rattle.cell_core.specs.Sites.{SiteView}
 use Rattle.cell_core.specs.Rows.{AreRows, greatest}
+use Rattle.cell_core.proofs.RowLaws.{greatest_append}
 use Rattle.operator_cells.specs.Making.{Grows}
 use Rattle.operator_cells.specs.Rising.{RiseAll}
 use Rattle.operator_cells.proofs.MakingLaws.{grown_with, reads_none}
-use Rattle.operator_cells.proofs.RisingLaws.{greatest_append, stand_none, stand_all, rises_then}
+use Rattle.operator_cells.proofs.RisingLaws.{stand_none, stand_all, rises_then}
 use Rattle.operator_cells.specs.row_rules.declared.place_rows.span.Span.{Span}
 use Rattle.operator_cells.specs.row_rules.PlaceRows.Spans.{no_place, one, target, region, map_of, pending_of, key_in, span_row, spans_row}
 use Rattle.operator_cells.specs.row_rules.PlaceRows.Reading.{key_span, call_reads, result_as, result_row}
 use Rattle.operator_cells.specs.row_rules.PlaceRows.Writing.{writes_as, record_as, is_open_in, made_row}
-use Rattle.operator_cells.specs.declared.held_cells.held.Held.{Held}
-use Rattle.operator_cells.specs.HeldCells.Held.{PointerView, AreInside, pointer_at}
+use Rattle.operator_cells.specs.declared.held_cells.machine_cells.RegisterCells.{RegisterCells}
+use Rattle.operator_cells.specs.HeldCells.RegisterCells.{PointerView, AreInside, pointer_at}
 use Rattle.operator_cells.specs.HeldCells.Rows.{cells_of_pointer, value_row, held_row, map_used, row_before, LeavesTo, OperatesTo}
 use Rattle.operator_cells.proofs.HeldCells.RowLaws.{grows_by}
 use Rattle.site_cells.specs.declared.here.Here.{Here}
@@ -52,7 +53,7 @@ key_is_span decls k base count map q base_is count_is map_is one =
     ap (λ (x : Kind). region x (pos 0) count) base_is
     ∙ ap (region (register k 2) (pos 0)) (count_is ∙ ap (key_bytes decls) map_is ∙ sym (ap (λ (x : Kind). key_in decls (map_of x)) one))
 
-pub lookup_rows : (decls : List MapDecl) (i : Insn) (here : Here) (is_ref : Bool) (k : Kinds) (h : Held) (old mid new : List CellView) (ps qs : List PointerView) (sites sites2 : List SiteView) (base : Kind) (count map c : ℕ) (key words : List ℕ)
+pub lookup_rows : (decls : List MapDecl) (i : Insn) (here : Here) (is_ref : Bool) (k : Kinds) (h : RegisterCells) (old mid new : List CellView) (ps qs : List PointerView) (sites sites2 : List SiteView) (base : Kind) (count map c : ℕ) (key words : List ℕ)
     → i.op ≡ Call → i.imm ≡ pos 1 → verdict (effect_of decls k i) ≡ passed → length h.registers ≡ 11 → AreInside decls (length old) ps h k
     → base ≡ register k 2 → count ≡ key_bytes decls map → ((q : ℕ) → register k 1 ≡ MapRef q → map ≡ q) → key ≡ words
     → Grows old mid → RiseAll old mid words (λ row. span_row (held_row row ps h k) (region base (pos 0) count)) → LooksUp mid new ps qs sites sites2 here map key c

@@ -4,7 +4,7 @@ use Rattle.std.specs.Prelude.{is_some}
 use Rattle.std.specs.Int.{w64, cast_unsigned}
 use Rattle.std.proofs.lemmas.List.Elements.{All-nil}
 use Rattle.kind_core.specs.Edges.{transferred}
-use Rattle.operator_cells.specs.HeldCells.Held.{AreHeld}
+use Rattle.operator_cells.specs.HeldCells.RegisterCells.{AreHeld}
 use Rattle.cell_core.specs.bpf_isa.declared.operation.Op.TheVariants.{Call}
 use Rattle.cell_core.specs.bpf_isa.declared.instruction.Insn.{Insn}
 use Rattle.cell_core.specs.xdp_maps.declared.decl.MapDecl.{MapDecl}
@@ -27,8 +27,8 @@ use Rattle.kind_core.specs.Effects.{effect_of, verdict}
 use Rattle.kind_core.specs.Describes.{Describes}
 use Rattle.cell_core.specs.Cells.{CellView, bits_from, bit, on}
 use Rattle.cell_core.specs.Sites.{SiteView, after, bytes_of}
-use Rattle.operator_cells.specs.declared.held_cells.held.Held.{Held}
-use Rattle.operator_cells.specs.HeldCells.Held.{PointerView, IsPointer, AreInside, pointer_at, entry_or_null}
+use Rattle.operator_cells.specs.declared.held_cells.machine_cells.RegisterCells.{RegisterCells}
+use Rattle.operator_cells.specs.HeldCells.RegisterCells.{PointerView, IsPointer, AreInside, pointer_at, entry_or_null}
 use Rattle.operator_cells.specs.HeldCells.Operating.{Operates}
 use Rattle.site_cells.specs.declared.here.Here.{Here}
 use Rattle.site_cells.specs.Words.{HoldsRegion}
@@ -46,7 +46,7 @@ bit_is false = refl
 entry_is : (q : ℕ) (key : List ℕ) (t : Bool) (f : ℕ) (words : List ℕ) → on f ≡ t → words ≡ key → (if t then is.Entry q key (pos 0) else is.Number 0) ≡ (if on f then is.Entry q words (pos 0) else is.Number 0)
 entry_is q key t f words e w = rw (e, w) refl
 
-pub lookup_operates : (decls : List MapDecl) (i : Insn) (here : Here) (is_ref taken : Bool) (k : Kinds) (h : Held) (old mid new : List CellView) (ps qs : List PointerView) (sites sites2 : List SiteView) (q c : ℕ) (words : List ℕ)
+pub lookup_operates : (decls : List MapDecl) (i : Insn) (here : Here) (is_ref taken : Bool) (k : Kinds) (h : RegisterCells) (old mid new : List CellView) (ps qs : List PointerView) (sites sites2 : List SiteView) (q c : ℕ) (words : List ℕ)
     → i.op ≡ Call → i.imm ≡ pos 1 → kinds.register k 1 ≡ MapRef q → ((node : ℕ) (is_ref taken : Bool) → transferred decls k i node is_ref taken ≡ kinds.answering (Maybe q node) k)
     → q < length decls → here.guard < length old → length h.registers ≡ 11 → AreInside decls (length old) ps h k
     → HoldsRegion decls ps here.node k h old mid (kinds.register k 2) (key_bytes decls q) words → LooksUp mid new ps qs sites sites2 here q words c
@@ -96,7 +96,7 @@ lookup_operates decls i here is_ref taken k h old mid new ps qs sites sites2 q c
           );
     }
 
-pub lookup_made : (decls : List MapDecl) (i : Insn) (here : Here) (is_ref taken : Bool) (k : Kinds) (h : Held) (old mid new : List CellView) (ps qs : List PointerView) (sites sites2 : List SiteView) (base : Kind) (count map c : ℕ) (key words : List ℕ)
+pub lookup_made : (decls : List MapDecl) (i : Insn) (here : Here) (is_ref taken : Bool) (k : Kinds) (h : RegisterCells) (old mid new : List CellView) (ps qs : List PointerView) (sites sites2 : List SiteView) (base : Kind) (count map c : ℕ) (key words : List ℕ)
     → i.op ≡ Call → i.imm ≡ pos 1 → verdict (effect_of decls k i) ≡ passed → here.guard < length old → length h.registers ≡ 11 → AreInside decls (length old) ps h k
     → base ≡ kinds.register k 2 → count ≡ key_bytes decls map → ((q : ℕ) → kinds.register k 1 ≡ MapRef q → map ≡ q) → key ≡ words
     → (calls.region k count base ≡ passed → HoldsRegion decls ps here.node k h old mid base count words) → LooksUp mid new ps qs sites sites2 here map key c

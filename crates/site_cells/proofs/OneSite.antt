@@ -28,7 +28,7 @@ pub record AddsSite (decls : List MapDecl) (here : Here) (old new : List CellVie
 pub below_later : (a b : ℕ) (s : SiteView) → a ≤ b → IsBelow a s → IsBelow b s
 below_later a b s le h = record { guard = omega (arith, h.guard, le); key = λ j d l. omega (arith, h.key j d l, le); operands = λ j d l. omega (arith, h.operands j d l, le) }
 
--- cells that read no site, those that the site takes among them or before, and behind them the cells that read it
+-- cells that read no site, those that the site takes among them or before, and after them the cells that read it
 pub adds_site : (decls : List MapDecl) (here : Here) (old mid new : List CellView) (sites sites2 : List SiteView) (site : SiteView) → Grows old mid → GrowsWith (ReadsNext sites) mid new → sites2 ≡ sites ++ site ∷ []
     → site.node ≡ here.node → site.guard ≡ here.guard → FitsMap decls site → IsBelow (length mid) site → AddsSite decls here old new sites sites2 site
 adds_site decls here old mid new sites sites2 site before grows is node guard fits below = record {

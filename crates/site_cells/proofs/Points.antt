@@ -1,4 +1,4 @@
--- Which pointers are held behind an operation on a map.
+-- Which pointers are held after an operation on a map.
 use Rattle.std.proofs.Common.{◌≡◌, ◌≢◌, ◌∙◌, ℕ, ◌-◌, ◌<◌, ◌≤◌, ◌⊎◌, inl, inr, ◌==◌, nat_lt, if◌then◌else◌, Bool, true, false, Some, None, List, [], ◌∷◌, ◌++◌, length, take, drop, slice_index, refl, sym, ap, subst, arith}
 use Rattle.std.proofs.lemmas.Bool.{cases_lt, cases_eq, eqb-false, lt-ltb}
 use Rattle.cell_core.specs.bpf_isa.declared.operation.Op.{Op}
@@ -20,18 +20,18 @@ use Rattle.cell_core.specs.Acts.{pointer_operand}
 use Rattle.cell_core.specs.Cells.{CellView, cell_at, site_in}
 use Rattle.cell_core.specs.Sites.{SiteView}
 use Rattle.operator_cells.specs.Making.{Grows}
-use Rattle.operator_cells.specs.declared.held_cells.held.Held.{Held}
-use Rattle.operator_cells.specs.HeldCells.Held.{PointerView, pointer_at}
+use Rattle.operator_cells.specs.declared.held_cells.machine_cells.RegisterCells.{RegisterCells}
+use Rattle.operator_cells.specs.HeldCells.RegisterCells.{PointerView, pointer_at}
 use Rattle.operator_cells.specs.HeldCells.Rows.{kind_at, number_at, map_used}
 use Rattle.operator_cells.specs.HeldCells.Pointing.{Pointing, pointing_as, HoldsPointer, KeepPointers, changes_keys, IsThrough, ChangePoints, AccessPoints, PointsAs, OperationPoints}
 use Rattle.operator_cells.specs.HeldCells.Reading.{OperationReads}
-use Rattle.operator_cells.proofs.HeldCells.RowLaws.{put_register}
+use Rattle.operator_cells.proofs.HeldCells.RowLaws.{put_register, number_kept}
 use Rattle.operator_cells.specs.row_rules.PlaceRows.Spans.{map_of}
 use Rattle.site_cells.specs.declared.here.Here.{Here}
 use Rattle.site_cells.specs.Siting.{LooksUp, Changes, lookup_site, access_site, change_site}
 use Rattle.site_cells.proofs.SiteReads.{change_reads, lookup_reads}
 use Rattle.site_cells.proofs.Stale.{stale, stale_all, stale_at, hash_becomes}
-use Rattle.site_cells.proofs.Shedding.{IsBare, IsLess, Sheds, answer_kind, shed_kind, number_put, number_kept, written_sheds, answering_sheds, changed_sheds}
+use Rattle.site_cells.proofs.Shedding.{IsBare, IsLess, Sheds, answer_kind, shed_kind, number_put, written_sheds, answering_sheds, changed_sheds}
 
 -- ---- one register gets a value
 less_points : (a b : Kind) (c : ℕ) (y : Pointing) → IsLess a b → pointing_as b c ≡ Some y → pointing_as a c ≡ Some y
@@ -43,8 +43,8 @@ less_points a b c y (inr bare) at = absurd (by b bare at)
     by Stale t e = absurd (cc)
     by x t e = absurd t
 
--- a pointer that is held behind it is that of the value, or was held before
-shed_points : (k after : Kinds) (h : Held) (r c : ℕ) (x : Kind) (y : Pointing) → Sheds k after r x → r ≤ 10 → length h.registers ≡ 11 → HoldsPointer after (put_register h r c) y → (pointing_as x c ≡ Some y) ⊎ HoldsPointer k h y
+-- a pointer that is held after it is that of the value, or was held before
+shed_points : (k after : Kinds) (h : RegisterCells) (r c : ℕ) (x : Kind) (y : Pointing) → Sheds k after r x → r ≤ 10 → length h.registers ≡ 11 → HoldsPointer after (put_register h r c) y → (pointing_as x c ≡ Some y) ⊎ HoldsPointer k h y
 shed_points k after h r c x y sheds small whole held = by (cases_eq held.0 r)
   where
     by : (held.0 ≡ r) ⊎ (held.0 ≢ r) → (pointing_as x c ≡ Some y) ⊎ HoldsPointer k h y
@@ -60,7 +60,7 @@ shed_points k after h r c x y sheds small whole held = by (cases_eq held.0 r)
     )
 
 -- a number is no pointer
-keep_points : (k after : Kinds) (h : Held) (r c : ℕ) → Sheds k after r (Num Unknown) → r ≤ 10 → length h.registers ≡ 11 → KeepPointers k h after (put_register h r c)
+keep_points : (k after : Kinds) (h : RegisterCells) (r c : ℕ) → Sheds k after r (Num Unknown) → r ≤ 10 → length h.registers ≡ 11 → KeepPointers k h after (put_register h r c)
 keep_points k after h r c sheds small whole y held = by (shed_points k after h r c (Num Unknown) y sheds small whole held)
   where
     by : (None ≡ Some y) ⊎ HoldsPointer k h y → HoldsPointer k h y
@@ -76,14 +76,14 @@ pub entry_used : (k : Kinds) (i : Insn) (o : Op) (r q n : ℕ) → i.op ≡ o �
 entry_used k i o r q n op at base = ap (λ (x : Op). map_used k i x) op ∙ at ∙ ap map_of base
 
 -- ---- accesses
-pub read_keeps : (k after : Kinds) (h : Held) (r c : ℕ) → after ≡ with_register k r (Num Unknown) → r ≤ 10 → length k.registers ≡ 11 → length h.registers ≡ 11 → KeepPointers k h after (put_register h r c)
+pub read_keeps : (k after : Kinds) (h : RegisterCells) (r c : ℕ) → after ≡ with_register k r (Num Unknown) → r ≤ 10 → length k.registers ≡ 11 → length h.registers ≡ 11 → KeepPointers k h after (put_register h r c)
 read_keeps k after h r c becomes small ks hs = subst (λ (x : Kinds). KeepPointers k h x (put_register h r c)) (sym becomes) (keep_points k (with_register k r (Num Unknown)) h r c (written_sheds k r (Num Unknown) small ks) small hs)
 
-pub nothing_keeps : (k after : Kinds) (h : Held) → after ≡ k → KeepPointers k h after h
+pub nothing_keeps : (k after : Kinds) (h : RegisterCells) → after ≡ k → KeepPointers k h after h
 nothing_keeps k after h becomes = subst (λ (x : Kinds). KeepPointers k h x h) (sym becomes) (λ y held. held)
 
 -- one through the pointer to an entry in a register
-pub access_points : (decls : List MapDecl) (i : Insn) (here : Here) (k after : Kinds) (h next : Held) (old new : List CellView) (ps : List PointerView) (sites sites2 : List SiteView) (q o r : ℕ) (a : Act) (p : PointerView) (operands : List ℕ)
+pub access_points : (decls : List MapDecl) (i : Insn) (here : Here) (k after : Kinds) (h next : RegisterCells) (old new : List CellView) (ps : List PointerView) (sites sites2 : List SiteView) (q o r : ℕ) (a : Act) (p : PointerView) (operands : List ℕ)
     → r ≤ 10 → register k r ≡ Entry q o → p ≡ pointer_at ps (slice_index h.registers r) → IsThrough a (operands ++ p.found ∷ []) p.found → KeepPointers k h after next → sites2 ≡ sites ++ access_site here q a p operands ∷ []
     → OperationReads decls (map_used k i i.op) here.pending old new (length sites) (access_site here q a p operands) → OperationPoints decls i here.pending k h after next old new ps ps sites sites2
 access_points decls i here k after h next old new ps sites sites2 q o r a p operands small base p_is through kept sites_are reads = record {
@@ -134,7 +134,7 @@ other_map q (Entry p o) c y = by (p == q) refl
     by false e at = λ is. eqb-false p q e (ap (λ (z : Pointing). z.map) (some_inj _ y at) ∙ is)
 other_map q a c y = λ at. absurd (cc)
 
-pub change_points : (decls : List MapDecl) (i : Insn) (here : Here) (is_ref : Bool) (k after : Kinds) (h : Held) (old mid new : List CellView) (ps : List PointerView) (sites sites2 : List SiteView) (q map c : ℕ) (a : Act) (key looked operands : List ℕ)
+pub change_points : (decls : List MapDecl) (i : Insn) (here : Here) (is_ref : Bool) (k after : Kinds) (h : RegisterCells) (old mid new : List CellView) (ps : List PointerView) (sites sites2 : List SiteView) (q map c : ℕ) (a : Act) (key looked operands : List ℕ)
     → changes_keys a ≡ true → after ≡ changed here.node is_ref false k (calls.change_of decls q) → map ≡ q → length h.registers ≡ 11 → map_used k i i.op ≡ Some q → Grows old mid → Changes mid new sites sites2 here map a key looked operands c
     → looked ≡ take 1 (drop (pointer_operand a) operands) → OperationPoints decls i here.pending k h after (put_register h 0 c) old new ps ps sites sites2
 change_points decls i here is_ref k after h old mid new ps sites sites2 q map c a key looked operands changes becomes map_is whole used grows change looked_is = record {
@@ -157,7 +157,7 @@ change_points decls i here is_ref k after h old mid new ps sites sites2 q map c 
     by b e points = absurd (cc)
 
 -- ---- lookups
-pub lookup_points : (decls : List MapDecl) (i : Insn) (here : Here) (k after : Kinds) (h : Held) (old mid new : List CellView) (ps qs : List PointerView) (sites sites2 : List SiteView) (q map c : ℕ) (key : List ℕ)
+pub lookup_points : (decls : List MapDecl) (i : Insn) (here : Here) (k after : Kinds) (h : RegisterCells) (old mid new : List CellView) (ps qs : List PointerView) (sites sites2 : List SiteView) (q map c : ℕ) (key : List ℕ)
     → after ≡ answering (Maybe q here.node) k → map ≡ q → length h.registers ≡ 11 → map_used k i i.op ≡ Some q → Grows old mid → LooksUp mid new ps qs sites sites2 here map key c
     → OperationPoints decls i here.pending k h after (put_register h 0 c) old new ps qs sites sites2
 lookup_points decls i here k after h old mid new ps qs sites sites2 q map c key becomes map_is whole used grows looks = record {

@@ -1,8 +1,8 @@
 -- Words of the bytes to which a pointer leads.
 use Rattle.std.proofs.Common.{◌≡◌, ℕ, ◌+◌, ◌-◌, ◌/◌, ◌<◌, ◌≤◌, ℤ, pos, negsuc, ◌+ℤ◌, nat_le, if◌then◌else◌, Bool, true, false, Some, None, Ok, Err, List, [], ◌∷◌, length, drop, get_or, slice_index, slice_range, map as map_list, refl, sym, ◌∙◌, ap, subst, arith}
 use Rattle.std.specs.Prelude.{All}
-use Rattle.std.proofs.lemmas.List.{get_or_default, get_or-take, get_or-drop, get_or-map, length-map, length-take, length-drop, ext_get_or}
-use Rattle.std.proofs.lemmas.List.Elements.{All-take, All-drop, All-cons}
+use Rattle.std.proofs.lemmas.List.{get_or-take, get_or-drop, get_or-map, length-map, length-take, length-drop, ext_get_or}
+use Rattle.std.proofs.lemmas.List.Elements.{All-cons}
 use Rattle.std.proofs.lemmas.Bool.Decides.{nat_tests}
 use Rattle.cell_core.specs.xdp_maps.declared.decl.MapDecl.{MapDecl}
 use Rattle.cell_core.specs.xdp_machine.Memory.{inside}
@@ -14,7 +14,7 @@ use Rattle.kind_core.specs.declared.number.Number.{Number}
 use Rattle.kind_core.specs.declared.kind.Kind.{Kind}
 use Rattle.kind_core.specs.declared.kind.Kind.TheVariants.{Unset, Num, Packet, Stack}
 use Rattle.kind_core.specs.declared.kind.Kinds.{Kinds}
-use Rattle.kind_core.specs.declared.why.Why.TheVariants as why
+use Rattle.xdp_state.specs.declared.refusal.Why.TheVariants as why
 use Rattle.kind_core.specs.Tests as tests
 use Rattle.kind_core.specs.Tests.{passed, within, all_numbers, one_number}
 use Rattle.kind_core.specs.Calls.{region}
@@ -22,17 +22,12 @@ use Rattle.kind_core.proofs.TestLaws.{bind_passed}
 use Rattle.cell_core.specs.Cells.{CellView}
 use Rattle.cell_core.specs.Sites.{bytes_of}
 use Rattle.operator_cells.proofs.MakingLaws.{grown}
-use Rattle.operator_cells.specs.declared.held_cells.held.Held.{Held}
-use Rattle.operator_cells.specs.HeldCells.Held.{PointerView}
+use Rattle.operator_cells.specs.declared.held_cells.machine_cells.RegisterCells.{RegisterCells}
+use Rattle.operator_cells.specs.HeldCells.RegisterCells.{PointerView}
 use Rattle.site_cells.specs.Words.{JoinsWords, HoldsBytes, HoldsRegion, AreNumbers}
 use Rattle.site_cells.proofs.Slots.{bound}
 
 -- ---- the packet
-
-pub window_there : (n : ℕ) (window : List ℕ) (a b : ℕ) → length window ≡ 256 → ((i : ℕ) → i < 256 → slice_index window i < n) → All (λ c. c < n) (slice_range window a b)
-window_there n window a b whole there =
-    All-take (λ c. c < n) (b - a) (drop a window) (All-drop (λ c. c < n) a window
-    (λ i d l. subst (λ (c : ℕ). c < n) (sym (get_or_default window i d 0 l)) (there i (omega (arith, l, whole)))))
 
 pub part_at : (xs : List ℕ) (a n j : ℕ) → j < n → get_or (slice_range xs a (a + n)) j 0 ≡ get_or xs (a + j) 0
 part_at xs a n j h = let e : a + n - a ≡ n = omega arith in get_or-take (a + n - a) (drop a xs) j 0 (omega (arith, e, h)) ∙ get_or-drop a xs j 0
@@ -60,7 +55,7 @@ inside_at a n len b e = by (nat_le (a + n) len) e
     by true f = some_inj a b f
     by false f = absurd (cc)
 
-pub packet_region : (decls : List MapDecl) (ps : List PointerView) (node : ℕ) (k : Kinds) (h : Held) (old new : List CellView) (at count : ℕ) (part words : List ℕ) → length h.window ≡ 256 → at + count ≤ 256
+pub packet_region : (decls : List MapDecl) (ps : List PointerView) (node : ℕ) (k : Kinds) (h : RegisterCells) (old new : List CellView) (at count : ℕ) (part words : List ℕ) → length h.window ≡ 256 → at + count ≤ 256
     → part ≡ slice_range h.window at (at + count) → JoinsWords old new part words → HoldsRegion decls ps node k h old new (Packet at) count words
 packet_region decls ps node k h old new at count part words whole fits named joins =
     let long : length part ≡ count = omega (arith, ap length named, part_long h.window at (at + count) (omega (arith, fits, whole))) in
@@ -133,7 +128,7 @@ stack_fits k o count is e =
         test true p q = absurd (cc)
         test false p q = absurd (cc)
 
-pub stack_region : (decls : List MapDecl) (ps : List PointerView) (node : ℕ) (k : Kinds) (h : Held) (old mid new : List CellView) (o : ℤ) (at count : ℕ) (part words : List ℕ) → inside (o +ℤ pos 512) count 512 ≡ Some at
+pub stack_region : (decls : List MapDecl) (ps : List PointerView) (node : ℕ) (k : Kinds) (h : RegisterCells) (old mid new : List CellView) (o : ℤ) (at count : ℕ) (part words : List ℕ) → inside (o +ℤ pos 512) count 512 ≡ Some at
     → AreNumbers k at count → HoldsBytes decls ps node k h old mid at count part → JoinsWords mid new part words → HoldsRegion decls ps node k h old new (Stack o) count words
 stack_region decls ps node k h old mid new o at count part words at_is numbers bytes joins = record {
   grows = grown bytes.grows joins.grows;
@@ -146,10 +141,3 @@ stack_region decls ps node k h old mid new o at count part words at_is numbers b
       let same = bytes.value packet v m xs numbers (joins.grows.run packet v run) known found in
       ap (λ (n : ℕ). bytes_of n (map_list v words)) (sym bytes.long) ∙ joins.value packet v run (small_of v part xs same (IsBytes-stack_bytes m.stack at count xs found).bytes_fit) ∙ same;
 }
-
--- ---- nothing else is read
-
-pub no_region : (k : Kinds) (count : ℕ) (base : Kind) → ((at : ℕ) → base ≡ Packet at → ⊥) → ((o : ℤ) → base ≡ Stack o → ⊥) → region k count base ≡ passed → ⊥
-no_region k count (Packet at) p s e = p at refl
-no_region k count (Stack o) p s e = s o refl
-no_region k count x p s e = absurd (cc)

@@ -10,7 +10,7 @@ use Rattle.kind_core.specs.declared.kind.Kinds.{Kinds}
 use Rattle.kind_core.specs.Kinds.{register, with_register, answering, is_hash}
 use Rattle.kind_core.specs.Calls as calls
 use Rattle.kind_core.specs.Edges.{changed}
-use Rattle.operator_cells.specs.declared.held_cells.held.Held.{Held}
+use Rattle.operator_cells.specs.declared.held_cells.machine_cells.RegisterCells.{RegisterCells}
 use Rattle.operator_cells.specs.HeldCells.Rows.{kind_at, number_at}
 use Rattle.operator_cells.proofs.HeldCells.RowLaws.{put_register}
 use Rattle.site_cells.proofs.Stale.{stale, stale_all, stale_at, becomes}
@@ -47,15 +47,8 @@ module _ (k after : Kinds) (r : ℕ) (x : Kind) (sheds : Sheds k after r x) wher
       by false e true f = rw (e, f) (sheds.slots (place - 11) (omega (arith, ltb-false place 11 e, ltb-true place 75 f)))
       by false e false f = rw (e, f) (inl refl)
 
-pub number_put : (h : Held) (r c : ℕ) → r ≤ 10 → length h.registers ≡ 11 → number_at (put_register h r c) r ≡ c
+pub number_put : (h : RegisterCells) (r c : ℕ) → r ≤ 10 → length h.registers ≡ 11 → number_at (put_register h r c) r ≡ c
 number_put h r c l whole = rw (lt-ltb r 11 (omega (arith, l))) (get_or-set_same h.registers r c 0 (omega (arith, l, whole)))
-
-pub number_kept : (h : Held) (r c place : ℕ) → place ≢ r → number_at (put_register h r c) place ≡ number_at h place
-number_kept h r c place other = by (nat_lt place 11) refl
-  where
-    by : (b : Bool) → nat_lt place 11 ≡ b → number_at (put_register h r c) place ≡ number_at h place
-    by true e = rw (e, get_or-set_other h.registers r place c 0 other) refl
-    by false e = rw e refl
 
 -- ---- a register alone
 pub written_sheds : (k : Kinds) (r : ℕ) (x : Kind) → r ≤ 10 → length k.registers ≡ 11 → Sheds k (with_register k r x) r x

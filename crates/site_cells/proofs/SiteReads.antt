@@ -14,7 +14,7 @@ use Rattle.cell_core.specs.Acts.{finds_key, reads, asks, says_done, pointer_oper
 use Rattle.cell_core.specs.Cells.{CellView, cell_at, site_in}
 use Rattle.cell_core.specs.Sites.{SiteView}
 use Rattle.operator_cells.specs.Making.{Grows, GrowsWith}
-use Rattle.operator_cells.specs.HeldCells.Held.{PointerView}
+use Rattle.operator_cells.specs.HeldCells.RegisterCells.{PointerView}
 use Rattle.operator_cells.specs.HeldCells.Pointing.{changes_keys}
 use Rattle.operator_cells.specs.HeldCells.Aligned.{IsAligned}
 use Rattle.operator_cells.specs.HeldCells.Reading.{answer_bits, OperationReads}

@@ -20,8 +20,8 @@ use Rattle.kind_core.specs.Describes.{Describes}
 use Rattle.cell_core.specs.Cells.{CellView, bits_from}
 use Rattle.operator_cells.specs.Making.{Makes}
 use Rattle.operator_cells.proofs.MakingLaws.{grown, grown_none}
-use Rattle.operator_cells.specs.declared.held_cells.held.Held.{Held}
-use Rattle.operator_cells.specs.HeldCells.Held.{PointerView, Holds, Counts, number_of}
+use Rattle.operator_cells.specs.declared.held_cells.machine_cells.RegisterCells.{RegisterCells}
+use Rattle.operator_cells.specs.HeldCells.RegisterCells.{PointerView, Holds, Counts, number_of}
 use Rattle.operator_cells.specs.HeldCells.Carrying.{IsKnown}
 use Rattle.site_cells.specs.Words.{HasNumber, HoldsByte, HoldsBytes}
 
@@ -56,7 +56,7 @@ pub bound : {A B : Type 0} (o : Option A) (f : A → Option B) (b : B) → (o >>
 bound (Some a) f b e = (a, refl, e)
 bound None f b e = cc
 
-pub slot_number : (decls : List MapDecl) (packet : PacketIn) (v : ℕ → ℕ) (ps : List PointerView) (node : ℕ) (k : Kinds) (h : Held) (m : Machine) (s : ℕ) (x : Number) → IsKnown decls packet v ps node k h m → s < 64
+pub slot_number : (decls : List MapDecl) (packet : PacketIn) (v : ℕ → ℕ) (ps : List PointerView) (node : ℕ) (k : Kinds) (h : RegisterCells) (m : Machine) (s : ℕ) (x : Number) → IsKnown decls packet v ps node k h m → s < 64
     → get_or k.slots s Unset ≡ Num x → get_or m.stack s is.Unset ≡ is.Number (number_of v x (slice_index h.slots s))
 slot_number decls packet v ps node k h m s (Known n) known l e = subst (λ (y : Kind). Describes known.world m.maps y (get_or m.stack s is.Unset)) e (known.stands.described.slots s)
 slot_number decls packet v ps node k h m s Unknown known l e = subst (λ (y : Kind). Holds decls v ps y (slice_index h.slots s) (get_or m.stack s is.Unset)) e (known.held.slots s l)
@@ -80,7 +80,7 @@ stack_last stack a (suc n) xs e =
       sym (some_inj (b.0 ∷ r.0) xs r.2) ∙ ap (λ (bs : List ℕ). b.0 ∷ bs) l.4,
     )
 
-pub bytes_none : (decls : List MapDecl) (ps : List PointerView) (node : ℕ) (k : Kinds) (h : Held) (cells : List CellView) (at : ℕ) → HoldsBytes decls ps node k h cells cells at 0 []
+pub bytes_none : (decls : List MapDecl) (ps : List PointerView) (node : ℕ) (k : Kinds) (h : RegisterCells) (cells : List CellView) (at : ℕ) → HoldsBytes decls ps node k h cells cells at 0 []
 bytes_none decls ps node k h cells at = record {
   grows = grown_none;
   there = λ j d l. absurd (omega (arith, l));
@@ -88,7 +88,7 @@ bytes_none decls ps node k h cells at = record {
   value = λ packet v m xs numbers run known e. some_inj [] xs e;
 }
 
-pub bytes_more : (decls : List MapDecl) (ps : List PointerView) (node : ℕ) (k : Kinds) (h : Held) (old mid new : List CellView) (at count i c : ℕ) (bytes more : List ℕ) → at + count ≤ 512 → i < count → HoldsBytes decls ps node k h old mid at i bytes
+pub bytes_more : (decls : List MapDecl) (ps : List PointerView) (node : ℕ) (k : Kinds) (h : RegisterCells) (old mid new : List CellView) (at count i c : ℕ) (bytes more : List ℕ) → at + count ≤ 512 → i < count → HoldsBytes decls ps node k h old mid at i bytes
     → HoldsByte mid new (get_or k.slots ((at + i) / 8) Unset) (slice_index h.slots ((at + i) / 8)) ((at + i) % 8) c → more ≡ bytes ++ c ∷ []
     → HoldsBytes decls ps node k h old new at (i + 1) more
 bytes_more decls ps node k h old mid new at count i c bytes more within range before one is = record {
@@ -117,7 +117,7 @@ counts_number decls n m ps (Num Unknown) c l h = omega (arith, l, h)
 counts_number decls n m ps (Num (Known a)) c l h = tt
 counts_number decls n m ps x c l h = tt
 
-pub register_number : (decls : List MapDecl) (packet : PacketIn) (v : ℕ → ℕ) (ps : List PointerView) (node : ℕ) (k : Kinds) (h : Held) (m : Machine) (r : ℕ) (x : Number) → IsKnown decls packet v ps node k h m → r ≤ 10
+pub register_number : (decls : List MapDecl) (packet : PacketIn) (v : ℕ → ℕ) (ps : List PointerView) (node : ℕ) (k : Kinds) (h : RegisterCells) (m : Machine) (r : ℕ) (x : Number) → IsKnown decls packet v ps node k h m → r ≤ 10
     → get_or k.registers r Unset ≡ Num x → get_or m.registers r is.Unset ≡ is.Number (number_of v x (slice_index h.registers r))
 register_number decls packet v ps node k h m r (Known n) known l e = subst (λ (y : Kind). Describes known.world m.maps y (get_or m.registers r is.Unset)) e (known.stands.described.registers r)
 register_number decls packet v ps node k h m r Unknown known l e = subst (λ (y : Kind). Holds decls v ps y (slice_index h.registers r) (get_or m.registers r is.Unset)) e (known.held.registers r l)

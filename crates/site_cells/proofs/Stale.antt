@@ -11,8 +11,8 @@ use Rattle.kind_core.specs.declared.kind.Kinds.{Kinds}
 use Rattle.kind_core.specs.Kinds.{answering, is_hash}
 use Rattle.kind_core.specs.Calls as calls
 use Rattle.kind_core.specs.Edges.{changed}
-use Rattle.operator_cells.specs.declared.held_cells.held.Held.{Held}
-use Rattle.operator_cells.specs.HeldCells.Held.{PointerView, Holds, Counts, AreHeld, AreInside}
+use Rattle.operator_cells.specs.declared.held_cells.machine_cells.RegisterCells.{RegisterCells}
+use Rattle.operator_cells.specs.HeldCells.RegisterCells.{PointerView, Holds, Counts, AreHeld, AreInside}
 
 abbrev pub stale : ℕ → Kind → Kind
 stale q (Maybe p n) = if p == q then Stale else Maybe p n
@@ -93,7 +93,7 @@ holds_stale decls v ps q (Entry p o) c y h = by (p == q)
     by false = h
 holds_stale decls v ps q x c y h = h
 
-pub changed_inside : (decls : List MapDecl) (n : ℕ) (ps : List PointerView) (h : Held) (q node : ℕ) (is_ref taken : Bool) (k : Kinds) → AreInside decls n ps h (answering (Num Unknown) k)
+pub changed_inside : (decls : List MapDecl) (n : ℕ) (ps : List PointerView) (h : RegisterCells) (q node : ℕ) (is_ref taken : Bool) (k : Kinds) → AreInside decls n ps h (answering (Num Unknown) k)
     → AreInside decls n ps h (changed node is_ref taken k (calls.change_of decls q))
 changed_inside decls n ps h q node is_ref taken k i = rw (becomes decls q node is_ref taken k) (by (is_hash decls q))
   where
@@ -109,7 +109,7 @@ changed_inside decls n ps h q node is_ref taken k i = rw (becomes decls q node i
     }
     by false = i
 
-pub changed_held : (decls : List MapDecl) (packet : PacketIn) (v : ℕ → ℕ) (ps : List PointerView) (h : Held) (q node : ℕ) (is_ref taken : Bool) (k : Kinds) (m : Machine) → AreHeld decls packet v ps h (answering (Num Unknown) k) m
+pub changed_held : (decls : List MapDecl) (packet : PacketIn) (v : ℕ → ℕ) (ps : List PointerView) (h : RegisterCells) (q node : ℕ) (is_ref taken : Bool) (k : Kinds) (m : Machine) → AreHeld decls packet v ps h (answering (Num Unknown) k) m
     → AreHeld decls packet v ps h (changed node is_ref taken k (calls.change_of decls q)) m
 changed_held decls packet v ps h q node is_ref taken k m i = rw (becomes decls q node is_ref taken k) (by (is_hash decls q))
   where

@@ -38,8 +38,9 @@ use Rattle.operator_cells.specs.Making.{Makes}
 use Rattle.operator_cells.proofs.MakingLaws.{grown_none, reads_none}
 use Rattle.site_cells.proofs.Allowed.{store_allowed}
 use Rattle.cell_core.specs.Sites.{SiteView, after, records, operation_on, bytes_of}
-use Rattle.operator_cells.specs.declared.held_cells.held.Held.{Held}
-use Rattle.operator_cells.specs.HeldCells.Held.{PointerView, AreInside, pointer_at, key_of, number_of}
+use Rattle.cell_core.proofs.BitLaws.{small_bits}
+use Rattle.operator_cells.specs.declared.held_cells.machine_cells.RegisterCells.{RegisterCells}
+use Rattle.operator_cells.specs.HeldCells.RegisterCells.{PointerView, AreInside, pointer_at, key_of, number_of}
 use Rattle.operator_cells.specs.HeldCells.Carrying.{IsKnown}
 use Rattle.operator_cells.specs.HeldCells.Operating.{Operates}
 use Rattle.site_cells.specs.declared.here.Here.{Here}
@@ -49,7 +50,7 @@ use Rattle.site_cells.proofs.Adding.{after_one}
 use Rattle.site_cells.proofs.OneSite.{adds_site, fits_map}
 use Rattle.site_cells.proofs.Answered.{inside_among}
 use Rattle.site_cells.proofs.Calling.{decl_is}
-use Rattle.site_cells.proofs.Entries.{bits_whole, entry_held, entry_pointer, IsInPlace, place_fits, Placed, placed_operation}
+use Rattle.site_cells.proofs.Entries.{entry_held, entry_pointer, IsInPlace, place_fits, Placed, placed_operation}
 use Rattle.site_cells.proofs.Loads.{key_is_site}
 
 -- A store of a number that is known, or that a cell holds: its site has a cell of it as the first operand.
@@ -58,7 +59,7 @@ pub record Stores (old new : List CellView) (sites sites2 : List SiteView) (here
   pub makes : Makes old new source (λ packet v. number_of v number held)
   pub sites_are : sites2 ≡ sites ++ access_site here map a pointer (source ∷ []) ∷ []
 
--- the maps behind a site that writes
+-- the maps after a site that writes
 pub written : (v : ℕ → ℕ) (maps now : MapState) (sites sites2 : List SiteView) (s : SiteView) (op : Operation) → sites2 ≡ sites ++ s ∷ [] → after v maps sites ≡ now → records s.act ≡ true → on (v s.guard) ≡ true
     → operation_on v now s ≡ op → after v maps sites2 ≡ operated now s.map op
 written v maps now sites sites2 s op is before writes guard does =
@@ -81,7 +82,7 @@ entry_stored m n q o number key offset size e =
     by a true f = sym (some_inj _ _ f)
     by a false f = absurd (cc)
 
-pub store_operates : (decls : List MapDecl) (i : Insn) (here : Here) (is_ref taken : Bool) (k : Kinds) (h : Held) (old new : List CellView) (ps : List PointerView) (sites sites2 : List SiteView) (size : Size) (q o a : ℕ) (x : Number) (held : ℕ) (given : Machine → Value)
+pub store_operates : (decls : List MapDecl) (i : Insn) (here : Here) (is_ref taken : Bool) (k : Kinds) (h : RegisterCells) (old new : List CellView) (ps : List PointerView) (sites sites2 : List SiteView) (size : Size) (q o a : ℕ) (x : Number) (held : ℕ) (given : Machine → Value)
     → ((refs : List ℕ) (m : Machine) → effect refs m i i.op ≡ machine.stored m (register m.registers i.dst) i.offset size (given m))
     → ((m : Machine) → touched.operation_as m i i.op ≡ touched.stores m (register m.registers i.dst) i.offset size (given m))
     → ((packet : PacketIn) (v : ℕ → ℕ) (m : Machine) → IsKnown decls packet v ps here.node k h m → given m ≡ is.Number (number_of v x held))
@@ -146,7 +147,7 @@ store_operates decls i here is_ref taken k h old new ps sites sites2 size q o a 
     }
 
 -- the given number is in a register, or stands in the instruction
-pub store_made : (decls : List MapDecl) (i : Insn) (here : Here) (is_ref taken : Bool) (k : Kinds) (h : Held) (old new : List CellView) (ps : List PointerView) (sites sites2 : List SiteView) (size : Size) (q o a source : ℕ) (p : PointerView) (z : ℤ)
+pub store_made : (decls : List MapDecl) (i : Insn) (here : Here) (is_ref taken : Bool) (k : Kinds) (h : RegisterCells) (old new : List CellView) (ps : List PointerView) (sites sites2 : List SiteView) (size : Size) (q o a source : ℕ) (p : PointerView) (z : ℤ)
     → i.op ≡ Store size → i.src ≤ 10 → i.dst ≤ 10 → kinds.register k i.dst ≡ Entry q o → here.guard < length old → verdict (effect_of decls k i) ≡ passed → AreInside decls (length old) ps h k
     → z ≡ i.offset → ((b : ℕ) → aligned (pos o +ℤ z) (bytes_in size) (value_bytes decls q) ≡ Some b → a ≡ b) → p ≡ pointer_at ps (slice_index h.registers i.dst)
     → ((n : Number) → kinds.register k i.src ≡ Num n → Makes old new source (λ packet v. number_of v n (slice_index h.registers i.src)))
@@ -159,7 +160,7 @@ store_made decls i here is_ref taken k h old new ps sites sites2 size q o a sour
     (λ b e. at b (ap (λ (y : ℤ). aligned (pos o +ℤ y) (bytes_in size) (value_bytes decls q)) offset ∙ e))
     (record { source = source; makes = makes f.0 f.1; sites_are = sites_are ∙ ap (λ (x : PointerView). sites ++ access_site here q (act.Store a size) x (source ∷ []) ∷ []) p_is })
 
-pub imm_made : (decls : List MapDecl) (i : Insn) (here : Here) (is_ref taken : Bool) (k : Kinds) (h : Held) (old new : List CellView) (ps : List PointerView) (sites sites2 : List SiteView) (size : Size) (q o a source number : ℕ) (p : PointerView) (z : ℤ)
+pub imm_made : (decls : List MapDecl) (i : Insn) (here : Here) (is_ref taken : Bool) (k : Kinds) (h : RegisterCells) (old new : List CellView) (ps : List PointerView) (sites sites2 : List SiteView) (size : Size) (q o a source number : ℕ) (p : PointerView) (z : ℤ)
     → i.op ≡ StoreImm size → i.dst ≤ 10 → kinds.register k i.dst ≡ Entry q o → here.guard < length old → verdict (effect_of decls k i) ≡ passed → AreInside decls (length old) ps h k
     → z ≡ i.offset → ((b : ℕ) → aligned (pos o +ℤ z) (bytes_in size) (value_bytes decls q) ≡ Some b → a ≡ b) → p ≡ pointer_at ps (slice_index h.registers i.dst)
     → number ≡ cast_unsigned w64 i.imm → cast_unsigned w64 i.imm < 2 ^ 64 → Makes old new source (λ packet v. bits_from number 0 64)
@@ -172,6 +173,6 @@ imm_made decls i here is_ref taken k h old new ps sites sites2 size q o a source
     (λ b e. at b (ap (λ (y : ℤ). aligned (pos o +ℤ y) (bytes_in size) (value_bytes decls q)) offset ∙ e))
     (record {
       source = source;
-      makes = record { grows = makes.grows; there = makes.there; value = λ packet v run. makes.value packet v run ∙ ap (λ (j : ℕ). bits_from j 0 64) number_is ∙ bits_whole (cast_unsigned w64 i.imm) 64 fits };
+      makes = record { grows = makes.grows; there = makes.there; value = λ packet v run. makes.value packet v run ∙ ap (λ (j : ℕ). bits_from j 0 64) number_is ∙ small_bits (cast_unsigned w64 i.imm) 64 fits };
       sites_are = sites_are ∙ ap (λ (x : PointerView). sites ++ access_site here q (act.Store a size) x (source ∷ []) ∷ []) p_is;
     })

@@ -13,8 +13,8 @@ use Rattle.operator_cells.proofs.RisingLaws.{greatest_part, stand_none, stand_al
 use Rattle.operator_cells.specs.row_rules.PlaceRows.Spans.{slots_of, bytes_of, span_row}
 use Rattle.operator_cells.specs.row_rules.PlaceRows.Spans as places
 use Rattle.operator_cells.proofs.row_rules_laws.PlaceRows.SpanLaws.{is_inside, span_above}
-use Rattle.operator_cells.specs.declared.held_cells.held.Held.{Held}
-use Rattle.operator_cells.specs.HeldCells.Held.{PointerView}
+use Rattle.operator_cells.specs.declared.held_cells.machine_cells.RegisterCells.{RegisterCells}
+use Rattle.operator_cells.specs.HeldCells.RegisterCells.{PointerView}
 use Rattle.operator_cells.specs.HeldCells.Rows.{number_row, value_row, held_row}
 use Rattle.site_cells.proofs.Regions.{part_at, part_long}
 use Rattle.operator_cells.proofs.HeldCells.RowLaws.{slot_row, byte_row, rise_last}
@@ -34,7 +34,7 @@ pub number_value : (row : ℕ → ℕ) (ps : List PointerView) (k : Kind) (x : N
 number_value row ps k x c e = rw e (omega arith)
 
 -- ---- bytes of the stack
-pub slot_within : (row : ℕ → ℕ) (ps : List PointerView) (h : Held) (k : Kinds) (at count i : ℕ) → at + count ≤ 512 → i < count
+pub slot_within : (row : ℕ → ℕ) (ps : List PointerView) (h : RegisterCells) (k : Kinds) (at count i : ℕ) → at + count ≤ 512 → i < count
     → value_row row ps (get_or k.slots ((at + i) / 8) Unset) (slice_index h.slots ((at + i) / 8)) ≤ span_row (held_row row ps h k) (slots_of at count)
 slot_within row ps h k at count i within l =
     let s : ℕ = (at + i) / 8 in
@@ -42,7 +42,7 @@ slot_within row ps h k at count i within l =
     (span_above (held_row row ps h k) (slots_of at count) (11 + s) (is_inside (11 + s) (slots_of at count) (omega (arith, l)) (omega (arith, l))))
 
 -- ---- bytes of the packet
-pub window_within : (row : ℕ → ℕ) (ps : List PointerView) (h : Held) (k : Kinds) (at count : ℕ) → length h.window ≡ 256 → at + count ≤ 256
+pub window_within : (row : ℕ → ℕ) (ps : List PointerView) (h : RegisterCells) (k : Kinds) (at count : ℕ) → length h.window ≡ 256 → at + count ≤ 256
     → greatest row (slice_range h.window at (at + count)) ≤ span_row (held_row row ps h k) (places.region (Packet at) (pos 0) count)
 window_within row ps h k at count whole within =
     let range : List ℕ = slice_range h.window at (at + count) in

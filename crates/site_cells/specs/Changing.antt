@@ -19,8 +19,8 @@ use Rattle.kind_core.specs.Access.{compares}
 use Rattle.cell_core.specs.declared.site.Atomic.{Atomic}
 use Rattle.cell_core.specs.Cells.{CellView, IsRun}
 use Rattle.operator_cells.specs.Making.{Grows}
-use Rattle.operator_cells.specs.declared.held_cells.held.Held.{Held}
-use Rattle.operator_cells.specs.HeldCells.Held.{PointerView}
+use Rattle.operator_cells.specs.declared.held_cells.machine_cells.RegisterCells.{RegisterCells}
+use Rattle.operator_cells.specs.HeldCells.RegisterCells.{PointerView}
 use Rattle.operator_cells.specs.HeldCells.Carrying.{IsKnown}
 
 abbrev pub code_of : Insn → ℕ
@@ -45,7 +45,7 @@ abbrev pub taken_by : Insn → Option ℕ
 taken_by i = if compares i then Some 0 else (if fetches (code_of i) then Some i.src else None)
 
 -- More cells, and among them those of the source and of what is compared, which is 0 where nothing is.
-pub record HoldsOperands (k : Kinds) (h : Held) (i : Insn) (old new : List CellView) (a b : ℕ) : Type 0 where
+pub record HoldsOperands (k : Kinds) (h : RegisterCells) (i : Insn) (old new : List CellView) (a b : ℕ) : Type 0 where
   pub grows : Grows old new
   pub source_there : a < length new
   pub compared_there : b < length new

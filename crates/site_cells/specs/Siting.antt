@@ -9,14 +9,14 @@ use Rattle.cell_core.specs.Sites.{SiteView}
 use Rattle.cell_core.specs.Rows.{greatest}
 use Rattle.operator_cells.specs.Making.{GrowsWith}
 use Rattle.operator_cells.specs.Rising.{Rises}
-use Rattle.operator_cells.specs.HeldCells.Held.{PointerView}
+use Rattle.operator_cells.specs.HeldCells.RegisterCells.{PointerView}
 use Rattle.site_cells.specs.declared.here.Here.{Here}
 
 -- a cell reads the next site
 abbrev pub ReadsNext : List SiteView → ℕ → ℕ → Type 0
 ReadsNext sites c j = j ≡ length sites
 
--- Cell c reads a site, behind these cells: what it looks at, and the writes of its map that come before.
+-- Cell c reads a site, after these cells: what it looks at, and the writes of its map that come before.
 pub record IsReadOf (cells : List CellView) (c : ℕ) (op : Operator) (ins : List ℕ) (width : ℕ) : Type 0 where
   pub there : c < length cells
   pub is : cell_at cells c ≡ record { op = op; ins = ins; width = width; from = 0 }

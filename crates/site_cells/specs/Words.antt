@@ -13,8 +13,8 @@ use Rattle.kind_core.specs.Describes.{Describes}
 use Rattle.cell_core.specs.Cells.{CellView, IsRun}
 use Rattle.cell_core.specs.Sites.{bytes_of}
 use Rattle.operator_cells.specs.Making.{Grows}
-use Rattle.operator_cells.specs.declared.held_cells.held.Held.{Held}
-use Rattle.operator_cells.specs.HeldCells.Held.{PointerView, number_of, IsThere}
+use Rattle.operator_cells.specs.declared.held_cells.machine_cells.RegisterCells.{RegisterCells}
+use Rattle.operator_cells.specs.HeldCells.RegisterCells.{PointerView, number_of, IsThere}
 use Rattle.operator_cells.specs.HeldCells.Carrying.{IsKnown}
 
 -- More cells, and words among them that are these bytes.
@@ -40,7 +40,7 @@ abbrev pub AreNumbers : Kinds → ℕ → ℕ → Type 0
 AreNumbers k at count = (i : ℕ) → i < count → (x : Number) × (get_or k.slots ((at + i) / 8) Unset ≡ Num x)
 
 -- More cells, and so many that hold bytes of the stack from a place on, where their slots are known to have numbers.
-pub record HoldsBytes (decls : List MapDecl) (ps : List PointerView) (node : ℕ) (k : Kinds) (h : Held) (old new : List CellView) (at count : ℕ) (bytes : List ℕ) : Type 0 where
+pub record HoldsBytes (decls : List MapDecl) (ps : List PointerView) (node : ℕ) (k : Kinds) (h : RegisterCells) (old new : List CellView) (at count : ℕ) (bytes : List ℕ) : Type 0 where
   pub grows : Grows old new
   pub there : All (λ c. c < length new) bytes
   pub long : length bytes ≡ count
@@ -48,7 +48,7 @@ pub record HoldsBytes (decls : List MapDecl) (ps : List PointerView) (node : ℕ
       → map_list v bytes ≡ xs
 
 -- More cells, and words that hold the bytes to which a pointer of this kind leads.
-pub record HoldsRegion (decls : List MapDecl) (ps : List PointerView) (node : ℕ) (k : Kinds) (h : Held) (old new : List CellView) (base : Kind) (count : ℕ) (words : List ℕ) : Type 0 where
+pub record HoldsRegion (decls : List MapDecl) (ps : List PointerView) (node : ℕ) (k : Kinds) (h : RegisterCells) (old new : List CellView) (base : Kind) (count : ℕ) (words : List ℕ) : Type 0 where
   pub grows : Grows old new
   pub there : All (λ c. c < length new) words
   pub enough : count ≤ 8 * length words

@@ -12,7 +12,7 @@ ghost use Rattle.kind_core.specs.Effects.{effect_of, verdict};
 ghost use Rattle.kind_core.specs.Edges.{transferred};
 ghost use Rattle.cell_core.specs.Formed.{AreFormed};
 ghost use Rattle.operator_cells.specs.Making.{seen};
-ghost use Rattle.operator_cells.specs.HeldCells.Held.{pointed, pointer_of, AreInside};
+ghost use Rattle.operator_cells.specs.HeldCells.RegisterCells.{pointed, pointer_of, AreInside};
 ghost use Rattle.operator_cells.specs.HeldCells.Operating.{Operates};
 ghost use Rattle.operator_cells.specs.HeldCells.Rows.{OperatesTo};
 ghost use Rattle.operator_cells.specs.HeldCells.Pointing.{OperationPoints};
@@ -31,7 +31,7 @@ use cell_core::xdp_state::memory::{aligned, bytes_in};
 use cell_core::xdp_state::xdp_maps::decl::MapDecl;
 use kind_core::{Kind, Kinds};
 use operator_cells::cells::{answer, constant};
-use operator_cells::held_cells::held::{Held, Pointer};
+use operator_cells::held_cells::machine_cells::{Pointer, RegisterCells};
 use operator_cells::slicing::extend;
 use std::alloc::AllocError;
 
@@ -105,7 +105,7 @@ pub fn operate_load(
     cells: &mut Vec<Cell>,
     pointers: &[Pointer],
     sites: &mut Vec<Site>,
-    held: &mut Held,
+    held: &mut RegisterCells,
     kinds: &Kinds,
     insn: &Insn,
     decls: &[MapDecl],
@@ -139,7 +139,7 @@ pub fn operate_load_signed(
     cells: &mut Vec<Cell>,
     pointers: &[Pointer],
     sites: &mut Vec<Site>,
-    held: &mut Held,
+    held: &mut RegisterCells,
     kinds: &Kinds,
     insn: &Insn,
     decls: &[MapDecl],
@@ -174,7 +174,7 @@ pub fn operate_store(
     cells: &mut Vec<Cell>,
     pointers: &[Pointer],
     sites: &mut Vec<Site>,
-    held: &Held,
+    held: &RegisterCells,
     kinds: &Kinds,
     insn: &Insn,
     decls: &[MapDecl],
@@ -207,7 +207,7 @@ pub fn operate_store_imm(
     cells: &mut Vec<Cell>,
     pointers: &[Pointer],
     sites: &mut Vec<Site>,
-    held: &Held,
+    held: &RegisterCells,
     kinds: &Kinds,
     insn: &Insn,
     decls: &[MapDecl],

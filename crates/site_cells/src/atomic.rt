@@ -14,7 +14,7 @@ ghost use Rattle.operator_cells.specs.Making.{seen};
 ghost use Rattle.operator_cells.specs.Rising.{RiseAll};
 ghost use Rattle.operator_cells.specs.row_rules.PlaceRows.Spans.{one, spans_row};
 ghost use Rattle.operator_cells.specs.row_rules.PlaceRows.Reading.{compared_span};
-ghost use Rattle.operator_cells.specs.HeldCells.Held.{PointerView, pointed, AreInside};
+ghost use Rattle.operator_cells.specs.HeldCells.RegisterCells.{PointerView, pointed, AreInside};
 ghost use Rattle.operator_cells.specs.HeldCells.Operating.{Operates};
 ghost use Rattle.operator_cells.specs.HeldCells.Rows.{held_row, OperatesTo};
 ghost use Rattle.operator_cells.specs.HeldCells.Pointing.{OperationPoints};
@@ -34,7 +34,7 @@ use cell_core::xdp_state::xdp_maps::change::ChangeKind;
 use cell_core::xdp_state::xdp_maps::decl::MapDecl;
 use kind_core::{Kind, Kinds};
 use operator_cells::cells::constant;
-use operator_cells::held_cells::held::{Held, Pointer};
+use operator_cells::held_cells::machine_cells::{Pointer, RegisterCells};
 use std::alloc::AllocError;
 
 /// The cells of the source of a change, and of what is compared: of 0 where nothing is.
@@ -107,7 +107,7 @@ fn taken_by(insn: &Insn) -> Option<u8>
 fn operands_of(
     cells: &mut Vec<Cell>,
     kinds: &Kinds,
-    held: &Held,
+    held: &RegisterCells,
     insn: &Insn,
 ) -> Result<Operands, AllocError>
     requires src { insn.now.src ≤ 10 }
@@ -131,7 +131,7 @@ pub fn operate_atomic(
     cells: &mut Vec<Cell>,
     pointers: &[Pointer],
     sites: &mut Vec<Site>,
-    held: &mut Held,
+    held: &mut RegisterCells,
     kinds: &Kinds,
     insn: &Insn,
     decls: &[MapDecl],

@@ -6,7 +6,7 @@ ghost use Rattle.kind_core.specs.Kinds as kind;
 ghost use Rattle.kind_core.specs.Effects.{effect_of, verdict};
 ghost use Rattle.kind_core.specs.Edges.{transferred};
 ghost use Rattle.operator_cells.specs.Making.{seen};
-ghost use Rattle.operator_cells.specs.HeldCells.Held.{PointerView, AreInside};
+ghost use Rattle.operator_cells.specs.HeldCells.RegisterCells.{PointerView, AreInside};
 ghost use Rattle.operator_cells.specs.HeldCells.Operating.{Operates};
 ghost use Rattle.operator_cells.specs.HeldCells.Rows.{OperatesTo};
 ghost use Rattle.operator_cells.specs.HeldCells.Pointing.{OperationPoints};
@@ -25,7 +25,7 @@ use cell_core::xdp_state::bpf_isa::{Insn, Op};
 use cell_core::xdp_state::xdp_maps::decl::MapDecl;
 use kind_core::Kinds;
 use operator_cells::cells::{answer, found};
-use operator_cells::held_cells::held::Held;
+use operator_cells::held_cells::machine_cells::RegisterCells;
 use std::alloc::{AllocError, Global};
 
 // A change under a key. Of the operands its reads look at these: a value only has to be there when it is written.
@@ -65,7 +65,7 @@ fn change(
 pub fn operate_delete(
     cells: &mut Vec<Cell>,
     sites: &mut Vec<Site>,
-    held: &mut Held,
+    held: &mut RegisterCells,
     kinds: &Kinds,
     insn: &Insn,
     decls: &[MapDecl],
@@ -108,7 +108,7 @@ fn update_operands(alloc: Global, flags: u32, value: &[u32]) -> Result<Vec<u32>,
 pub fn operate_update(
     cells: &mut Vec<Cell>,
     sites: &mut Vec<Site>,
-    held: &mut Held,
+    held: &mut RegisterCells,
     kinds: &Kinds,
     insn: &Insn,
     decls: &[MapDecl],

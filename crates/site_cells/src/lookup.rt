@@ -7,7 +7,7 @@ ghost use Rattle.kind_core.specs.Kinds as kind;
 ghost use Rattle.kind_core.specs.Effects.{effect_of, verdict};
 ghost use Rattle.kind_core.specs.Edges.{transferred};
 ghost use Rattle.operator_cells.specs.Making.{seen};
-ghost use Rattle.operator_cells.specs.HeldCells.Held.{PointerView, pointed, AreInside};
+ghost use Rattle.operator_cells.specs.HeldCells.RegisterCells.{PointerView, pointed, AreInside};
 ghost use Rattle.operator_cells.specs.HeldCells.Operating.{Operates};
 ghost use Rattle.operator_cells.specs.HeldCells.Rows.{OperatesTo};
 ghost use Rattle.operator_cells.specs.HeldCells.Pointing.{OperationPoints};
@@ -24,7 +24,7 @@ use cell_core::xdp_state::bpf_isa::{Insn, Op};
 use cell_core::xdp_state::xdp_maps::decl::MapDecl;
 use kind_core::{Kind, Kinds};
 use operator_cells::cells::found;
-use operator_cells::held_cells::held::{Held, Pointer};
+use operator_cells::held_cells::machine_cells::{Pointer, RegisterCells};
 use std::alloc::{AllocError, Global};
 
 // What the reads of a site come after.
@@ -83,7 +83,7 @@ pub fn operate_lookup(
     cells: &mut Vec<Cell>,
     pointers: &mut Vec<Pointer>,
     sites: &mut Vec<Site>,
-    held: &mut Held,
+    held: &mut RegisterCells,
     kinds: &Kinds,
     insn: &Insn,
     decls: &[MapDecl],

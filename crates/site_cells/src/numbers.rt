@@ -5,7 +5,7 @@ ghost use Rattle.kind_core.specs.declared.number.Number.{Number};
 ghost use Rattle.kind_core.specs.declared.kind.Kind.TheVariants as kind_is;
 ghost use Rattle.operator_cells.specs.Making.{seen, Grows, Makes};
 ghost use Rattle.operator_cells.specs.Rising.{Rises};
-ghost use Rattle.operator_cells.specs.HeldCells.Held.{PointerView, number_of};
+ghost use Rattle.operator_cells.specs.HeldCells.RegisterCells.{PointerView, number_of};
 ghost use Rattle.operator_cells.specs.HeldCells.Rows.{value_row};
 ghost use Rattle.site_cells.specs.Words.{HasNumber};
 

@@ -10,7 +10,7 @@ ghost use Rattle.byteorder.specs.Endian.{little_bytes};
 ghost use Rattle.cell_core.specs.Rows.{greatest};
 ghost use Rattle.operator_cells.specs.Making.{seen, Makes};
 ghost use Rattle.operator_cells.specs.Rising.{Rises, RiseAll};
-ghost use Rattle.operator_cells.specs.HeldCells.Held.{PointerView, AreInside, IsThere, number_of};
+ghost use Rattle.operator_cells.specs.HeldCells.RegisterCells.{PointerView, AreInside, IsThere, number_of};
 ghost use Rattle.operator_cells.specs.HeldCells.Rows.{number_row, value_row, held_row};
 ghost use Rattle.operator_cells.specs.row_rules.PlaceRows.Spans.{slots_of, span_row};
 ghost use Rattle.operator_cells.specs.row_rules.PlaceRows.Spans as places;
@@ -20,7 +20,7 @@ use crate::sizes::are_whole;
 use cell_core::cell::{Cell, Cells};
 use cell_core::xdp_state::memory::inside;
 use kind_core::{Kind, Kinds, Number};
-use operator_cells::held_cells::held::Held;
+use operator_cells::held_cells::machine_cells::RegisterCells;
 use operator_cells::sharing::{shared_constant, shared_slice};
 use operator_cells::slicing::join_bytes;
 use std::alloc::AllocError;
@@ -83,7 +83,7 @@ fn slot_byte(cells: &mut Vec<Cell>, kind: Kind, held: u32, at: u32) -> Result<u3
 // Bytes of the stack, from its lowest on.
 fn stack_bytes(
     cells: &mut Vec<Cell>,
-    held: &Held,
+    held: &RegisterCells,
     kinds: &Kinds,
     at: usize,
     count: usize,
@@ -111,7 +111,7 @@ fn stack_bytes(
 // The words of bytes of the packet.
 fn packet_words(
     cells: &mut Vec<Cell>,
-    held: &Held,
+    held: &RegisterCells,
     kinds: &Kinds,
     at: u16,
     count: u32,
@@ -157,7 +157,7 @@ fn stack_start(base: Kind, count: usize) -> Option<usize>
 // The words of bytes of the stack.
 fn stack_words(
     cells: &mut Vec<Cell>,
-    held: &Held,
+    held: &RegisterCells,
     kinds: &Kinds,
     base: Kind,
     count: u32,
@@ -182,7 +182,7 @@ fn stack_words(
 /// The words that hold the bytes to which a pointer of a kind leads.
 pub fn region_words(
     cells: &mut Vec<Cell>,
-    held: &Held,
+    held: &RegisterCells,
     kinds: &Kinds,
     base: Kind,
     count: u32,

@@ -12,7 +12,7 @@ use Rattle.hazard_core.specs.cell_core.Sites.{ProgramView}
 use Rattle.overlay_net.specs.cell_nets.declared.operand.Operand.{Operand}
 use Rattle.overlay_net.specs.cell_nets.Apart.{IsClean}
 use Rattle.overlay_net.specs.cell_nets.Operands.{IsAvailable}
-use Rattle.overlay_net.proofs.cell_nets_laws.ApartLemmas.{all_clean, all_self}
+use Rattle.overlay_net.proofs.cell_nets_laws.ApartLaws.{all_clean, all_self}
 use Rattle.row_plan.specs.Plan.{Plan}
 use Rattle.row_net.specs.Apart.{KeepApart}
 use Rattle.row_net.specs.Lists.{is_early, is_non_zero}
@@ -48,7 +48,7 @@ registers_apart own q cells at ks clean table there = record {
   stands = λ all g k a e s. all_clean (is_marked all) (registers_from q cells at ks) (registers_clean all q cells at ks) (a ∷ []) (All-cons (IsAvailable (registers_from q cells at ks)) a [] (there k a s) (All-nil (IsAvailable (registers_from q cells at ks)))) 0 a (omega arith);
 }
 
--- as the place behind another one
+-- as the place after another one
 pub behind_apart :
     {P : Type 0} (part : P) (p : ProgramView) (plan : Plan) (needed parts points : List Bool) (bits k : ℕ) (t : StageTables (Name P)) → StandBehind part p plan needed parts points bits k t → (own : P) (clean : ℕ → Bool) → KeepApart own clean [] [] t.table.items
 behind_apart part p plan needed parts points bits k t stand own clean =

@@ -11,7 +11,7 @@ use Rattle.hazard_core.specs.Tables.{TableState}
 use Rattle.hazard_core.specs.Tabled.{AreTables}
 use Rattle.hazard_core.specs.declared.pointer.Pointer.{Pointer}
 use Rattle.hazard_core.specs.declared.pointer.Pointer.TheVariants.{Null, InSlot}
-use Rattle.hazard_core.specs.Held.{Held, access_pointer, pending, pointer_operand}
+use Rattle.hazard_core.specs.StageValues.{StageValues, access_pointer, pending, pointer_operand}
 use Rattle.overlay_net.specs.cell_nets.declared.operand.Operand.{Operand}
 use Rattle.overlay_net.specs.cell_nets.Operands.{IsAvailable}
 use Rattle.overlay_net.specs.cell_nets.Wires.{behind}
@@ -31,7 +31,7 @@ use Rattle.stage_net.specs.Rows.{ShowsReads, ShowsFound, AllAreThere, IsSiteRead
 use Rattle.stage_net.proofs.OwnLemmas.{its_nets, is_read_of, have_operands, taken_there, shows_all}
 
 -- ---- a packet that holds nothing has no pointer
-abbrev nothing : Held
+abbrev nothing : StageValues
 nothing = record { values = []; pointers = [] }
 
 null_at : (xs : List ℕ) (k : ℕ) → get_or (map (λ (c : ℕ). Null) xs) k Null ≡ Null
@@ -63,7 +63,7 @@ read_site_of p row r nets s os ss m word j at own number owns seen same map is w
 
 module _ {P : Type 0} (part : P) (p : ProgramView) (row : ℕ → ℕ) (r : ℕ) (nets : StageNets (Name P)) (staged : IsStaged p row (decls_of nets.maps.now) nets.bits) (are : AreNets p nets) (tables : HaveTables (decls_of nets.maps.now)) (old new : List (BlockWireTree (Name P))) (s : OwnSite (Name P)) (ss : List (OwnSite (Name P))) (m : MapNets (Name P)) (slot word : Operand (Name P))
     (read : IsReadSite p row r nets s ss m word) (slots : List (Operand (Name P))) (many : length slots ≡ length p.sites) (slot_is : slot ≡ get_or slots s.site slot) (from width : ℕ) (o : ReadNets (Name P))
-    (gives : (t : TableState) (h : Held) → IsReadOf p t row r m s ss → HaveOperands p ss → HasEntry p t h s → SiteReads part old new m s ss slot word from width p t h row r o) where
+    (gives : (t : TableState) (h : StageValues) → IsReadOf p t row r m s ss → HaveOperands p ss → HasEntry p t h s → SiteReads part old new m s ss slot word from width p t h row r o) where
   abbrev own : IsOwnOf p nets.sites.now s
   own = read.own
 
@@ -79,13 +79,13 @@ module _ {P : Type 0} (part : P) (p : ProgramView) (row : ℕ → ℕ) (r : ℕ)
   abbrev word_is : word ≡ get_or nets.words.now s.site word
   word_is = read.word_is
 
-  given : (t : TableState) (h : Held) → AreTables t → t.decls ≡ decls_of nets.maps.now → HasEntry p t h s → SiteReads part old new m s ss slot word from width p t h row r o
+  given : (t : TableState) (h : StageValues) → AreTables t → t.decls ≡ decls_of nets.maps.now → HasEntry p t h s → SiteReads part old new m s ss slot word from width p t h row r o
   given t h tables decls entry = gives t h (is_read_of p row nets staged are r s own ss owns seen m is t tables decls) (have_operands p row nets staged are r s own ss owns seen m is) entry
 
   base : SiteReads part old new m s ss slot word from width p tables.some nothing row r o
   base = given tables.some nothing tables.tables tables.declared (λ e n f. absurd (no_slot (access_pointer nothing (site_at p.sites s.site)) n (null_at (site_at p.sites s.site).operands (pointer_operand (site_at p.sites s.site).act)) f))
 
-  module _ (v : Env (Name P)) (t : TableState) (h : Held) (x : ShowsReads v p nets t h s.site) where
+  module _ (v : Env (Name P)) (t : TableState) (h : StageValues) (x : ShowsReads v p nets t h s.site) where
     has_entry : HasEntry p t h s
     has_entry e = (x.entry word (ap answers_number own.act ∙ e)).value
 
@@ -95,7 +95,7 @@ module _ {P : Type 0} (part : P) (p : ProgramView) (row : ℕ → ℕ) (r : ℕ)
         let under = access_pointer h (site_at p.sites s.site) in
         subst (λ a. ShowsWord v t k (access_start a / 8) under word) own.act (subst (ShowsWord v t k (access_start (site_at p.sites s.site).act / 8) under) (sym word_is) (x.entry word (ap answers_number own.act ∙ e)).under)
 
-  under_key : (v : Env (Name P)) (t : TableState) (h : Held) → ShowsFound v p nets slots t h s.site → ShowsUnderKey v p t h s slot
+  under_key : (v : Env (Name P)) (t : TableState) (h : StageValues) → ShowsFound v p nets slots t h s.site → ShowsUnderKey v p t h s slot
   under_key v t h x e = subst (ShowsSlot v p t h s.site) (sym slot_is) (x.slot slot (omega (arith, many, own.site)) (ap finds_key own.act ∙ e))
 
   all_taken : (outside : List (Operand (Name P))) → AllAreThere (behind part outside old) nets slots → All (IsAvailable (behind part outside old)) (slot ∷ word ∷ taken m s ss)
@@ -124,7 +124,7 @@ module _ {P : Type 0} (part : P) (p : ProgramView) (row : ℕ → ℕ) (r : ℕ)
 pub ok_site :
     {P E : Type 0} (part : P) (p : ProgramView) (row : ℕ → ℕ) (r : ℕ) (nets : StageNets (Name P)) (staged : IsStaged p row (decls_of nets.maps.now) nets.bits) (are : AreNets p nets) (tables : HaveTables (decls_of nets.maps.now)) (old new : List (BlockWireTree (Name P))) (s : OwnSite (Name P)) (ss : List (OwnSite (Name P))) (m : MapNets (Name P)) (slot word : Operand (Name P))
     (read : IsReadSite p row r nets s ss m word) (slots : List (Operand (Name P))) (many : length slots ≡ length p.sites) (slot_is : slot ≡ get_or slots s.site slot) (j from width f w : ℕ) → s.site ≡ j → from ≡ f → width ≡ w → (x : Result (ReadNets (Name P)) E)
-    → ((t : TableState) (h : Held) → IsReadOf p t row r m s ss → HaveOperands p ss → HasEntry p t h s → IfOk x (SiteReads part old new m s ss slot word from width p t h row r)) → IfOk x (IsSiteRead part p row r nets slots j f w old new)
+    → ((t : TableState) (h : StageValues) → IsReadOf p t row r m s ss → HaveOperands p ss → HasEntry p t h s → IfOk x (SiteReads part old new m s ss slot word from width p t h row r)) → IfOk x (IsSiteRead part p row r nets slots j f w old new)
 ok_site part p row r nets staged are tables old new s ss m slot word read slots many slot_is j from width f w e is_from is_width (Ok o) gives =
     subst (λ n. IsSiteRead part p row r nets slots j f n old new o) is_width (subst (λ n. IsSiteRead part p row r nets slots j n width old new o) is_from (site_given part p row r nets staged are tables old new s ss m slot word read slots many slot_is from width o gives j e))
 ok_site part p row r nets staged are tables old new s ss m slot word read slots many slot_is j from width f w e is_from is_width (Err x) gives = tt

@@ -12,6 +12,5 @@ mod SearchLemmas
 pub mod ListLaws
 pub mod NetLaws
 pub mod ValueLaws
-pub mod RowLaws
 pub mod ApartLaws
 pub mod SiteTable

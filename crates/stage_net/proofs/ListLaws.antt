@@ -23,7 +23,7 @@ use Rattle.stage_net.proofs.SiteTable.TableLaws.{plain_in}
 use Rattle.stage_net.specs.Rows.{IsHad, IsPointerHad}
 use Rattle.stage_net.specs.Stage.{CanMake, CanPoint}
 
-flagged_within : (flags : List Bool) (k : ℕ) → flag flags k ≡ true → k < length flags
+pub flagged_within : (flags : List Bool) (k : ℕ) → flag flags k ≡ true → k < length flags
 flagged_within [] k e = cc
 flagged_within (b ∷ flags) zero e = omega arith
 flagged_within (b ∷ flags) (suc k) e = omega (arith, flagged_within flags k e)
@@ -47,7 +47,7 @@ module _ (p : ProgramView) (plan : Plan) (needed parts points : List Bool) (at :
   pub pointers_of_row : All (λ k. slice_index plan.rows k ≡ at) (made_pointers p plan needed points at)
   pointers_of_row n d lt = (lists.pointers_made at n d lt).row
 
--- ---- behind the place before
+-- ---- after the place before
 outside_reads : (o : Operator) (ins : List ℕ) → is_outside o ≡ true → AreInputs o ins → (is_read o ≡ true) ⊎ ((ins ≡ []) × (is_heavy o ≡ false))
 outside_reads (op.Byte i) ins e h = inr (h, refl)
 outside_reads op.Length ins e h = inr (h, refl)

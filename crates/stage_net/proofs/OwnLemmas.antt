@@ -1,6 +1,6 @@
 -- The sites of a program at a place: what reads take of them.
 use Rattle.std.specs.Prelude.{filter}
-use Rattle.std.proofs.Common.{◌≡◌, ◌∙◌, ℕ, zero, suc, ◌+◌, ◌*◌, ◌^◌, ◌<◌, ◌≤◌, Bool, All, List, [], ◌∷◌, ◌++◌, length, get_or, refl, sym, ap, subst, arith}
+use Rattle.std.proofs.Common.{◌≡◌, ◌∙◌, ℕ, zero, suc, ◌+◌, ◌*◌, ◌^◌, ◌<◌, ◌≤◌, Bool, All, List, [], ◌∷◌, ◌++◌, length, get_or, sym, ap, subst, arith}
 use Rattle.std.proofs.lemmas.Bool.{eqb-true, and_parts}
 use Rattle.std.proofs.lemmas.List.{length-map, get_or-map}
 use Rattle.std.proofs.lemmas.List.Elements.{All-append, All-cons, All-nil, All-head, All-tail, filter_passes}
@@ -11,9 +11,10 @@ use Rattle.hazard_core.specs.xdp_maps.State.{no_decl}
 use Rattle.hazard_core.specs.cell_core.Formed.{HasWords, IsInside}
 use Rattle.hazard_core.specs.cell_core.Rows.{numbers}
 use Rattle.hazard_core.specs.cell_core.Sites.{ProgramView, site_at}
+use Rattle.hazard_core.proofs.cell_core_laws.NumberLaws.{numbers_long}
 use Rattle.hazard_core.specs.Tables.{TableState, decl_of, table_at}
 use Rattle.hazard_core.specs.Tabled.{IsTable, AreTables}
-use Rattle.hazard_core.specs.Held.{Held, is_pending, pending}
+use Rattle.hazard_core.specs.StageValues.{StageValues, is_pending, pending}
 use Rattle.overlay_net.specs.cell_nets.declared.operand.Operand.{Operand}
 use Rattle.overlay_net.specs.cell_nets.Operands.{IsOperand, IsNarrow, IsAvailable}
 use Rattle.overlay_net.specs.SiteOperands.Sites.{operands_of, all_of, ShowsSite}
@@ -29,12 +30,9 @@ use Rattle.stage_net.specs.Staged.{IsStaged}
 use Rattle.stage_net.specs.Rows.{ShowsReads}
 
 -- ---- numbers that are kept
-numbers_length : (from n : ℕ) → length (numbers from n) ≡ n
-numbers_length from zero = refl
-numbers_length from (suc n) = ap suc (numbers_length (suc from) n)
 
 kept_few : (q : ℕ → Bool) (n : ℕ) → length (filter q (numbers 0 n)) ≤ n
-kept_few q n = omega (arith, length-filter q (numbers 0 n), count_by-le-length q (numbers 0 n), numbers_length 0 n)
+kept_few q n = omega (arith, length-filter q (numbers 0 n), count_by-le-length q (numbers 0 n), numbers_long 0 n)
 
 -- what holds of the numbers of sites
 of_sites : {N : Type 0} (Q : ℕ → Type 0) (ss : List (OwnSite N)) → All Q (sites_of ss) → All (λ s. Q s.site) ss
@@ -146,7 +144,7 @@ module _ {N : Type 0} (p : ProgramView) (row : ℕ → ℕ) (nets : StageNets N)
           (All-append (IsAvailable ins) (all_cells ss) (slot_cells m) (all_there ss owns) (subst (λ n. All (IsAvailable ins) (slot_cells n)) (sym is) (hand.maps (site_at p.sites s.site).map m (map_in s.site own.site)))))
 
     -- ---- what it stands for
-    module _ (v : Env N) (t : TableState) (h : Held) (x : ShowsReads v p nets t h s.site) where
+    module _ (v : Env N) (t : TableState) (h : StageValues) (x : ShowsReads v p nets t h s.site) where
       shows_own : (o : OwnSite N) → IsOwnOf p nets.sites.now o → ShowsSite v p h o.site (operands_of o.nets.now)
       shows_own o of = subst (λ n. ShowsSite v p h o.site (operands_of n)) (sym of.nets) (x.sites o.site o.nets.now of.site)
 

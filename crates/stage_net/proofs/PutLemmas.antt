@@ -32,6 +32,3 @@ module _ {N : Type 0} (table : List (Option (Operand N))) (k : ℕ) (a : Operand
       by_case (inl e) (inl l) = subst (IsIn with_put) (sym e) (put_in l)
       by_case (inl e) (inr l) = subst (λ xs. IsIn xs j) (sym (set_past table k (Some a) l)) (b, s)
       by_case (inr n) m = (b, get_or-set_other table k j (Some a) None n ∙ s)
-
-pub put_as : {N : Type 0} (table after : List (Option (Operand N))) (k : ℕ) (a : Operand N) → length table ≤ k → after ≡ table → after ≡ slice_set table k (Some a)
-put_as table after k a l e = e ∙ sym (set_past table k (Some a) l)

@@ -16,7 +16,7 @@ use Rattle.stage_net.specs.declared.row.StageNets.{StageNets}
 use Rattle.stage_net.specs.Nets.{NetsAreThere}
 use Rattle.stage_net.specs.Rows.{AllAreThere, AreRead}
 
--- more stands behind more wires
+-- more stands after more wires
 pub nets_still_there : {N : Type 0} (ins more : List (Operand N)) (nets : StageNets N) → ((a : Operand N) → IsAvailable ins a → IsAvailable more a) → NetsAreThere ins nets → NetsAreThere more nets
 nets_still_there ins more nets grow hand = record {
   sites = λ k d lt n e l. grow _ (hand.sites k d lt n e l);

@@ -14,7 +14,7 @@ use Rattle.hazard_core.specs.cell_core.Cells.{site_in}
 use Rattle.hazard_core.specs.cell_core.Sites.{ProgramView, site_at}
 use Rattle.hazard_core.specs.Tables.{TableState, table_at}
 use Rattle.hazard_core.specs.Tabled.{AreTables}
-use Rattle.hazard_core.specs.Held.{Held, asked_key, slot_pointer}
+use Rattle.hazard_core.specs.StageValues.{StageValues, asked_key, slot_pointer}
 use Rattle.overlay_net.specs.cell_nets.declared.operand.Operand.{Operand}
 use Rattle.overlay_net.specs.cell_nets.declared.operand.Operand.TheVariants.{Known}
 use Rattle.overlay_net.specs.cell_nets.Operands.{IsOperand, AreFit, IsAvailable}
@@ -62,7 +62,7 @@ module _ {P : Type 0} (part : P) (p : ProgramView) (row : ℕ → ℕ) (r : ℕ)
     apart = λ clean marks table keep. let first = x.apart clean marks table keep in y.apart clean first.0 table first.1;
   }
 
-  -- One operand more: that of the site behind those that there are.
+  -- One operand more: that of the site after those that there are.
   pub record IsSearched (base ws new : Wires) (j : ℕ) (slot : Operand (Name P)) : Type 0 where
     pub adds : AddWires part ws new
     pub operand : IsOperand slot
@@ -70,7 +70,7 @@ module _ {P : Type 0} (part : P) (p : ProgramView) (row : ℕ → ℕ) (r : ℕ)
     pub wires : (outside : Operands) → AreWires part outside base → NetsAreThere (behind part outside base) nets → AreWires part outside new
     pub there : (outside : Operands) → AreWires part outside base → NetsAreThere (behind part outside base) nets → IsAvailable (behind part outside new) slot
     pub shows :
-        (outside : Operands) (v : Env (Name P)) (t : TableState) (before : Held) → AreWires part outside base → NetsAreThere (behind part outside base) nets → AreFit v outside → Solve v part 0 new → IsSought p row r j → ShowsReads v p nets t before j
+        (outside : Operands) (v : Env (Name P)) (t : TableState) (before : StageValues) → AreWires part outside base → NetsAreThere (behind part outside base) nets → AreFit v outside → Solve v part 0 new → IsSought p row r j → ShowsReads v p nets t before j
         → ShowsSlot v p t before j slot
 
   pub none_sought : (ws : Wires) → AreSought part p row r nets ws ws []
@@ -98,7 +98,7 @@ module _ {P : Type 0} (part : P) (p : ProgramView) (row : ℕ → ℕ) (r : ℕ)
     }
       where
         by :
-            (outside : Operands) (v : Env (Name P)) (t : TableState) (before : Held) → AreWires part outside base → NetsAreThere (behind part outside base) nets → AreFit v outside → Solve v part 0 new → (j : ℕ) (d : Operand (Name P)) → j < length (slots ++ slot ∷ []) → IsSought p row r j
+            (outside : Operands) (v : Env (Name P)) (t : TableState) (before : StageValues) → AreWires part outside base → NetsAreThere (behind part outside base) nets → AreFit v outside → Solve v part 0 new → (j : ℕ) (d : Operand (Name P)) → j < length (slots ++ slot ∷ []) → IsSought p row r j
             → ShowsReads v p nets t before j → (j < length slots) ⊎ (length slots ≤ j) → ShowsSlot v p t before j (get_or (slots ++ slot ∷ []) j d)
         by outside v t before a hand fit solved j d lt sought reads (inl less) = subst (ShowsSlot v p t before j) (sym (get_or_append_left slots (slot ∷ []) d j less)) (x.shows outside v t before a hand fit (y.adds.before v solved) j d less sought reads)
         by outside v t before a hand fit solved j d lt sought reads (inr over) =
@@ -132,9 +132,9 @@ module _ {P : Type 0} (part : P) (p : ProgramView) (row : ℕ → ℕ) (r : ℕ)
     -- of one that is looked for
     module _ (staged : IsStaged p row (decls_of nets.maps.now) nets.bits) (are : AreNets p nets) (tables : HaveTables (decls_of nets.maps.now)) (s : OwnSite (Name P)) (own : IsOwnOf p nets.sites.now s) (m : MapNets (Name P)) (is : m ≡ get_or nets.maps.now (site_at p.sites s.site).map m) (new : Wires) (slot : Operand (Name P)) (operand : IsOperand slot)
         (bits : HasBits m.bits slot)
-        (gives : (t : TableState) (h : Held) → IsMapOf t (site_at p.sites s.site).map m.decl.now → Gives part ws new (cells_of s ++ slot_cells m) (λ v. ShowsAsked v p h s.site (operands_of s.nets.now) × ShowsTable v t (site_at p.sites s.site).map m)
+        (gives : (t : TableState) (h : StageValues) → IsMapOf t (site_at p.sites s.site).map m.decl.now → Gives part ws new (cells_of s ++ slot_cells m) (λ v. ShowsAsked v p h s.site (operands_of s.nets.now) × ShowsTable v t (site_at p.sites s.site).map m)
         (λ v. pointer_number (slot_pointer (table_at t (site_at p.sites s.site).map) (asked_key t.decls h (site_at p.sites s.site)))) m.bits slot) where
-      given : (t : TableState) (h : Held) → AreTables t → t.decls ≡ decls_of nets.maps.now → Gives part ws new (cells_of s ++ slot_cells m) (λ v. ShowsAsked v p h s.site (operands_of s.nets.now) × ShowsTable v t (site_at p.sites s.site).map m) (λ v. pointer_number (slot_pointer (table_at t (site_at p.sites s.site).map) (asked_key t.decls h (site_at p.sites s.site)))) m.bits slot
+      given : (t : TableState) (h : StageValues) → AreTables t → t.decls ≡ decls_of nets.maps.now → Gives part ws new (cells_of s ++ slot_cells m) (λ v. ShowsAsked v p h s.site (operands_of s.nets.now) × ShowsTable v t (site_at p.sites s.site).map m) (λ v. pointer_number (slot_pointer (table_at t (site_at p.sites s.site).map) (asked_key t.decls h (site_at p.sites s.site)))) m.bits slot
       given t h at decls = gives t h (is_map_of p row nets staged are s.site own.site m is t at decls)
 
       any : Gives part ws new (cells_of s ++ slot_cells m) (λ v. ShowsAsked v p (record { values = []; pointers = [] }) s.site (operands_of s.nets.now) × ShowsTable v tables.some (site_at p.sites s.site).map m) (λ v. pointer_number (slot_pointer (table_at tables.some (site_at p.sites s.site).map) (asked_key tables.some.decls (record { values = []; pointers = [] }) (site_at p.sites s.site)))) m.bits slot
@@ -165,14 +165,14 @@ module _ {P : Type 0} (part : P) (p : ProgramView) (row : ℕ → ℕ) (r : ℕ)
   pub ok_searched :
       {E : Type 0} (base ws new : Wires) (slots : Operands) (sought : AreSought part p row r nets base ws slots) (staged : IsStaged p row (decls_of nets.maps.now) nets.bits) (are : AreNets p nets) (tables : HaveTables (decls_of nets.maps.now)) (s : OwnSite (Name P)) (own : IsOwnOf p nets.sites.now s) (m : MapNets (Name P))
       (is : m ≡ get_or nets.maps.now (site_at p.sites s.site).map m) → s.site ≡ length slots → (x : Result (Operand (Name P)) E) → IfOk x IsOperand → IfOk x (HasBits m.bits)
-      → ((t : TableState) (h : Held) → IsMapOf t (site_at p.sites s.site).map m.decl.now → IfOk x (Gives part ws new (cells_of s ++ slot_cells m) (λ v. ShowsAsked v p h s.site (operands_of s.nets.now) × ShowsTable v t (site_at p.sites s.site).map m)
+      → ((t : TableState) (h : StageValues) → IsMapOf t (site_at p.sites s.site).map m.decl.now → IfOk x (Gives part ws new (cells_of s ++ slot_cells m) (λ v. ShowsAsked v p h s.site (operands_of s.nets.now) × ShowsTable v t (site_at p.sites s.site).map m)
       (λ v. pointer_number (slot_pointer (table_at t (site_at p.sites s.site).map) (asked_key t.decls h (site_at p.sites s.site)))) m.bits))
       → IfOk x (λ slot. AreSought part p row r nets base new (slots ++ slot ∷ []))
   ok_searched base ws new slots sought staged are tables s own m is number (Ok slot) operand bits gives =
       sought_more base ws slots sought new slot (subst (λ j. IsSearched base ws new j slot) number (is_searched base ws slots sought staged are tables s own m is new slot operand bits gives))
   ok_searched base ws new slots sought staged are tables s own m is number (Err e) operand bits gives = tt
 
-  -- ---- the reads behind them
+  -- ---- the reads after them
   pub read_sought :
       (old mid new : Wires) (slots : Operands) (n : ℕ) (a b c d : List (Option (Operand (Name P)))) → AreSought part p row r nets old mid slots → AreRead part p row r nets slots 0 n mid new a b c d → AreRead part p row r nets [] 0 n old new a b c d
   read_sought old mid new slots n a b c d x y = record {

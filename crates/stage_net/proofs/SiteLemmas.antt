@@ -1,6 +1,6 @@
 -- What a site reads, by what its operation does.
 use Rattle.std.specs.Prelude.{◌/◌, Result, Ok, Err, IfOk}
-use Rattle.std.proofs.Common.{◌≡◌, ◌∙◌, ℕ, Bool, true, false, All, List, [], ◌∷◌, ◌++◌, length, length-append, refl, sym, ap, subst, arith}
+use Rattle.std.proofs.Common.{◌≡◌, ℕ, Bool, true, false, All, List, [], ◌∷◌, ◌++◌, length, length-append, refl, sym, ap, subst, arith}
 use Rattle.std.proofs.lemmas.Nat.{pow_pos}
 use Rattle.std.proofs.lemmas.List.{length-map}
 use Rattle.std.proofs.lemmas.List.Elements.{All-cons, All-nil, All-head, All-tail}
@@ -12,18 +12,18 @@ use Rattle.block_core.specs.declared.name.Name.{Name}
 use Rattle.block_core.specs.Blocks.{BlockWireTree}
 use Rattle.hazard_core.specs.cell_core.declared.site.Act.{Act}
 use Rattle.hazard_core.specs.cell_core.declared.site.Act.TheVariants as act
-use Rattle.hazard_core.specs.cell_core.Acts.{finds_key, reads}
+use Rattle.hazard_core.specs.cell_core.Acts.{finds_key}
 use Rattle.hazard_core.specs.cell_core.Cells.{no_cell, bits_from}
 use Rattle.hazard_core.specs.cell_core.Sites.{ProgramView, site_at}
 use Rattle.hazard_core.specs.Tables.{TableState}
-use Rattle.hazard_core.specs.Held.{Held, access_pointer, pending}
+use Rattle.hazard_core.specs.StageValues.{StageValues, access_pointer, pending}
 use Rattle.hazard_core.specs.Overlay.{answer_over}
 use Rattle.overlay_net.specs.cell_nets.declared.operand.Operand.{Operand}
 use Rattle.overlay_net.specs.cell_nets.declared.operand.Operand.TheVariants.{Known}
 use Rattle.overlay_net.specs.cell_nets.Operands.{IsOperand, IsAvailable}
 use Rattle.overlay_net.specs.cell_nets.Apart.{Agrees, StayApart}
 use Rattle.overlay_net.specs.cell_nets.Wires.{behind, HasBits, Gives}
-use Rattle.overlay_net.proofs.cell_nets_laws.ApartLemmas.{agrees_split, free_marked}
+use Rattle.overlay_net.proofs.cell_nets_laws.ApartLaws.{agrees_split, free_marked}
 use Rattle.row_net.specs.Apart.{KeepApart}
 use Rattle.overlay_net.specs.ValueNet.Words.{answers_number, access_start}
 use Rattle.read_net.specs.declared.sites.OwnSite.{OwnSite}
@@ -71,10 +71,7 @@ plain_access (act.Load at size) e f = cc
 plain_access (act.Store at size) e f = cc
 plain_access (act.Atomic at a) e f = cc
 
-pub plain_store : (a : Act) (at : ℕ) (size : _) → a ≡ act.Store at size → (finds_key a ≡ true → ⊥) × (reads a ≡ true → ⊥)
-plain_store a at size e = (λ f. let g = sym (ap finds_key e) ∙ f in cc, λ f. let g = sym (ap reads e) ∙ f in cc)
-
-module _ {P : Type 0} (part : P) (old new : List (BlockWireTree (Name P))) (m : MapNets (Name P)) (s : OwnSite (Name P)) (ss : List (OwnSite (Name P))) (slot word : Operand (Name P)) (from width : ℕ) (p : ProgramView) (t : TableState) (h : Held) (row : ℕ → ℕ) (r : ℕ) where
+module _ {P : Type 0} (part : P) (old new : List (BlockWireTree (Name P))) (m : MapNets (Name P)) (s : OwnSite (Name P)) (ss : List (OwnSite (Name P))) (slot word : Operand (Name P)) (from width : ℕ) (p : ProgramView) (t : TableState) (h : StageValues) (row : ℕ → ℕ) (r : ℕ) where
   -- no pointer, and an answer
   plain_cells : (answer : Operand (Name P)) → IsOperand answer → HasBits width answer → AreCells m.bits width (record { found = Known 0; there = Known 0; answer = answer })
   plain_cells answer operand bits = record { found = omega arith; found_bits = pow_pos m.bits; there = omega arith; there_bits = omega arith; answer = operand; answer_bits = bits }
@@ -114,14 +111,3 @@ module _ {P : Type 0} (part : P) (old new : List (BlockWireTree (Name P))) (m : 
     where
       rest_of : (outside : List (Operand (Name P))) → All (IsAvailable (behind part outside old)) (slot ∷ word ∷ taken m s ss) → All (IsAvailable (behind part outside old)) (word ∷ taken m s ss)
       rest_of outside h = All-tail (IsAvailable (behind part outside old)) slot (word ∷ taken m s ss) h
-
-  -- a store
-  pub store_reads : old ≡ new → (finds_key s.act ≡ true → ⊥) × (reads s.act ≡ true → ⊥) → SiteReads part old new m s ss slot word from width p t h row r (record { found = Known 0; there = Known 0; answer = Known 0 })
-  store_reads same none = subst (λ ws. SiteReads part old ws m s ss slot word from width p t h row r (record { found = Known 0; there = Known 0; answer = Known 0 })) same (record {
-    cells = plain_cells (Known 0) (omega arith) (pow_pos width);
-    adds = record { before = λ v solved. solved; stays = λ outside a h. h; apart = λ clean marks table keep. (marks, keep) };
-    wires = λ outside a h. a;
-    there = λ outside a h. three (IsAvailable (behind part outside old)) (Known 0) (Known 0) (Known 0) tt tt tt;
-    found = λ e. absurd (none.0 e);
-    answer = λ e. absurd (none.1 e);
-  })

@@ -1,6 +1,6 @@
--- The place behind the reads of its row.
+-- The place after the reads of its row.
 use Rattle.std.specs.Prelude.{Option, Contains, take}
-use Rattle.std.proofs.Common.{◌≡◌, ◌∙◌, ◌⊎◌, inl, inr, ℕ, Bool, true, false, Some, All, List, [], length, get_or, slice_index, refl, ap, arith}
+use Rattle.std.proofs.Common.{◌≡◌, ◌∙◌, ◌⊎◌, inl, inr, ℕ, true, All, List, [], length, get_or, slice_index, ap, arith}
 use Rattle.std.proofs.lemmas.List.Elements.{All-nil}
 use Rattle.block_core.specs.net_core.Value.{Env}
 use Rattle.hazard_core.specs.xdp_machine.State.{PacketIn}
@@ -8,42 +8,27 @@ use Rattle.block_core.specs.declared.name.Name.{Name}
 use Rattle.block_core.specs.Blocks.{BlockTree, BlockWireTree}
 use Rattle.block_core.specs.Parts.{Solve}
 use Rattle.hazard_core.specs.cell_core.declared.operator.Operator.{Operator}
-use Rattle.hazard_core.specs.cell_core.declared.operator.Operator.TheVariants.{Wire, Phi, Found, Answer}
-use Rattle.hazard_core.specs.cell_core.Cells.{cell_at, is_read, site_in}
+use Rattle.hazard_core.specs.cell_core.Cells.{cell_at, site_in}
 use Rattle.hazard_core.specs.cell_core.Sites.{ProgramView}
+use Rattle.hazard_core.proofs.cell_core_laws.OperatorLaws.{site_of_read}
 use Rattle.hazard_core.specs.Tables.{TableState}
-use Rattle.hazard_core.specs.Held.{Held, held_value, pointer_in}
+use Rattle.hazard_core.specs.StageValues.{StageValues, stage_value, pointer_in}
 use Rattle.overlay_net.specs.cell_nets.declared.operand.Operand.{Operand}
 use Rattle.overlay_net.specs.cell_nets.Operands.{IsAvailable}
 use Rattle.overlay_net.specs.cell_nets.Wires.{behind}
 use Rattle.row_net.specs.Table.{IsIn}
 use Rattle.row_net.specs.Made.{IsReady}
 use Rattle.row_net.specs.SitePlace.Holding.{PointersAreHeld}
-use Rattle.row_net.specs.SitePlace.Pointing.{PointersAre, is_edge, HoldsOf, Takes, ArePointed}
+use Rattle.row_net.specs.SitePlace.Pointing.{PointersAre, ArePointed}
 use Rattle.row_net.specs.SitePlace.PointerNets.{BothThere}
 use Rattle.row_net.specs.SitePlace.SitePlace.{IsSitePlace}
+use Rattle.row_net.proofs.SitePlace.PointingLaws.{takes_as}
 use Rattle.hazard_core.specs.HeldRows.Made.{IsRowMade}
 use Rattle.stage_net.specs.declared.row.StageNets.{StageNets}
 use Rattle.stage_net.specs.Nets.{decls_of, NetsAreThere}
 use Rattle.stage_net.specs.Staged.{IsStaged}
 use Rattle.stage_net.specs.Rows.{IsHad, IsPointerHad, AllAreThere, ShowsRow, ShowsRead, AreRead}
 use Rattle.stage_net.specs.Stage.{CanMake, CanPoint, IsStage}
-
--- ---- what a pointer takes, said of more
-of_as : (e f p q : ℕ → Type 0) → ((i : ℕ) → e i → f i) → ((i : ℕ) → p i → q i) → (b : Bool) (i : ℕ) → HoldsOf e p b i → HoldsOf f q b i
-of_as e f p q edges pointers true i h = edges i h
-of_as e f p q edges pointers false i h = pointers i h
-
-takes_as : (e f p q : ℕ → Type 0) → ((i : ℕ) → e i → f i) → ((i : ℕ) → p i → q i) → (op : Operator) (ins : List ℕ) → Takes e p op ins → Takes f q op ins
-takes_as e f p q edges pointers Wire ins h = pointers (slice_index ins 0) h
-takes_as e f p q edges pointers Phi ins h = λ n l. of_as e f p q edges pointers (is_edge n) (slice_index ins n) (h n l)
-takes_as e f p q edges pointers op ins h = tt
-
--- the site that a read is of
-read_site : (op : Operator) → is_read op ≡ true → (j : ℕ) × (site_in op ≡ Some j)
-read_site (Found j) e = (j, refl)
-read_site (Answer j) e = (j, refl)
-read_site op e = cc
 
 either : {A B C : Type 0} → (A → B) → A ⊎ C → B ⊎ C
 either f (inl a) = inl (f a)
@@ -53,7 +38,7 @@ either f (inr c) = inr c
 pub alone : {N : Type 0} (ins : List (Operand N)) (nets : StageNets N) → NetsAreThere ins nets → AllAreThere ins nets []
 alone ins nets hand = record { nets_there = hand; slots_there = All-nil (IsAvailable ins) }
 
-shown : {N : Type 0} (v : Env N) (p : ProgramView) (row : ℕ → ℕ) (r : ℕ) (nets : StageNets N) (t : TableState) (before h : Held) → ShowsRow v p row r nets t before h → ShowsRead v p row r nets [] t before h
+shown : {N : Type 0} (v : Env N) (p : ProgramView) (row : ℕ → ℕ) (r : ℕ) (nets : StageNets N) (t : TableState) (before h : StageValues) → ShowsRow v p row r nets t before h → ShowsRead v p row r nets [] t before h
 shown v p row r nets t before h x = record { alike = x.alike; reads = λ c j l e o. record { reads = x.reads c j l e o; slot = λ d lt. absurd (omega (arith, lt)) } }
 
 module _ {P : Type 0} (part : P) (p : ProgramView) (row : ℕ → ℕ) (r : ℕ) (nets : StageNets (Name P)) (staged : IsStaged p row (decls_of nets.maps.now) nets.bits) (old ws : List (BlockWireTree (Name P))) (before after pointers those : List (Option (Operand (Name P))))
@@ -66,7 +51,7 @@ module _ {P : Type 0} (part : P) (p : ProgramView) (row : ℕ → ℕ) (r : ℕ)
 
   pub has : (k : ℕ) → Has k → IsIn after k
   has k (inl h) = x.grows k h
-  has k (inr h) = let s = read_site (cell_at p.cells k).op h.2 in x.read k s.0 h.0 h.1 s.1 (omega arith) (staged.reads k s.0 h.0 s.1).site
+  has k (inr h) = let s = site_of_read (cell_at p.cells k).op h.2 in x.read k s.0 h.0 h.1 s.1 (omega arith) (staged.reads k s.0 h.0 s.1).site
 
   pub has_pointer : (k : ℕ) → HasPointer k → IsIn those k
   has_pointer k (inl h) = x.grows_pointers k h
@@ -90,7 +75,7 @@ module _ {P : Type 0} (part : P) (p : ProgramView) (row : ℕ → ℕ) (r : ℕ)
   }
 
   module _ (law : PointersAreHeld) (made held made_pointers held_pointers : List ℕ) (can : CanPoint p.cells Has HasPointer made made_pointers) (of_row : All (λ k. row k ≡ r) made_pointers) where
-    pointers_are : (t : TableState) (packet : PacketIn) (h : Held) → IsRowMade p row r t packet h → PointersAre p.cells made_pointers (held_value h) (pointer_in h)
+    pointers_are : (t : TableState) (packet : PacketIn) (h : StageValues) → IsRowMade p row r t packet h → PointersAre p.cells made_pointers (stage_value h) (pointer_in h)
     pointers_are t packet h is n d lt =
         let cell = cell_at p.cells (get_or made_pointers n d) in
         (is.each (get_or made_pointers n d) (can.within n d lt) (of_row n d lt)).pointer ∙ law p row r t h cell cell.op (can.computed n d lt)
@@ -112,6 +97,6 @@ module _ {P : Type 0} (part : P) (p : ProgramView) (row : ℕ → ℕ) (r : ℕ)
       fits = y.fits;
       next = λ v s t packet held h on widths fit solved shows is values cells points.
           let z = x.value outside v t packet held h (alone (behind part outside old) nets hand) both fit (begun v solved) (shown v p row r nets t held h shows) is cells points in
-          y.next v s packet (held_value h) (pointer_in h) on widths fit solved values (pointers_are t packet h is) z.0 z.1;
+          y.next v s packet (stage_value h) (pointer_in h) on widths fit solved values (pointers_are t packet h is) z.0 z.1;
       stays = y.stays;
     }

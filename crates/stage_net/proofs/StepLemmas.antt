@@ -15,7 +15,7 @@ use Rattle.hazard_core.specs.cell_core.declared.operator.Operator.TheVariants.{F
 use Rattle.hazard_core.specs.cell_core.Cells.{CellView, cell_at, no_cell, site_in, is_read, bit, bits_from}
 use Rattle.hazard_core.specs.cell_core.Sites.{ProgramView, site_at}
 use Rattle.hazard_core.specs.Tables.{TableState}
-use Rattle.hazard_core.specs.Held.{Held, held_value, pointer_in, found_cell, answer_cell, is_found_of, is_answer_of, pending, is_null}
+use Rattle.hazard_core.specs.StageValues.{StageValues, stage_value, pointer_in, found_cell, answer_cell, is_found_of, is_answer_of, pending, is_null}
 use Rattle.hazard_core.specs.Keeping.{LooksBelow, ReadsKeep}
 use Rattle.hazard_core.specs.Overlay.{found_pointer, answer_over}
 use Rattle.hazard_core.specs.Rows.{cell_number, cell_pointer}
@@ -24,13 +24,13 @@ use Rattle.overlay_net.specs.cell_nets.Apart.{IsClean}
 use Rattle.overlay_net.specs.cell_nets.Operands.{number_in, IsOperand, IsAvailable}
 use Rattle.overlay_net.specs.cell_nets.Wires.{behind, HasBits}
 use Rattle.overlay_net.specs.SiteOperands.Pointers.{pointer_number}
-use Rattle.overlay_net.proofs.cell_nets_laws.StepNets.StepLaws.{bit_bits}
 use Rattle.row_net.specs.Table.{Stands, IsIn, IsTable}
 use Rattle.row_net.specs.Apart.{KeepApart}
 use Rattle.row_net.specs.SitePlace.Pointing.{IsPointers}
 use Rattle.row_net.specs.SitePlace.PointerNets.{BothThere}
 use Rattle.read_net.specs.declared.sites.ReadNets.{ReadNets}
 use Rattle.hazard_core.specs.HeldRows.Made.{IsRowMade}
+use Rattle.hazard_core.proofs.cell_core_laws.BitLaws.{bit_bits}
 use Rattle.stage_net.specs.declared.row.StageNets.{StageNets}
 use Rattle.stage_net.specs.Nets.{decls_of}
 use Rattle.stage_net.specs.Staged.{IsStaged, IsReadCell}
@@ -190,14 +190,14 @@ module _ {P : Type 0} (part : P) (p : ProgramView) (row : ℕ → ℕ) (r : ℕ)
     in_after k l (inr e) = subst (IsIn after) (sym e) (put_in mid a o.answer (let m = subst (λ n. n < length p.cells) e l in omega (arith, m, mid_long)))
 
     -- ---- the numbers of a packet that takes in the row
-    module _ (t : TableState) (packet : PacketIn) (held h : Held) (v : Env (Name P)) (shows : ShowsRead v p row r nets slots t held h) (made : IsRowMade p row r t packet h) where
+    module _ (t : TableState) (packet : PacketIn) (held h : StageValues) (v : Env (Name P)) (shows : ShowsRead v p row r nets slots t held h) (made : IsRowMade p row r t packet h) where
       kept : (c : ℕ) → c < length p.cells → row c ≡ r → LooksBelow row (row c) (site_at p.sites j) → (found_pointer p t held (pending p row r j) j ≡ found_pointer p t h (pending p row r j) j) × (answer_over p t held (pending p row r j) j ≡ answer_over p t h (pending p row r j) j)
       kept c l e below = keep p row r j t held h shows.alike (subst (λ k. LooksBelow row k (site_at p.sites j)) e below)
 
       found_pointer_is : (l : f < length p.cells) → found_pointer p t held (pending p row r j) j ≡ pointer_in h f
       found_pointer_is l = (kept f l (f_here l) (f_is l).below).0 ∙ sym ((made.each f l (f_here l)).pointer ∙ ap (cell_pointer p row r t h (cell_at p.cells f)) (f_op l))
 
-      found_value_is : (l : f < length p.cells) → bit (not (is_null (found_pointer p t held (pending p row r j) j))) ≡ held_value h f
+      found_value_is : (l : f < length p.cells) → bit (not (is_null (found_pointer p t held (pending p row r j) j))) ≡ stage_value h f
       found_value_is l =
           let q = found_pointer p t h (pending p row r j) j in
           let cell = cell_at p.cells f in
@@ -208,7 +208,7 @@ module _ {P : Type 0} (part : P) (p : ProgramView) (row : ℕ → ℕ) (r : ℕ)
           ∙ ap (λ n. bits_from (bit (not (is_null q))) n cell.width) ((f_is l).from (f_op l))
           ∙ ap (λ n. bits_from (bit (not (is_null q))) 0 n) ((f_is l).width (f_op l)))
 
-      answer_value_is : (l : a < length p.cells) → bits_from (answer_over p t held (pending p row r j) j) (cell_at p.cells a).from (cell_at p.cells a).width ≡ held_value h a
+      answer_value_is : (l : a < length p.cells) → bits_from (answer_over p t held (pending p row r j) j) (cell_at p.cells a).from (cell_at p.cells a).width ≡ stage_value h a
       answer_value_is l =
           let cell = cell_at p.cells a in
           ap (λ n. bits_from n cell.from cell.width) (kept a l (a_here l) (a_is l).below).1
@@ -264,7 +264,7 @@ module _ {P : Type 0} (part : P) (p : ProgramView) (row : ℕ → ℕ) (r : ℕ)
       there = both_then;
       value = λ outside v t packet held h hand both fit solved shows made cells point.
           let seen = λ (c : ℕ) (l : c < length p.cells) (e : row c ≡ r) (s : site_in (cell_at p.cells c).op ≡ Some j). shows.reads c j l e s in (
-            cells_both (λ k b. number_in v b ≡ held_value h k)
+            cells_both (λ k b. number_in v b ≡ stage_value h k)
                 (λ l. (x.found ((f_is l).finds (f_op l)) outside v t held both.wires hand fit solved (seen f l (f_here l) (ap site_in (f_op l)))).1 ∙ found_value_is t packet held h v shows made l)
                 (λ l. x.answer ((a_is l).answers (a_op l)) outside v t held both.wires hand fit solved (seen a l (a_here l) (ap site_in (a_op l))) ∙ answer_value_is t packet held h v shows made l) cells,
             those_both (λ k b. number_in v b ≡ pointer_number (pointer_in h k))

@@ -15,7 +15,7 @@ use Rattle.block_core.specs.Formed.{names_scope, block_registers, IsTypedBlock, 
 use Rattle.hazard_core.specs.cell_core.Cells.{CellView, cell_at}
 use Rattle.hazard_core.specs.cell_core.Sites.{ProgramView}
 use Rattle.hazard_core.specs.Tables.{TableState}
-use Rattle.hazard_core.specs.Held.{Held, held_value, pointer_in}
+use Rattle.hazard_core.specs.StageValues.{StageValues, stage_value, pointer_in}
 use Rattle.overlay_net.specs.cell_nets.declared.operand.Operand.{Operand}
 use Rattle.overlay_net.specs.cell_nets.Computing.{is_outside}
 use Rattle.overlay_net.specs.cell_nets.Operands.{AreFit, AreDeclared, IsNetOf}
@@ -35,7 +35,7 @@ pub record CanMake (cells : List CellView) (Has : ℕ → Type 0) (made : List �
   pub computed : All (λ k. is_outside (cell_at cells k).op ≡ false) made
   pub inputs : (n : ℕ) → n < length made → All (λ i. Has i ⊎ Contains (take n made) i) (cell_at cells (slice_index made n)).ins
 
--- So can the pointers behind them.
+-- So can the pointers after them.
 pub record CanPoint (cells : List CellView) (Has HasPointer : ℕ → Type 0) (made made_pointers : List ℕ) : Type 0 where
   pub within : All (λ k. k < length cells) made_pointers
   pub computed : All (λ k. is_outside (cell_at cells k).op ≡ false) made_pointers
@@ -45,7 +45,7 @@ pub record CanPoint (cells : List CellView) (Has HasPointer : ℕ → Type 0) (m
 
 -- The block, over what comes from outside and tables of what stands for cells and for their pointers before it: what it has, that it is well typed, in
 -- order and spelled where the nets from outside are, that no divisor is 0, and what a clock does. Where the net `advance` is 1, the registers take what a packet holds
--- behind the row, if the tables' operands hold what it holds of earlier rows and the nets of sites and maps stand for what its reads take. Where that net is 0 what is
+-- after the row, if the tables' operands hold what it holds of earlier rows and the nets of sites and maps stand for what its reads take. Where that net is 0 what is
 -- stored stays.
 pub record IsStage {P : Type 0} (part : P) (p : ProgramView) (row : ℕ → ℕ) (r : ℕ) (nets : StageNets (Name P)) (made held made_pointers held_pointers : List ℕ) (outside : List (Operand (Name P))) (table pointers : List (Option (Operand (Name P)))) (advance : Name P) (b : BlockTree (Name P)) : Type 0 where
   pub registers : block_registers b ≡ site_widths p.cells nets.bits held held_pointers
@@ -61,7 +61,7 @@ pub record IsStage {P : Type 0} (part : P) (p : ProgramView) (row : ℕ → ℕ)
   pub fits :
       (v : Env (Name P)) (s : Stored) → HasWidths (site_widths p.cells nets.bits held held_pointers) s → AreFit v outside → Solve v part 0 b.wires → HasWidths (site_widths p.cells nets.bits held held_pointers) (done v b.statement s)
   pub next :
-      (v : Env (Name P)) (s : Stored) (t : TableState) (packet : PacketIn) (before h : Held) → v.net advance ≡ bit true → HasWidths (site_widths p.cells nets.bits held held_pointers) s → AreFit v outside → Solve v part 0 b.wires
-      → ShowsRow v p row r nets t before h → IsRowMade p row r t packet h → AreValues packet p.cells made (held_value h) → Holds v table (held_value h) → HoldsPointers v pointers (pointer_in h)
-      → (done v b.statement s).registers ≡ site_words p.cells nets.bits (held_value h) (pointer_in h) held held_pointers
+      (v : Env (Name P)) (s : Stored) (t : TableState) (packet : PacketIn) (before h : StageValues) → v.net advance ≡ bit true → HasWidths (site_widths p.cells nets.bits held held_pointers) s → AreFit v outside → Solve v part 0 b.wires
+      → ShowsRow v p row r nets t before h → IsRowMade p row r t packet h → AreValues packet p.cells made (stage_value h) → Holds v table (stage_value h) → HoldsPointers v pointers (pointer_in h)
+      → (done v b.statement s).registers ≡ site_words p.cells nets.bits (stage_value h) (pointer_in h) held held_pointers
   pub stays : (v : Env (Name P)) (s : Stored) → v.net advance ≡ bit false → done v b.statement s ≡ s

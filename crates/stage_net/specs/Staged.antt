@@ -8,7 +8,7 @@ use Rattle.hazard_core.specs.cell_core.Formed.{AreFormed, AllFit}
 use Rattle.hazard_core.specs.cell_core.Sites.{ProgramView, site_at}
 use Rattle.hazard_core.specs.Tables.{TableState}
 use Rattle.hazard_core.specs.Tabled.{AreTables}
-use Rattle.hazard_core.specs.Held.{found_cell, answer_cell}
+use Rattle.hazard_core.specs.StageValues.{found_cell, answer_cell}
 use Rattle.hazard_core.specs.Keeping.{LooksBelow}
 use Rattle.overlay_net.specs.cell_nets.Operands.{IsWide}
 use Rattle.overlay_net.specs.ValueNet.Words.{IsAligned}

@@ -2,7 +2,7 @@
 
 ghost use Rattle.std.specs.Prelude.{◌≡◌, ◌<◌, All, length, slice_index, IfOk};
 ghost use Rattle.hazard_core.specs.cell_core.View.{program_of};
-ghost use Rattle.hazard_core.specs.Held.{pending};
+ghost use Rattle.hazard_core.specs.StageValues.{pending};
 ghost use Rattle.read_net.specs.Sites.{sites_of};
 ghost use Rattle.stage_net.specs.Nets.{IsOwnOf};
 

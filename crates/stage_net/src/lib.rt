@@ -1,5 +1,5 @@
 //! A stage that reads maps, as a block.
-//! `site_table` has what stands behind a stage.
+//! `site_table` has what stands after a stage.
 #![tactic(auto)]
 
 mod earlier;

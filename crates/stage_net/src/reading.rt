@@ -2,7 +2,7 @@
 
 ghost use Rattle.std.specs.Prelude.{ℕ, ◌≡◌, true, ◌*◌, ◌<◌, ◌≤◌, All, length, IfOk};
 ghost use Rattle.hazard_core.specs.cell_core.Sites.{ProgramView};
-ghost use Rattle.hazard_core.specs.Held.{Held};
+ghost use Rattle.hazard_core.specs.StageValues.{StageValues};
 ghost use Rattle.hazard_core.specs.Tables.{TableState};
 ghost use Rattle.overlay_net.specs.cell_nets.Operands.{IsOperand};
 ghost use Rattle.overlay_net.specs.cell_nets.Wires.{wires_of, HasBits};
@@ -46,7 +46,7 @@ fn access_reads<P: Copy>(
     requires word { IsOperand word }
     requires from { from ≤ 63 }
     requires width { width ≤ 64 }
-    ensures { (p : ProgramView) (t : TableState) (h : Held) (row : ℕ → ℕ) (r : ℕ) → IsReadOf p t row r map.now site.now earlier.now → HaveOperands p earlier.now → HasEntry p t h site.now
+    ensures { (p : ProgramView) (t : TableState) (h : StageValues) (row : ℕ → ℕ) (r : ℕ) → IsReadOf p t row r map.now site.now earlier.now → HaveOperands p earlier.now → HasEntry p t h site.now
         → IfOk result (SiteReads part (wires_of wires.old.items) (wires_of wires.new.items) map.now site.now earlier.now slot word from width p t h row r) }
 {
     let answer = access(alloc, wires, part, map, site, earlier, word, from, width)?;
@@ -83,7 +83,7 @@ pub(crate) fn site_reads<P: Copy>(
     requires word { IsOperand word }
     requires from { from ≤ 63 }
     requires width { width ≤ 64 }
-    ensures { (p : ProgramView) (t : TableState) (h : Held) (row : ℕ → ℕ) (r : ℕ) → IsReadOf p t row r map.now site.now earlier.now → HaveOperands p earlier.now → HasEntry p t h site.now
+    ensures { (p : ProgramView) (t : TableState) (h : StageValues) (row : ℕ → ℕ) (r : ℕ) → IsReadOf p t row r map.now site.now earlier.now → HaveOperands p earlier.now → HasEntry p t h site.now
         → IfOk result (SiteReads part (wires_of wires.old.items) (wires_of wires.new.items) map.now site.now earlier.now slot word from width p t h row r) }
 {
     match site.act {

@@ -1,4 +1,4 @@
-//! What stands behind each place of a pipeline whose program operates on maps: which cells and pointers its registers hold, and operands for
+//! What stands after each place of a pipeline whose program operates on maps: which cells and pointers its registers hold, and operands for
 //! those and for the sites of the program.
 
 pub mod bits;

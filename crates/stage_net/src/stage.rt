@@ -38,11 +38,11 @@ pub struct StageCells<'a> {
     pub held_pointers: &'a [u32],
 }
 
-/// The place of a row that reads maps: behind wires that it has, those of what the sites read in the row, each site once, and then a place where
+/// The place of a row that reads maps: after wires that it has, those of what the sites read in the row, each site once, and then a place where
 /// packets may stay, whose tables have the reads.
 ///
 /// The tables say what stands for cells and for the numbers of pointers before the place. In a clock in which the net `advance`, of one bit, is 1, the
-/// registers take what the packet holds behind the row; else they keep what they hold.
+/// registers take what the packet holds after the row; else they keep what they hold.
 pub fn stage<P: Part>(
     alloc: Global,
     part: P,

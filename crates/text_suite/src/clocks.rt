@@ -18,7 +18,7 @@ pub(crate) struct Running {
     wires: Vec<String>,
 }
 
-// The names of a design's wires: they stand behind those of its ports and of what is declared.
+// The names of a design's wires: they stand after those of its ports and of what is declared.
 fn wire_names(alloc: Global, design: &Design) -> Result<Vec<String>, AllocError> {
     let (ports, declared) = (design.ports.len(), design.declared.len());
     let mut names = Vec::new(alloc);

@@ -4,7 +4,7 @@ use anyhow::{Context, Result};
 use std::alloc::{AllocError, Global};
 use std::fmt::Write;
 
-// The byte that is meant by what stands behind a backslash, and what follows it.
+// The byte that is meant by what stands after a backslash, and what follows it.
 fn escape(part: &str) -> Result<(u8, &str)> {
     if let Some(rest) = part.strip_prefix('n') {
         return Ok((b'\n', rest));

@@ -109,7 +109,7 @@ impl Suite {
         Ok((front.len(), new.len(), text))
     }
 
-    // What stands before a part of the text under way, and what behind it.
+    // What stands before a part of the text under way, and what after it.
     fn parted(&self, part: &str) -> Result<(&str, &str)> {
         Ok(self.text.split_once(part).context("no such part")?)
     }

@@ -10,8 +10,8 @@ use Rattle.hazard_core.specs.cell_core.declared.site.Act.TheVariants as act
 use Rattle.hazard_core.specs.cell_core.Rows.{numbers}
 use Rattle.hazard_core.specs.cell_core.Sites.{ProgramView, site_at, records}
 use Rattle.hazard_core.specs.Tables.{decl_of}
-use Rattle.hazard_core.specs.Held.{Held, held_value, answer_cell, guard_on, writes_as, writes}
-use Rattle.turn_net.specs.Turns.{RecordsAlone}
+use Rattle.hazard_core.specs.StageValues.{StageValues, stage_value, answer_cell, guard_on, writes_as, writes}
+use Rattle.turn_net.specs.Actions.{RecordsAlone}
 
 -- the first that passes a test is among those that pass a wider one
 find_filter : {X : Type 0} (p q : X → Bool) → ((x : X) → p x ≡ true → q x ≡ true) → (xs : List X) → find p xs ≡ find p (filter q xs)
@@ -34,11 +34,11 @@ recorded act.Delete kind n e = refl
 recorded (act.Store at size) kind n e = refl
 recorded (act.Atomic at a) kind n e = refl
 
-open_recorded : (p : ProgramView) (decls : List MapDecl) (h : Held) (done j : ℕ) → (nat_le done j && writes p decls h j) ≡ true → records (site_at p.sites j).act ≡ true
+open_recorded : (p : ProgramView) (decls : List MapDecl) (h : StageValues) (done j : ℕ) → (nat_le done j && writes p decls h j) ≡ true → records (site_at p.sites j).act ≡ true
 open_recorded p decls h done j e =
     let s = site_at p.sites j in
     let w = and_parts (nat_le done j) (writes p decls h j) e in
-    recorded s.act (decl_of decls s.map).kind (held_value h (answer_cell p.cells j)) (and_parts (guard_on h s) _ w.1).1
+    recorded s.act (decl_of decls s.map).kind (stage_value h (answer_cell p.cells j)) (and_parts (guard_on h s) _ w.1).1
 
 pub alone : RecordsAlone
 alone b t done x =

@@ -13,17 +13,17 @@ use Rattle.block_core.specs.Blocks.{BlockWireTree}
 use Rattle.hazard_core.specs.xdp_maps.declared.decl.MapDecl.{MapDecl}
 use Rattle.hazard_core.specs.cell_core.Cells.{bit, on}
 use Rattle.hazard_core.specs.cell_core.Sites.{ProgramView}
-use Rattle.hazard_core.specs.Held.{Held, writes}
+use Rattle.hazard_core.specs.StageValues.{StageValues, writes}
 use Rattle.cell_nets.specs.declared.operand.Operand.{Operand}
 use Rattle.cell_nets.specs.Operands.{number_in, IsAvailable}
 use Rattle.cell_nets.specs.Wires.{HasBits, always, Gives}
-use Rattle.cell_nets.proofs.ChoiceLemmas.{one_bit}
+use Rattle.cell_nets.proofs.ChoiceLaws.{one_bit}
 use Rattle.overlay_net.specs.SiteOperands.Sites.{operands_of, ShowsSite}
 use Rattle.cell_nets.proofs.StepNets.ChainLaws.{starts}
 use Rattle.cell_nets.proofs.StepNets.StepLaws.{on_bit, narrow_small, narrow_bits}
 use Rattle.turn_net.specs.declared.nets.RecordNets.{RecordNets}
 use Rattle.turn_net.specs.declared.choosing.Step.{Step}
-use Rattle.turn_net.specs.Turns.{first_open, is_at, behind_site}
+use Rattle.turn_net.specs.Actions.{first_open, is_at, behind_site}
 use Rattle.turn_net.specs.Nets.{number_of, sites_of, site_read, read_of, all_read, AreRecords}
 use Rattle.turn_net.specs.Steps.{Leads, IsStep, IsBelow, AreChosen}
 use Rattle.turn_net.proofs.StandLemmas.{left_of, right_of, given_leads, leads_as, then_leads}
@@ -89,7 +89,7 @@ module _ {N : Type 0} (p : ProgramView) (decls : List MapDecl) (v : Env N) (may 
 
   pub one_chosen :
       (rs : List (RecordNets N)) (r : RecordNets N) (chosen : List (Operand N)) (last next : Step N) (opened : Operand N) → length chosen ≡ length rs → All (λ x. x.number < r.number) rs
-      → ((h : Held) → ShowsSite v p h r.number (operands_of r.nets.now) → number_in v opened ≡ bit (nat_le done r.number && writes p decls h r.number)) → IsStep v r.number opened last next → AreChosen p decls v may done rest rs chosen last
+      → ((h : StageValues) → ShowsSite v p h r.number (operands_of r.nets.now) → number_in v opened ≡ bit (nat_le done r.number && writes p decls h r.number)) → IsStep v r.number opened last next → AreChosen p decls v may done rest rs chosen last
       → AreChosen p decls v may done rest (rs ++ r ∷ []) (chosen ++ next.chosen ∷ []) next
   one_chosen rs r chosen last next opened count before opens step a = record {
     site = more_site may s o j;
@@ -111,7 +111,7 @@ module _ {N : Type 0} (p : ProgramView) (decls : List MapDecl) (v : Env N) (may 
       o : Bool
       o = on (number_in v opened)
 
-      Shows : Held → RecordNets N → Type 0
+      Shows : StageValues → RecordNets N → Type 0
       Shows h x = ShowsSite v p h x.number (operands_of x.nets.now)
 
       free : on (number_in v last.free) ≡ (may && not (is_some s))
@@ -148,7 +148,7 @@ lower p decls rs n r l is are k d m =
     let there : (get_or (take n rs) k d).number ≡ (get_or rs k d).number = ap (λ (x : RecordNets _). x.number) (get_or-take n rs k d (omega arith)) in
     omega (arith, are.rising k n d (omega arith) l, here, there)
 
-pub no_held : Held
+pub no_held : StageValues
 no_held = record { values = []; pointers = [] }
 
 module _
@@ -178,7 +178,7 @@ module _
   pub more_choice :
       (old mid next new : List (BlockWireTree (Name P))) (n m : ℕ) (r : RecordNets (Name P)) (opened : Operand (Name P)) (last step : Step (Name P)) (chosen all : List (Operand (Name P))) → n < length rs → m ≡ n + 1 → r ≡ get_or rs n r → length chosen ≡ n
       → all ≡ chosen ++ step.chosen ∷ [] → AreRecords p decls rs → Leads part old mid args (outs chosen last) (Known n chosen last)
-      → ((h : Held) → Gives part mid next (done ∷ site_read r) (λ v. ShowsSite v p h r.number (operands_of r.nets.now)) (λ v. bit (nat_le (number_in v done) r.number && writes p decls h r.number)) 1 opened)
+      → ((h : StageValues) → Gives part mid next (done ∷ site_read r) (λ v. ShowsSite v p h r.number (operands_of r.nets.now)) (λ v. bit (nat_le (number_in v done) r.number && writes p decls h r.number)) 1 opened)
       → Leads part next new (last.free ∷ last.done ∷ opened ∷ []) (step.chosen ∷ step.free ∷ step.done ∷ []) (λ v. IsStep v r.number opened last step)
       → Leads part old new args (outs all step) (Known m all step)
   more_choice old mid next new n m r opened last step chosen all l m_is is count pushed are x y z =

@@ -12,17 +12,17 @@ use Rattle.hazard_core.specs.cell_core.declared.site.Act.{Act}
 use Rattle.hazard_core.specs.cell_core.declared.site.Act.TheVariants as act
 use Rattle.hazard_core.specs.cell_core.Sites.{ProgramView, site_at}
 use Rattle.hazard_core.specs.Tables.{TableState}
-use Rattle.hazard_core.specs.Held.{Held, is_update}
+use Rattle.hazard_core.specs.StageValues.{StageValues, is_update}
 use Rattle.hazard_core.specs.Commits.{written_slot}
+use Rattle.hazard_core.proofs.cell_core_laws.BitLaws.{small_bits}
 use Rattle.cell_nets.specs.declared.operand.Operand.{Operand}
 use Rattle.cell_nets.specs.Operands.{number_in}
-use Rattle.cell_nets.proofs.StepNets.StepLaws.{small_bits}
 use Rattle.cell_nets.specs.OperandBlocks.Registers.{taken_word, zero_word}
 use Rattle.turn_net.specs.declared.nets.RecordNets.{RecordNets}
-use Rattle.turn_net.specs.Turns.{is_at, taken_by}
+use Rattle.turn_net.specs.Actions.{is_at, taken_by}
 use Rattle.turn_net.specs.Nets.{keeps_slot, keeps, kept}
 use Rattle.turn_net.specs.Steps.{slot_at, slots_after, slot_value}
-use Rattle.turn_net.specs.Turn.{slot_word, IsSmall, ShowsTarget}
+use Rattle.turn_net.specs.Action.{slot_word, IsSmall, ShowsTarget}
 
 -- ---- of each kept record
 pub kept_keep : {N : Type 0} (rs : List (RecordNets N)) → All (λ r. keeps r ≡ true) (kept rs)
@@ -54,7 +54,7 @@ set_other (y ∷ xs) zero (suc j) x n = refl
 set_other (y ∷ xs) (suc i) zero x n = refl
 set_other (y ∷ xs) (suc i) (suc j) x n = set_other xs i j x (λ e. n (ap suc e))
 
-module _ {P : Type 0} (v : Env (Name P)) (p : ProgramView) (t : TableState) (taken : List ℕ) (h : Held) where
+module _ {P : Type 0} (v : Env (Name P)) (p : ProgramView) (t : TableState) (taken : List ℕ) (h : StageValues) where
   abbrev after : Option ℕ → ℕ → ℕ
   after site j = slice_index (taken_by p t taken h site) j
 

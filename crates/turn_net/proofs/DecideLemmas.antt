@@ -10,7 +10,7 @@ use Rattle.block_core.specs.Blocks.{BlockWireTree}
 use Rattle.hazard_core.specs.xdp_maps.declared.decl.MapDecl.{MapDecl}
 use Rattle.hazard_core.specs.cell_core.Cells.{bit, on, bits_from}
 use Rattle.hazard_core.specs.cell_core.Sites.{ProgramView}
-use Rattle.hazard_core.specs.Held.{writes}
+use Rattle.hazard_core.specs.StageValues.{writes}
 use Rattle.cell_nets.specs.declared.operand.Operand.{Operand}
 use Rattle.cell_nets.specs.declared.operand.Operand.TheVariants.{Net}
 use Rattle.cell_nets.specs.Operands.{number_in, IsAvailable}
@@ -18,16 +18,16 @@ use Rattle.cell_nets.specs.Wires.{always}
 use Rattle.cell_nets.proofs.StepNets.ChainLaws.{starts}
 use Rattle.cell_nets.proofs.StepNets.StepLaws.{on_bit, one_bit}
 use Rattle.turn_net.specs.declared.nets.RecordNets.{RecordNets}
-use Rattle.turn_net.specs.declared.nets.TurnNets.{TurnNets}
-use Rattle.turn_net.specs.declared.nets.TurnShape.{TurnShape}
+use Rattle.turn_net.specs.declared.nets.ActionNets.{ActionNets}
+use Rattle.turn_net.specs.declared.nets.ActionShape.{ActionShape}
 use Rattle.turn_net.specs.declared.choosing.Step.{Step}
-use Rattle.turn_net.specs.Turns.{first_open, may_commit, behind_site}
+use Rattle.turn_net.specs.Actions.{first_open, may_commit, behind_site}
 use Rattle.turn_net.specs.Nets.{sites_of, kept, all_read, signals, outside, signals_in, done_operand, slot_operands, own_operands}
 use Rattle.turn_net.specs.Steps.{Leads, AreChosen, AreSlots, IsDecided}
 use Rattle.turn_net.proofs.StandLemmas.{left_of, right_of, leads_as, then_leads}
 use Rattle.turn_net.proofs.ChooseLemmas.{no_held}
 
--- one commits: one might, and behind the last none may
+-- one commits: one might, and after the last none may
 tells : (may : Bool) (s : Option ℕ) → (may ≡ false → s ≡ None) → (may && not (may && not (is_some s))) ≡ is_some s
 tells true None none = refl
 tells true (Some j) none = refl
@@ -39,7 +39,7 @@ either_bit true x l = refl
 either_bit false x l = one_bit x l
 
 module _
-    {P : Type 0} (p : ProgramView) (decls : List MapDecl) (part : P) (shape : TurnShape) (nets : TurnNets P) (rs : List (RecordNets (Name P))) (first last : Step (Name P)) (chosen : List (Operand (Name P))) (commits stays : Name P) (slots : List (Operand (Name P))) where
+    {P : Type 0} (p : ProgramView) (decls : List MapDecl) (part : P) (shape : ActionShape) (nets : ActionNets P) (rs : List (RecordNets (Name P))) (first last : Step (Name P)) (chosen : List (Operand (Name P))) (commits stays : Name P) (slots : List (Operand (Name P))) where
   abbrev now : Operand (Name P)
   now = done_operand part shape.bits
 

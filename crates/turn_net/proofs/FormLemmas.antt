@@ -21,23 +21,24 @@ use Rattle.hazard_core.specs.xdp_maps.declared.decl.MapDecl.{MapDecl}
 use Rattle.hazard_core.specs.cell_core.Cells.{bit, on}
 use Rattle.hazard_core.specs.cell_core.Sites.{ProgramView, site_at}
 use Rattle.hazard_core.specs.Tables.{TableState}
-use Rattle.hazard_core.specs.Held.{Held, writes}
+use Rattle.hazard_core.specs.StageValues.{StageValues, writes}
+use Rattle.hazard_core.proofs.cell_core_laws.BitLaws.{small_bits}
 use Rattle.cell_nets.specs.declared.operand.Operand.{Operand}
 use Rattle.cell_nets.specs.declared.operand.Operand.TheVariants.{Net}
 use Rattle.cell_nets.specs.Operands.{number_in, IsOperand, IsWide, HasWidth, IsFit, AreFit, IsDeclared, AreDeclared, IsAvailable, IsNetOf}
 use Rattle.cell_nets.specs.Wires.{behind, AreWires}
-use Rattle.cell_nets.proofs.ChoiceLemmas.{fit_of}
-use Rattle.cell_nets.proofs.StepNets.StepLaws.{small_bits, narrow_small, narrow_bits}
+use Rattle.cell_nets.proofs.ChoiceLaws.{fit_of}
+use Rattle.cell_nets.proofs.StepNets.StepLaws.{narrow_small, narrow_bits}
 use Rattle.cell_nets.specs.declared.operand_blocks.registers.Taken.{Taken}
 use Rattle.cell_nets.specs.OperandBlocks.Registers.{operand_in, width_in, taken_word, IsRegistered}
 use Rattle.cell_nets.proofs.OperandBlocks.WiringLaws.{no_wires, all_outside, behind_nets}
 use Rattle.turn_net.specs.declared.nets.RecordNets.{RecordNets}
-use Rattle.turn_net.specs.declared.nets.TurnNets.{TurnNets}
-use Rattle.turn_net.specs.declared.nets.TurnShape.{TurnShape}
-use Rattle.turn_net.specs.Turns.{Signals, first_open, may_commit, committing, done_after, taken_by}
+use Rattle.turn_net.specs.declared.nets.ActionNets.{ActionNets}
+use Rattle.turn_net.specs.declared.nets.ActionShape.{ActionShape}
+use Rattle.turn_net.specs.Actions.{Signals, first_open, may_commit, committing, done_after, taken_by}
 use Rattle.turn_net.specs.Nets.{sites_of, kept, keeps, all_read, signals, outside, signals_in, slot_operands, own_operands, AreRecords, ShowsRecords}
 use Rattle.turn_net.specs.Steps.{ShowsChosen, slots_after, IsDecided, HasDecided, Decides, slot_value, taken_values}
-use Rattle.turn_net.specs.Turn.{slot_word, IsSmall, StoresTurn, SeesTurn, site_in, ShowsTurn, ShowsTarget, IsTurn}
+use Rattle.turn_net.specs.Action.{slot_word, IsSmall, StoresAction, SeesAction, site_in, ShowsAction, ShowsTarget, IsAction}
 use Rattle.turn_net.proofs.StandLemmas.{left_of, right_of}
 use Rattle.turn_net.proofs.NetLemmas.{slots_all, beside_all, NetIs, nets_of, net_is}
 use Rattle.turn_net.proofs.ClockLemmas.{kept_keep, all_slots, slot_words, words_of_slots, slots_fit, first_words}
@@ -53,14 +54,14 @@ register_widths bits [] (x ∷ xs) e = absurd (omega arith)
 register_widths bits (a ∷ slots) [] e = absurd (omega arith)
 register_widths bits (a ∷ slots) (x ∷ xs) e = ap (λ l. bits ∷ l) (register_widths bits slots xs (omega arith))
 
-pub count_taken : {N : Type 0} (shape : TurnShape) (last : Operand N) (slots : List (Operand N)) → length (taken_values shape last slots) ≡ suc (length slots)
+pub count_taken : {N : Type 0} (shape : ActionShape) (last : Operand N) (slots : List (Operand N)) → length (taken_values shape last slots) ≡ suc (length slots)
 count_taken shape last slots = ap suc (length-map slots (slot_value shape.slot_bits))
 
-pub are_operands : {N : Type 0} (shape : TurnShape) (last : Operand N) (slots : List (Operand N)) → IsOperand last → All IsOperand slots → All (λ t. IsOperand (operand_in t)) (taken_values shape last slots)
+pub are_operands : {N : Type 0} (shape : ActionShape) (last : Operand N) (slots : List (Operand N)) → IsOperand last → All IsOperand slots → All (λ t. IsOperand (operand_in t)) (taken_values shape last slots)
 are_operands shape last slots h k =
     All-cons (λ t. IsOperand (operand_in t)) (slot_value shape.bits last) (map_list (slot_value shape.slot_bits) slots) h (All-map (λ t. IsOperand (operand_in t)) (slot_value shape.slot_bits) slots k)
 
-pub are_wide : {N : Type 0} (shape : TurnShape) (last : Operand N) (slots : List (Operand N)) → IsWide shape.bits → IsWide shape.slot_bits → All (λ t. IsWide (width_in t)) (taken_values shape last slots)
+pub are_wide : {N : Type 0} (shape : ActionShape) (last : Operand N) (slots : List (Operand N)) → IsWide shape.bits → IsWide shape.slot_bits → All (λ t. IsWide (width_in t)) (taken_values shape last slots)
 are_wide shape last slots h k = All-cons (λ t. IsWide (width_in t)) (slot_value shape.bits last) (map_list (slot_value shape.slot_bits) slots) h (All-map (λ t. IsWide (width_in t)) (slot_value shape.slot_bits) slots (λ i d l. k))
 
 bit_net : (w : Word) (b : Bool) → w.width ≡ 1 → w.value ≡ bit b → w ≡ bit_word b
@@ -84,7 +85,7 @@ abbrev pub IsMade : {P : Type 0} → List (Taken (Name P)) → List (BlockWireTr
 IsMade {P} all ws b = (part : P) (outside : List (Operand (Name P))) → AreWires part outside ws → All (IsAvailable (behind part outside ws)) (map_list operand_in all) → IsRegistered part outside all ws b
 
 module _
-    {P : Type 0} (p : ProgramView) (decls : List MapDecl) (part : P) (shape : TurnShape) (nets : TurnNets P) (rs : List (RecordNets (Name P))) (ws : List (BlockWireTree (Name P))) (chosen : List (Operand (Name P))) (commits stays : Name P) (last : Operand (Name P)) (slots : List (Operand (Name P)))
+    {P : Type 0} (p : ProgramView) (decls : List MapDecl) (part : P) (shape : ActionShape) (nets : ActionNets P) (rs : List (RecordNets (Name P))) (ws : List (BlockWireTree (Name P))) (chosen : List (Operand (Name P))) (commits stays : Name P) (last : Operand (Name P)) (slots : List (Operand (Name P)))
     (b : BlockTree (Name P)) (are : AreRecords p decls rs) (d : HasDecided shape rs chosen last slots) (leads : Decides p decls part shape nets rs [] ws chosen commits stays last slots)
     (made : IsMade (taken_values shape last slots) ws b) where
   abbrev owns : List (Operand (Name P))
@@ -133,7 +134,7 @@ module _
   flat : (made : Name P → Bool) → list_all (wire_flat made) ws ≡ true
   flat made = subst (λ l. list_all (wire_flat made) l ≡ true) (sym leads.apart.added) (leads.apart.free refl made)
 
-  starts : (taken : List ℕ) → All (λ r. slice_index taken r.number ≡ 0) (kept rs) → StoresTurn shape rs 0 taken (first_of b)
+  starts : (taken : List ℕ) → All (λ r. slice_index taken r.number ≡ 0) (kept rs) → StoresAction shape rs 0 taken (first_of b)
   starts taken none = record {
     registers = ap (λ (s : Stored). s.registers) registered.first ∙ ap (λ l. word shape.bits 0 ∷ l) (first_words shape.slot_bits taken slots (kept rs) d.slots_count none);
     memories = ap (λ (s : Stored). s.memories) registered.first;
@@ -142,7 +143,7 @@ module _
   }
 
   -- ---- a clock
-  module _ (i : Signals) (now : ℕ) (taken : List ℕ) (s : Stored) (v : Env (Name P)) (stored : StoresTurn shape rs now taken s) (sees : SeesTurn part nets rs b i s v) where
+  module _ (i : Signals) (now : ℕ) (taken : List ℕ) (s : Stored) (v : Env (Name P)) (stored : StoresAction shape rs now taken s) (sees : SeesAction part nets rs b i s v) where
     long : length s.registers ≡ 1 + length (kept rs)
     long = omega (arith, ap (λ (l : List Word). length l) stored.registers, length-map (kept rs) (slot_word shape.slot_bits taken))
 
@@ -193,7 +194,7 @@ module _
     number_0 : (v.net (name.Register part 0)).value ≡ now
     number_0 = ap (λ (w : Word). w.value) register_0
 
-    module _ (h : Held) (shows : i.present ≡ true → ShowsRecords v p h rs) where
+    module _ (h : StageValues) (shows : i.present ≡ true → ShowsRecords v p h rs) where
       is_there : may_commit i ≡ true → i.present ≡ true
       is_there e = (and_parts i.present (not i.back) (and_parts (i.present && not i.back) (not i.host) e).0).0
 
@@ -202,7 +203,7 @@ module _
           decided.shown h (λ e. shows (is_there (ap may_commit (sym signs) ∙ e)))
           ∙ (λ k. committing (signs k) (first_open (number_0 k) (writes p decls h) (sites_of rs)))
 
-      shown : ShowsTurn i (site_in p decls i now h rs) rs chosen commits stays v
+      shown : ShowsAction i (site_in p decls i now h rs) rs chosen commits stays v
       shown = record {
         each = subst (λ x. ShowsChosen v x rs chosen) site decided.each;
         commits = let f : HasWidth v commits 1 = out_fit 0 (Net commits 1) (omega arith) in bit_net (v.net commits) (is_some (site_in p decls i now h rs)) f.width (decided.commits ∙ ap (λ x. bit (is_some x)) site);
@@ -237,7 +238,7 @@ module _
         left : stored_after v b.statement s ≡ record { registers = map_list (taken_word v) (taken_values shape last slots); memories = [] }
         left = registered.takes v s fits sees.wires (omega (arith, long, length-map slots (slot_value shape.slot_bits), d.slots_count)) stored.memories
 
-        stores : StoresTurn shape rs (done_after i now at) (taken_by p t taken h at) (stored_after v b.statement s)
+        stores : StoresAction shape rs (done_after i now at) (taken_by p t taken h at) (stored_after v b.statement s)
         stores = record {
           registers =
               ap (λ (s : Stored). s.registers) left
@@ -248,8 +249,8 @@ module _
           slots_small = slots_fit v shape.slot_bits (taken_by p t taken h at) slots (kept rs) slots_small slots_are;
         }
 
-  pub is_turn : IsTurn p decls part shape nets rs b chosen commits stays
-  is_turn = record {
+  pub is_action : IsAction p decls part shape nets rs b chosen commits stays
+  is_action = record {
     registers = widths;
     memories = registered.memories;
     count = d.chosen.count;

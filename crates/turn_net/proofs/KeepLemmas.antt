@@ -8,14 +8,15 @@ use Rattle.block_core.specs.declared.name.Name.{Name}
 use Rattle.block_core.specs.declared.name.Name.TheVariants as name
 use Rattle.block_core.specs.Blocks.{BlockWireTree}
 use Rattle.hazard_core.specs.cell_core.Cells.{bit, on, bits_from}
+use Rattle.hazard_core.proofs.cell_core_laws.BitLaws.{small_bits}
 use Rattle.cell_nets.specs.declared.operand.Operand.{Operand}
 use Rattle.cell_nets.specs.declared.operand.Operand.TheVariants.{Net}
 use Rattle.cell_nets.specs.Operands.{number_in, IsOperand, IsAvailable, IsFit, IsNarrow}
 use Rattle.cell_nets.specs.Wires.{HasBits, always, Gives}
 use Rattle.cell_nets.proofs.StepNets.ChainLaws.{starts, next}
-use Rattle.cell_nets.proofs.StepNets.StepLaws.{on_bit, small_bits, narrow_small, choice_small}
+use Rattle.cell_nets.proofs.StepNets.StepLaws.{on_bit, narrow_small, choice_small}
 use Rattle.turn_net.specs.declared.nets.RecordNets.{RecordNets}
-use Rattle.turn_net.specs.Turns.{is_at}
+use Rattle.turn_net.specs.Actions.{is_at}
 use Rattle.turn_net.specs.Nets.{keeps, kept, all_read, slot_operands}
 use Rattle.turn_net.specs.Steps.{Leads, ShowsChosen, slot_at, slots_after}
 use Rattle.turn_net.proofs.StandLemmas.{left_of, right_of, leads_as}

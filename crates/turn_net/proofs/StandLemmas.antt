@@ -1,16 +1,16 @@
--- Wires that stand one behind another, with what is known of several operands.
+-- Wires that stand one after another, with what is known of several operands.
 use Rattle.std.proofs.Common.{◌≡◌, ℕ, ◌+◌, All, List, [], ◌∷◌, ◌++◌, length, length-append, subst, arith}
 use Rattle.std.proofs.lemmas.List.{get_or_append_left, get_or-append-add}
 use Rattle.std.proofs.lemmas.List.Elements.{All-append}
 use Rattle.net_core.specs.Value.{Env}
 use Rattle.block_core.specs.declared.name.Name.{Name}
 use Rattle.block_core.specs.Blocks.{BlockWireTree}
+use Rattle.block_core.proofs.list_laws_laws.AllLaws.{all_one}
 use Rattle.cell_nets.specs.declared.operand.Operand.{Operand}
 use Rattle.cell_nets.specs.Operands.{number_in, IsFit, IsAvailable}
 use Rattle.cell_nets.specs.Wires.{behind, Gives}
-use Rattle.cell_nets.proofs.ApartLemmas.{stay_none, stay_as, stay_next}
-use Rattle.cell_nets.proofs.ChoiceLemmas.{fit_of}
-use Rattle.cell_nets.proofs.GiveLemmas.{all_one}
+use Rattle.cell_nets.proofs.ApartLaws.{stay_none, stay_as, stay_next}
+use Rattle.cell_nets.proofs.ChoiceLaws.{fit_of}
 use Rattle.turn_net.specs.Steps.{Leads}
 
 -- ---- of several some
@@ -47,7 +47,7 @@ module _ {P : Type 0} {p : P} {old mid : List (BlockWireTree (Name P))} where
       apart = stay_next p old mid mid args outs outs more (λ ins h k. k) x.apart (stay_none p mid outs more sub);
     }
 
-    -- more wires behind them
+    -- more wires after them
     pub then_leads :
         {new : List (BlockWireTree (Name P))} {bs more : List (Operand (Name P))} {said : Env (Name P) → Type 0} → Leads p mid new bs more said → ((ins : List (Operand (Name P))) → All (IsAvailable ins) outs → All (IsAvailable ins) bs)
         → Leads p old new args (more ++ outs) (λ v. knows v × said v)

@@ -3,5 +3,4 @@ pub mod FreeLemmas
 pub mod TableLemmas
 pub mod TargetLemmas
 pub mod CommitLemmas
-pub mod TargetLaws
 pub mod CommitLaws

@@ -1,7 +1,7 @@
 pub use Rattle.cell_nets.specs as cell_nets
-pub mod Turns
+pub mod Actions
 pub mod Nets
 pub mod Steps
-pub mod Turn
+pub mod Action
 pub mod HostNet
 pub mod TargetNet

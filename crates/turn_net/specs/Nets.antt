@@ -11,16 +11,16 @@ use Rattle.hazard_core.specs.cell_core.declared.site.Act.{Act}
 use Rattle.hazard_core.specs.cell_core.declared.site.Act.TheVariants as act
 use Rattle.hazard_core.specs.cell_core.Cells.{on}
 use Rattle.hazard_core.specs.cell_core.Sites.{ProgramView}
-use Rattle.hazard_core.specs.Held.{Held}
+use Rattle.hazard_core.specs.StageValues.{StageValues}
 use Rattle.cell_nets.specs.declared.operand.Operand.{Operand}
 use Rattle.cell_nets.specs.declared.operand.Operand.TheVariants.{Net}
 use Rattle.cell_nets.specs.Operands.{IsOperand, IsNarrow}
 use Rattle.overlay_net.specs.SiteOperands.Sites.{operands_of, all_of, ShowsSite}
 use Rattle.overlay_net.specs.Reading.{IsSite}
 use Rattle.turn_net.specs.declared.nets.RecordNets.{RecordNets}
-use Rattle.turn_net.specs.declared.nets.TurnNets.{TurnNets}
-use Rattle.turn_net.specs.declared.nets.TurnShape.{TurnShape}
-use Rattle.turn_net.specs.Turns.{Signals}
+use Rattle.turn_net.specs.declared.nets.ActionNets.{ActionNets}
+use Rattle.turn_net.specs.declared.nets.ActionShape.{ActionShape}
+use Rattle.turn_net.specs.Actions.{Signals}
 
 abbrev pub number_of : {N : Type 0} → RecordNets N → ℕ
 number_of r = r.number
@@ -53,7 +53,7 @@ all_read (r ∷ rs) = read_of r ++ all_read rs
 abbrev pub HasOperands : {N : Type 0} → RecordNets N → Type 0
 HasOperands r = All IsOperand (read_of r)
 
--- the number behind a site has so many bits
+-- the number after a site has so many bits
 abbrev pub IsNumbered : {N : Type 0} → ℕ → RecordNets N → Type 0
 IsNumbered bits r = r.number + 1 < 2 ^ bits
 
@@ -67,17 +67,17 @@ pub record AreRecords {N : Type 0} (p : ProgramView) (decls : List MapDecl) (rs 
   pub rising : (i k : ℕ) (d : RecordNets N) → i < k → k < length rs → (get_or rs i d).number < (get_or rs k d).number
 
 -- their operands stand for the cells that a packet holds
-abbrev pub ShowsRecords : {N : Type 0} → Env N → ProgramView → Held → List (RecordNets N) → Type 0
+abbrev pub ShowsRecords : {N : Type 0} → Env N → ProgramView → StageValues → List (RecordNets N) → Type 0
 ShowsRecords v p h rs = All (λ r. ShowsSite v p h r.number (operands_of r.nets.now)) rs
 
 -- ---- the nets of other parts
-abbrev pub signals : {P : Type 0} → TurnNets P → List (Operand (Name P))
+abbrev pub signals : {P : Type 0} → ActionNets P → List (Operand (Name P))
 signals nets = Net nets.present 1 ∷ Net nets.back 1 ∷ Net nets.host 1 ∷ []
 
-abbrev pub outside : {P : Type 0} → TurnNets P → List (RecordNets (Name P)) → List (Operand (Name P))
+abbrev pub outside : {P : Type 0} → ActionNets P → List (RecordNets (Name P)) → List (Operand (Name P))
 outside nets rs = signals nets ++ all_read rs
 
-abbrev pub signals_in : {P : Type 0} → TurnNets P → Env (Name P) → Signals
+abbrev pub signals_in : {P : Type 0} → ActionNets P → Env (Name P) → Signals
 signals_in nets v = record { present = on (v.net nets.present).value; back = on (v.net nets.back).value; host = on (v.net nets.host).value }
 
 -- ---- its registers: how far the packet is, and the slots that updates took, from a number on
@@ -88,5 +88,5 @@ abbrev pub slot_operands : {P : Type 0} → P → ℕ → ℕ → ℕ → List (
 slot_operands part bits at zero = []
 slot_operands part bits at (suc n) = Net (name.Register part at) bits ∷ slot_operands part bits (suc at) n
 
-abbrev pub own_operands : {P : Type 0} → P → TurnShape → List (RecordNets (Name P)) → List (Operand (Name P))
+abbrev pub own_operands : {P : Type 0} → P → ActionShape → List (RecordNets (Name P)) → List (Operand (Name P))
 own_operands part shape rs = done_operand part shape.bits ∷ slot_operands part shape.slot_bits 1 (length (kept rs))

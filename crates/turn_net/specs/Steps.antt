@@ -8,21 +8,21 @@ use Rattle.block_core.specs.Blocks.{BlockWireTree}
 use Rattle.hazard_core.specs.xdp_maps.declared.decl.MapDecl.{MapDecl}
 use Rattle.hazard_core.specs.cell_core.Cells.{bit, on}
 use Rattle.hazard_core.specs.cell_core.Sites.{ProgramView}
-use Rattle.hazard_core.specs.Held.{Held, writes}
+use Rattle.hazard_core.specs.StageValues.{StageValues, writes}
 use Rattle.cell_nets.specs.declared.operand.Operand.{Operand}
 use Rattle.cell_nets.specs.declared.operand.Operand.TheVariants.{Net}
 use Rattle.cell_nets.specs.Operands.{number_in, IsOperand}
 use Rattle.cell_nets.specs.Wires.{HasBits, always}
-use Rattle.cell_nets.proofs.StepNets.ChainLaws.{Stands}
+use Rattle.cell_nets.specs.StepNets.Standing.{Stands}
 use Rattle.cell_nets.specs.declared.operand_blocks.registers.Taken.{Taken}
 use Rattle.turn_net.specs.declared.nets.RecordNets.{RecordNets}
-use Rattle.turn_net.specs.declared.nets.TurnNets.{TurnNets}
+use Rattle.turn_net.specs.declared.nets.ActionNets.{ActionNets}
 use Rattle.turn_net.specs.declared.choosing.Step.{Step}
-use Rattle.turn_net.specs.Turns.{first_open, may_commit, committing, is_at, behind_site, done_after}
-use Rattle.turn_net.specs.declared.nets.TurnShape.{TurnShape}
+use Rattle.turn_net.specs.Actions.{first_open, may_commit, committing, is_at, behind_site, done_after}
+use Rattle.turn_net.specs.declared.nets.ActionShape.{ActionShape}
 use Rattle.turn_net.specs.Nets.{sites_of, kept, outside, own_operands, ShowsRecords, signals_in}
 
--- Whatever stands behind earlier wires, behind the new ones stand these operands, of which something is known.
+-- Whatever stands after earlier wires, after the new ones stand these operands, of which something is known.
 abbrev pub Leads : {P : Type 0} → P → List (BlockWireTree (Name P)) → List (BlockWireTree (Name P)) → List (Operand (Name P)) → List (Operand (Name P)) → (Env (Name P) → Type 0) → Type 0
 Leads p old new args outs knows = Stands p old new args always outs knows
 
@@ -51,10 +51,10 @@ IsBelow n (Some j) = j < n
 abbrev pub ShowsChosen : {N : Type 0} → Env N → Option ℕ → List (RecordNets N) → List (Operand N) → Type 0
 ShowsChosen v site rs chosen = (k : ℕ) (d : Operand _) (r : RecordNets _) → k < length rs → number_in v (get_or chosen k d) ≡ bit (is_at site (get_or rs k r).number)
 
--- This is the first open one, if one may commit. Behind it none may, and the packet is through with it.
+-- This is the first open one, if one may commit. After it none may, and the packet is through with it.
 pub record AreChosen {N : Type 0} (p : ProgramView) (decls : List MapDecl) (v : Env N) (may : Bool) (now rest : ℕ) (rs : List (RecordNets N)) (chosen : List (Operand N)) (last : Step N) : Type 0 where
   pub site : Option ℕ
-  pub shown : (h : Held) → (may ≡ true → ShowsRecords v p h rs) → site ≡ (if may then first_open now (writes p decls h) (sites_of rs) else None)
+  pub shown : (h : StageValues) → (may ≡ true → ShowsRecords v p h rs) → site ≡ (if may then first_open now (writes p decls h) (sites_of rs) else None)
   pub within : (n : ℕ) → All (λ r. r.number < n) rs → IsBelow n site
   pub each : ShowsChosen v site rs chosen
   pub free : number_in v last.free ≡ bit (may && not (is_some site))
@@ -79,9 +79,9 @@ abbrev pub AreSlots : {P : Type 0} → Env (Name P) → P → List (RecordNets (
 AreSlots v part rs chosen slots = (site : Option ℕ) → ShowsChosen v site rs chosen → map_list (number_in v) slots ≡ slots_after v part site 1 (kept rs)
 
 -- ---- all of it
-pub record IsDecided {P : Type 0} (p : ProgramView) (decls : List MapDecl) (part : P) (nets : TurnNets P) (rs : List (RecordNets (Name P))) (chosen : List (Operand (Name P))) (one stay : Name P) (last : Operand (Name P)) (taken : List (Operand (Name P))) (v : Env (Name P)) : Type 0 where
+pub record IsDecided {P : Type 0} (p : ProgramView) (decls : List MapDecl) (part : P) (nets : ActionNets P) (rs : List (RecordNets (Name P))) (chosen : List (Operand (Name P))) (one stay : Name P) (last : Operand (Name P)) (taken : List (Operand (Name P))) (v : Env (Name P)) : Type 0 where
   pub site : Option ℕ
-  pub shown : (h : Held) → (may_commit (signals_in nets v) ≡ true → ShowsRecords v p h rs) → site ≡ committing (signals_in nets v) (first_open (v.net (name.Register part 0)).value (writes p decls h) (sites_of rs))
+  pub shown : (h : StageValues) → (may_commit (signals_in nets v) ≡ true → ShowsRecords v p h rs) → site ≡ committing (signals_in nets v) (first_open (v.net (name.Register part 0)).value (writes p decls h) (sites_of rs))
   pub each : ShowsChosen v site rs chosen
   pub commits : (v.net one).value ≡ bit (is_some site)
   pub stays : (v.net stay).value ≡ bit (is_some site || on (v.net nets.host).value)
@@ -89,7 +89,7 @@ pub record IsDecided {P : Type 0} (p : ProgramView) (decls : List MapDecl) (part
   pub slots : map_list (number_in v) taken ≡ slots_after v part site 1 (kept rs)
 
 -- the operands of it
-pub record HasDecided {N : Type 0} (shape : TurnShape) (rs : List (RecordNets N)) (each : List (Operand N)) (last : Operand N) (slots : List (Operand N)) : Type 0 where
+pub record HasDecided {N : Type 0} (shape : ActionShape) (rs : List (RecordNets N)) (each : List (Operand N)) (last : Operand N) (slots : List (Operand N)) : Type 0 where
   pub chosen : HasChosen rs each
   pub done : IsOperand last
   pub done_bits : HasBits shape.bits last
@@ -98,7 +98,7 @@ pub record HasDecided {N : Type 0} (shape : TurnShape) (rs : List (RecordNets N)
   pub slot_bits : All (HasBits shape.slot_bits) slots
 
 -- its nets, over the part's registers and what comes from outside
-abbrev pub Decides : {P : Type 0} → ProgramView → List MapDecl → P → TurnShape → TurnNets P → List (RecordNets (Name P)) → List (BlockWireTree (Name P)) → List (BlockWireTree (Name P)) → List (Operand (Name P)) → Name P → Name P → Operand (Name P) → List (Operand (Name P)) → Type 0
+abbrev pub Decides : {P : Type 0} → ProgramView → List MapDecl → P → ActionShape → ActionNets P → List (RecordNets (Name P)) → List (BlockWireTree (Name P)) → List (BlockWireTree (Name P)) → List (Operand (Name P)) → Name P → Name P → Operand (Name P) → List (Operand (Name P)) → Type 0
 Decides p decls part shape nets rs old new chosen commits stays done slots =
     Leads part old new (own_operands part shape rs ++ outside nets rs) ((Net commits 1 ∷ Net stays 1 ∷ chosen) ++ done ∷ slots) (IsDecided p decls part nets rs chosen commits stays done slots)
 
@@ -106,5 +106,5 @@ Decides p decls part shape nets rs old new chosen commits stays done slots =
 abbrev pub slot_value : {N : Type 0} → ℕ → Operand N → Taken N
 slot_value bits a = record { operand = a; width = bits }
 
-abbrev pub taken_values : {N : Type 0} → TurnShape → Operand N → List (Operand N) → List (Taken N)
+abbrev pub taken_values : {N : Type 0} → ActionShape → Operand N → List (Operand N) → List (Taken N)
 taken_values shape done slots = slot_value shape.bits done ∷ map_list (slot_value shape.slot_bits) slots

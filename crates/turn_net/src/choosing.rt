@@ -4,16 +4,16 @@ ghost use Rattle.std.specs.Prelude.{List, [], ◌∷◌, ◌++◌, ◌≡◌, �
 ghost use Rattle.hazard_core.specs.xdp_maps.declared.decl.MapDecl.{MapDecl};
 ghost use Rattle.hazard_core.specs.cell_core.Cells.{bit, on};
 ghost use Rattle.hazard_core.specs.cell_core.Sites.{ProgramView};
-ghost use Rattle.hazard_core.specs.Held.{Held, writes};
+ghost use Rattle.hazard_core.specs.StageValues.{StageValues, writes};
 ghost use Rattle.cell_nets.specs.Operands.{IsOperand, IsWide, number_in};
 ghost use Rattle.cell_nets.specs.Wires.{wires_of, Gives};
 ghost use Rattle.overlay_net.specs.SiteOperands.Sites.{operands_of, ShowsSite};
 ghost use Rattle.overlay_net.specs.Reading.{IsSite};
-ghost use Rattle.turn_net.specs.Turns.{may_commit};
+ghost use Rattle.turn_net.specs.Actions.{may_commit};
 ghost use Rattle.turn_net.specs.Nets.{site_read, all_read, HasOperands, IsNumbered, AreRecords, signals, signals_in, done_operand};
 ghost use Rattle.turn_net.specs.Steps.{Leads, HasSteps, IsStep, HasChosen, AreChosen};
 
-use crate::nets::{RecordNets, TurnNets};
+use crate::nets::{ActionNets, RecordNets};
 use block_core::block::BlockWire;
 use block_core::name::Name;
 use cell_nets::operand::Operand;
@@ -21,7 +21,7 @@ use cell_nets::step_nets::{at_most, both, choose, without};
 use overlay_net::writing::writes;
 use std::alloc::{AllocError, Global};
 
-/// What is known behind an operation that has had its turn: whether it commits, whether a later one may, and how far the packet is then.
+/// What is known after an operation that has had its turn: whether it commits, whether a later one may, and how far the packet is then.
 #[derive(Copy, Clone)]
 pub struct Step<N> {
     pub chosen: Operand<N>,
@@ -29,7 +29,7 @@ pub struct Step<N> {
     pub done: Operand<N>,
 }
 
-/// Of each operation whether it commits, and what is known behind the last.
+/// Of each operation whether it commits, and what is known after the last.
 #[derive(Drop)]
 pub struct Choices<N> {
     pub chosen: Vec<Operand<N>>,
@@ -43,7 +43,7 @@ pub(crate) fn start<P: Copy>(
     wires: &mut Vec<BlockWire<Name<P>>>,
     part: P,
     bits: u8,
-    nets: &TurnNets<P>,
+    nets: &ActionNets<P>,
 ) -> Result<Step<Name<P>>, AllocError>
     requires { IsWide bits }
     ensures has { IfOk result (HasSteps bits) }
@@ -71,7 +71,7 @@ fn opened<P: Copy>(
     requires operands { All IsOperand (site_read site.now) }
     requires done { IsOperand done }
     ensures operand { IfOk result IsOperand }
-    ensures given { (p : ProgramView) (decls : List MapDecl) (h : Held) → IsSite p decls site.now.number site.now.act site.now.decl.now → IfOk result (Gives part (wires_of wires.old.items) (wires_of wires.new.items) (done ∷ site_read site.now) (λ v. ShowsSite v p h site.now.number (operands_of site.now.nets.now)) (λ v. bit (nat_le (number_in v done) site.now.number && writes p decls h site.now.number)) 1) }
+    ensures given { (p : ProgramView) (decls : List MapDecl) (h : StageValues) → IsSite p decls site.now.number site.now.act site.now.decl.now → IfOk result (Gives part (wires_of wires.old.items) (wires_of wires.new.items) (done ∷ site_read site.now) (λ v. ShowsSite v p h site.now.number (operands_of site.now.nets.now)) (λ v. bit (nat_le (number_in v done) site.now.number && writes p decls h site.now.number)) 1) }
 {
     let wrote = writes(alloc, wires, part, site.act, site.decl, site.nets)?;
     let number = Operand::Known(site.number as u64);

@@ -20,7 +20,7 @@ pub struct RecordNets<'a, N> {
 
 /// The nets of other parts, each of one bit: a packet stands at the commit place, it is sent back, and the host writes.
 #[derive(Clone, Copy, PartialEq, Eq, Debug)]
-pub struct TurnNets<P> {
+pub struct ActionNets<P> {
     pub present: Name<P>,
     pub back: Name<P>,
     pub host: Name<P>,
@@ -28,14 +28,14 @@ pub struct TurnNets<P> {
 
 /// How many bits the register has that says how far the packet is, and how many the number of a slot.
 #[derive(Clone, Copy, PartialEq, Eq, Debug)]
-pub struct TurnShape {
+pub struct ActionShape {
     pub bits: u8,
     pub slot_bits: u8,
 }
 
 /// The block, with what it shows: of each record whether it commits, whether one does, and whether the packets stay where they are.
 #[derive(Drop)]
-pub struct Turn<P: Drop> {
+pub struct Action<P: Drop> {
     pub block: Block<Name<P>>,
     pub chosen: Vec<Operand<Name<P>>>,
     pub commits: Name<P>,

@@ -1,15 +1,12 @@
 -- What the tables say of loops.
-use Rattle.std.proofs.Common.{◌≡◌, ℕ, zero, suc, ◌+◌, ◌≤◌, ◌<◌, ◌⊎◌, inl, inr, ◌&&◌, leb, ltb, Bool, true, false, List, [], ◌∷◌, ◌++◌, length, take, replicate, get_or, set, Option, Some, None, Result, Ok, Err, drop, min, refl, sym, ◌∙◌, ap, subst, arith}
-use Rattle.std.specs.Prelude.{MatchOption, IfOk, if◌then◌else◌, slice_set}
-use Rattle.std.specs.List.{Contains}
-use Rattle.std.proofs.lemmas.List.{get_or_default, get_or_past, length-set, get_or-set_same, get_or-set_other, get_or-replicate, get_or-take, length-take-le, drop_all, take_all, append-nil}
-use Rattle.std.proofs.lemmas.List.Elements.{All-push, All-weaker, Contains-append_left, Contains-push}
-use Rattle.std.proofs.lemmas.List.Quantifiers.{all_pairs_push}
+use Rattle.std.proofs.Common.{◌≡◌, ℕ, ◌+◌, ◌≤◌, ◌<◌, inl, inr, ◌&&◌, leb, ltb, Bool, true, false, List, ◌++◌, length, take, get_or, set, Option, Some, None, drop, min, refl, sym, ◌∙◌, ap, subst, arith}
+use Rattle.std.specs.Prelude.{MatchOption, if◌then◌else◌, slice_set}
+use Rattle.std.proofs.lemmas.List.{get_or_default, length-set, get_or-set_same, get_or-set_other, get_or-take, length-take-le, drop_all, take_all, append-nil}
 use Rattle.std.proofs.lemmas.Bool.{cases_lt, cases_eq, and_parts, and_from, both_ways, leb-true, ltb-true, le-leb, lt-ltb}
 use Rattle.xdp_machine.specs.bpf_isa.declared.instruction.Insn.{Insn}
 use Rattle.unfold_core.specs.declared.nesting.Loop.{Loop}
 use Rattle.unfold_core.specs.Jumps.{target_of}
-use Rattle.unfold_core.specs.Tables.{target_in, IsLast, AreLast, recorded, AreListed, AreLoopsBelow, loop, Crosses, IsCrossed, IsCrossedAt, IsLeastCrossed}
+use Rattle.unfold_core.specs.Tables.{target_in, IsLast, AreLast, recorded, AreListed, AreLoopsBelow, Crosses, IsCrossed, IsCrossedAt, IsLeastCrossed}
 
 -- ---- the last jump to each head
 
@@ -32,22 +29,6 @@ last_more leads n head (Some last) h never = (
 -- one more, which does
 pub last_here : (leads : ℕ → Option ℕ) (n head : ℕ) → head ≤ n → leads n ≡ Some head → IsLast leads (n + 1) head (Some n)
 last_here leads n head h e = (h, omega arith, e, λ place below q. omega arith)
-
-abbrev nones : ℕ → List (Option ℕ)
-nones n = replicate n None
-
-length-nones : (n : ℕ) → length (nones n) ≡ n
-length-nones zero = refl
-length-nones (suc n) = ap suc (length-nones n)
-
-pub last_none : (leads : ℕ → Option ℕ) (n : ℕ) (last : List (Option ℕ)) → last ≡ nones n → AreLast leads 0 last
-last_none leads n last e = record {
-  each = λ head below. subst (λ o. IsLast leads 0 head o) (sym (empty head (cases_lt head n))) (λ place from under q. absurd (omega arith));
-}
-  where
-    empty : (head : ℕ) → (head < n) ⊎ (n ≤ head) → get_or last head None ≡ None
-    empty head (inl lt) = ap (λ xs. get_or xs head None) e ∙ get_or-replicate n head None None lt
-    empty head (inr ge) = ap (λ xs. get_or xs head None) e ∙ get_or_past (nones n) head None (omega (arith, length-nones n))
 
 pub recorded_length : (last : List (Option ℕ)) (place : ℕ) (to : Option ℕ) → length (recorded last place to) ≡ length last
 recorded_length last place None = refl
@@ -86,41 +67,6 @@ recorded_last leads n last (Some to) h e = by_test (leb to n && ltb to (length l
     }
 
 -- ---- the list of the loops
-
-pub listed_none : (last : List (Option ℕ)) (ls : List Loop) → ls ≡ [] → AreListed last 0 ls
-listed_none last ls e = subst (λ xs. AreListed last 0 xs) (sym e) (record {
-  each = λ k d below. absurd (omega arith);
-  ascending = λ i j d up below. absurd (omega arith);
-  all = λ head x below q. absurd (omega arith);
-})
-
-pub listed_more : (last : List (Option ℕ)) (n e : ℕ) (ls : List Loop) → AreListed last n ls → get_or last n None ≡ Some e → AreListed last (n + 1) (ls ++ loop n e ∷ [])
-listed_more last n e ls h at = record {
-  each = All-push (λ l. (l.head < n + 1) × (get_or last l.head None ≡ Some l.last)) ls (loop n e)
-      (All-weaker (λ l. (l.head < n) × (get_or last l.head None ≡ Some l.last)) (λ l. (l.head < n + 1) × (get_or last l.head None ≡ Some l.last)) (λ l x. (omega (arith, x.0), x.1)) ls h.each) (omega arith, at);
-  ascending = all_pairs_push (λ l m. l.head < m.head) ls (loop n e) h.ascending (λ k d below. (h.each k d below).0);
-  all = λ head x below q. elim (cases_lt head n) [
-    | inl lt ↦ Contains-append_left ls (loop n e ∷ []) (loop head x) (h.all head x lt q)
-    | inr ge ↦
-        let same : n ≡ head = omega arith in
-        let here : Some e ≡ Some x = sym at ∙ ap (λ t. get_or last t None) same ∙ q in
-        let ends : e ≡ x = cc in
-        subst (λ l. Contains (ls ++ loop n e ∷ []) l) (ap (λ t. loop t e) same ∙ ap (λ t. loop head t) ends) (Contains-push ls (loop n e))
-  ];
-}
-
-pub listed_skip : (last : List (Option ℕ)) (n : ℕ) (ls : List Loop) → AreListed last n ls → get_or last n None ≡ None → AreListed last (n + 1) ls
-listed_skip last n ls h at = record {
-  each = All-weaker (λ l. (l.head < n) × (get_or last l.head None ≡ Some l.last)) (λ l. (l.head < n + 1) × (get_or last l.head None ≡ Some l.last)) (λ l x. (omega (arith, x.0), x.1)) ls h.each;
-  ascending = h.ascending;
-  all = λ head x below q. elim (cases_lt head n) [
-    | inl lt ↦ h.all head x lt q
-    | inr ge ↦
-        let same : n ≡ head = omega arith in
-        let bad : None ≡ Some x = sym at ∙ ap (λ t. get_or last t None) same ∙ q in
-        absurd (cc)
-  ];
-}
 
 -- there is one last place
 only_last : (leads : ℕ → Option ℕ) (bound head e : ℕ) (o : Option ℕ) → IsLast leads bound head (Some e) → IsLast leads bound head o → o ≡ Some e
@@ -212,7 +158,3 @@ recorded_at units place x last old new below same h e =
 pub written : {X : Type 0} (new old : List X) (len : ℕ) → length new ≡ length old → len ≡ length old → take len (new ++ drop (length new) old) ≡ new
 written new old len e f =
     ap (λ xs. take len (new ++ xs)) (drop_all (length new) old (omega (arith, e))) ∙ ap (take len) (append-nil new) ∙ take_all len new (omega (arith, e, f))
-
-pub if_ok : {T E : Type 0} (P Q : T → Type 0) (r : Result T E) → ((x : T) → P x → Q x) → IfOk r P → IfOk r Q
-if_ok P Q (Ok x) f h = f x h
-if_ok P Q (Err e) f h = h

@@ -6,7 +6,7 @@ use Rattle.std.proofs.lemmas.List.{get_or_default, get_or-take, length-take-le}
 use Rattle.std.proofs.lemmas.Bool.{cases_lt, cases_order, or_cases, or_parts, ltb-true, ltb-false, leb-true, leb-false}
 use Rattle.xdp_machine.specs.bpf_isa.declared.instruction.Insn.{Insn}
 use Rattle.xdp_machine.specs.bpf_isa.Text.{unit_count}
-use Rattle.kind_core.specs.declared.why.Refusal.{Refusal}
+use Rattle.xdp_state.specs.declared.refusal.Refusal.{Refusal}
 use Rattle.unfold_core.specs.declared.nesting.Loop.{Loop}
 use Rattle.unfold_core.specs.Units.{AreUnits}
 use Rattle.unfold_core.specs.Jumps.{target_of, target}
@@ -95,7 +95,7 @@ listed_crossing insns units heads ls k e d t below (i, in_front, across) last =
       why_is = refl;
     }
 
--- the least crossing, where it is not behind the most units
+-- the least crossing, where it is not after the most units
 first_crossing : (insns : List Insn) (units : List (Option Insn)) (heads : ℕ) (ls : List Loop) (e : ℕ) → Tabled insns units heads ls → IsLeastCrossed ls (length ls) (Some e) → (e < 4096) ⊎ (length units ≤ 4096)
     → IsFirstPlace insns (crossing e)
 first_crossing insns units heads ls e t h short =

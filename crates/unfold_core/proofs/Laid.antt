@@ -19,7 +19,7 @@ laid_all is n units e all =
       same = λ place. ap (λ us. get_or us place None) whole ∙ sym (insn_at-laid is place);
     }
 
--- no instruction begins behind the last unit
+-- no instruction begins after the last unit
 pub none_behind : (is : List Insn) (place : ℕ) → unit_count is ≤ place → insn_at is place ≡ None
 none_behind is place h = insn_at-laid is place ∙ get_or_past (laid is) place None (omega (arith, length-laid is))
 

@@ -4,16 +4,16 @@ use Rattle.std.specs.List.{AllPairs, Contains}
 use Rattle.std.specs.Prelude.{IfErr, IsErrOf}
 use Rattle.xdp_machine.specs.bpf_isa.declared.instruction.Insn.{Insn}
 use Rattle.xdp_machine.specs.Program.{XdpProgram}
-use Rattle.kind_core.specs.declared.why.Refusal.{Refusal}
-use Rattle.kind_core.specs.declared.why.BuildError.{BuildError}
-use Rattle.kind_core.specs.declared.why.BuildError.TheVariants.{Refused, NoMemory}
+use Rattle.xdp_state.specs.declared.refusal.Refusal.{Refusal}
+use Rattle.xdp_state.specs.declared.refusal.BuildError.{BuildError}
+use Rattle.xdp_state.specs.declared.refusal.BuildError.TheVariants.{Refused, NoMemory}
 use Rattle.unfold_core.specs.declared.nesting.Loop.{Loop}
 use Rattle.unfold_core.specs.declared.unfolding.Unfolded.{Unfolded}
 use Rattle.unfold_core.specs.Loops.{IsLoop, AreLoops, IsFirstPlace, Precedes}
 use Rattle.unfold_core.specs.Graphs.{IsFirstNode, IsGraph}
 use Rattle.unfold_core.specs.Unfolding.{Unfolds, IsUnfolded}
 use Rattle.unfold_core.specs.Acceptance.{IsAccepted, IsFirstRefusal, HasOneOutcome}
-use Rattle.unfold_core.proofs.OneGraph.{same_refusal, has_one_refusal, has_not_both}
+use Rattle.unfold_core.proofs.OneGraphLaws.{same_refusal, has_one_refusal, has_not_both}
 
 -- ---- loops with ascending heads are one list
 abbrev Rising : List Loop → Type 0
@@ -37,7 +37,7 @@ head_same x y xs ys a b (inl e) g = sym e
 head_same x y xs ys a b (inr f) (inl e) = e
 head_same x y xs ys a b (inr f) (inr g) = absurd (omega (arith, rises x xs y a g, rises y ys x b f))
 
--- what is behind one head is behind the other
+-- what is after one head is after the other
 tail_in : (x y : Loop) (xs ys : List Loop) → Rising (x ∷ xs) → x ≡ y → (z : Loop) → Contains xs z → (y ≡ z) ⊎ Contains ys z → Contains ys z
 tail_in x y xs ys a same z there (inl e) = absurd (omega (arith, rises x xs z a there, ap (λ (l : Loop). l.head) (same ∙ e)))
 tail_in x y xs ys a same z there (inr f) = f

@@ -8,7 +8,7 @@ use Rattle.unfold_core.specs.declared.nesting.Loop.{Loop}
 use Rattle.unfold_core.specs.Loops.{holds, Nests}
 use Rattle.unfold_core.specs.Nodes.{GraphNode, first, rest, IsCopy, AreCopies, IsNode, copies_before, comes_before, next_copy, next_copies, fits}
 
--- ---- where a place stands to a loop: before it, in a copy of it, or behind it
+-- ---- where a place stands to a loop: before it, in a copy of it, or after it
 
 abbrev pub side : Loop → ℕ → ℕ → ℕ
 side l p c = if ltb p l.head then 0 else (if leb p l.last then c + 1 else 66)
@@ -155,7 +155,7 @@ by_loop l ls p q cs ds n s t later = by_sides
     both_outside : Shared p q l → side l p (first cs) ≡ side l q (first ds) → copies_before (l ∷ ls) p cs q ds ≡ key_before (key (l ∷ ls) p cs) (key (l ∷ ls) q ds)
     both_outside h e = skipped h ∙ later ∙ sym (lex_same (side l p (first cs)) (side l q (first ds)) (key_before (key ls p (rest cs)) (key ls q (rest ds))) e)
 
-    -- the loops behind or inside l hold no place before it
+    -- the loops after or inside l hold no place before it
     none_before : (x : ℕ) → x < l.head → All (λ m. holds m x ≡ false) ls
     none_before x h = All-weaker (Nests l) (λ m. holds m x ≡ false) (λ m k. holds_before m x (omega (arith, k.0))) ls (nested_first l ls n)
 
@@ -165,7 +165,7 @@ by_loop l ls p q cs ds n s t later = by_sides
     apart_right : Shared p q l → All (λ m. holds m q ≡ false) ls → copies_before (l ∷ ls) p cs q ds ≡ ltb p q
     apart_right h k = skipped h ∙ unshared ls p q (rest cs) (rest ds) (All-weaker (λ m. holds m q ≡ false) (Shared p q) (λ m e. and_right (holds m p) (holds m q) e) ls k)
 
-    -- none of them holds a place of l and one behind it
+    -- none of them holds a place of l and one after it
     none_across : (x y : ℕ) → x ≤ l.last → l.last < y → All (λ m. (holds m x ≡ false) ⊎ (holds m y ≡ false)) ls
     none_across x y h k = All-weaker (Nests l) (λ m. (holds m x ≡ false) ⊎ (holds m y ≡ false))
         (λ m e. elim e.1 [ inl a ↦ inl (holds_before m x (omega arith)) | inr a ↦ inr (holds_behind m y (omega arith)) ]) ls (nested_first l ls n)

@@ -1,8 +1,7 @@
 -- The runs of a program that unfolds: at each node of its graph a step ends the run, or goes along an edge to a later node.
-use Rattle.std.proofs.Common.{◌≡◌, ℕ, zero, suc, ℤ, pos, negsuc, ◌+◌, ◌+ℤ◌, ◌≤◌, ◌<◌, ◌==◌, ◌⊎◌, inl, inr, not, Bool, true, false, List, [], ◌∷◌, length, get_or, Option, Some, None, Ok, refl, sym, ◌∙◌, ap, subst, arith}
-use Rattle.std.specs.Prelude.{All, IfSome, if◌then◌else◌}
+use Rattle.std.proofs.Common.{◌≡◌, ℕ, zero, suc, ℤ, pos, negsuc, ◌+◌, ◌+ℤ◌, ◌≤◌, ◌<◌, ◌==◌, ◌⊎◌, inl, inr, not, Bool, true, false, List, length, get_or, Option, Some, None, Ok, refl, sym, ◌∙◌, ap, subst, arith}
+use Rattle.std.specs.Prelude.{IfSome, if◌then◌else◌}
 use Rattle.std.specs.List.{Contains, list_any}
-use Rattle.std.proofs.lemmas.List.Elements.{All-head, All-tail}
 use Rattle.xdp_machine.specs.bpf_isa.declared.operation.Width.TheVariants.{Bits32, Bits64}
 use Rattle.xdp_machine.specs.bpf_isa.declared.operation.Width.{Width}
 use Rattle.xdp_machine.specs.bpf_isa.declared.operation.JumpCode.{JumpCode}
@@ -13,13 +12,12 @@ use Rattle.xdp_machine.specs.bpf_isa.declared.instruction.Insn.{Insn}
 use Rattle.xdp_machine.specs.bpf_isa.Spelling.{units_of, IsInsn}
 use Rattle.xdp_machine.specs.bpf_isa.Text.{insn_at}
 use Rattle.xdp_machine.proofs.bpf_isa_laws.LaidLaws.{legal_at}
-use Rattle.xdp_machine.specs.xdp_maps.declared.decl.MapDecl.{MapDecl}
 use Rattle.xdp_machine.specs.Values.{Value}
 use Rattle.xdp_machine.specs.Values as is
 use Rattle.xdp_machine.specs.State.{Code, Machine, begins}
 use Rattle.xdp_machine.specs.State as machine
 use Rattle.xdp_machine.specs.Step.{Goes, Ends, NoCase, step, goes_to}
-use Rattle.xdp_machine.specs.Program.{XdpProgram, program_code, IsProgram, IsDeclaration}
+use Rattle.xdp_machine.specs.Program.{XdpProgram, program_code, IsProgram}
 use Rattle.xdp_machine.specs.Runs.{Leaves, leaves, run, then_on, Ended}
 use Rattle.xdp_machine.specs.MachineLaws.{StepsChangeOnly}
 use Rattle.kind_core.specs.declared.kind.Kinds.{Kinds}
@@ -30,6 +28,7 @@ use Rattle.kind_core.specs.Edges.{decided, decided_as, transferred}
 use Rattle.kind_core.specs.Describes.{World, DescribesMachine, StartIsDescribed, JoinDescribes}
 use Rattle.kind_core.specs.Soundness.{StepsAreSound, LaterDescribes, IsLater, IsNext, Leads as StepLeads, GoesOn, target}
 use Rattle.kind_core.proofs.TransferLaws.{is_jump, transferred_fixed}
+use Rattle.kind_core.proofs.SizeLaws.{small_values}
 use Rattle.unfold_core.specs.declared.nesting.Loop.{Loop}
 use Rattle.unfold_core.specs.declared.edges.Point.{Point}
 use Rattle.unfold_core.specs.declared.links.Edge.{Edge}
@@ -60,11 +59,6 @@ pub record Laws : Type 0 where
   pub changes : StepsChangeOnly
 
 -- ---- a machine arrives at a node
-
-small_values : (ds : List MapDecl) → All IsDeclaration ds → (q : ℕ) → value_bytes ds q ≤ 64
-small_values [] h q = omega arith
-small_values (d ∷ ds) h zero = (All-head IsDeclaration d ds h).limits.value_short
-small_values (d ∷ ds) h (suc q) = small_values ds (All-tail IsDeclaration d ds h) q
 
 -- the sizes of a machine, and its declarations
 pub record Fits (p : XdpProgram) (m : Machine) : Type 0 where

@@ -1,7 +1,7 @@
 -- Which programs are accepted, and the first refusal of the others.
 use Rattle.std.specs.Prelude.{◌≡◌, ◌⊎◌, List}
 use Rattle.xdp_machine.specs.Program.{XdpProgram}
-use Rattle.kind_core.specs.declared.why.Refusal.{Refusal}
+use Rattle.xdp_state.specs.declared.refusal.Refusal.{Refusal}
 use Rattle.unfold_core.specs.declared.nesting.Loop.{Loop}
 use Rattle.unfold_core.specs.declared.edges.Point.{Point}
 use Rattle.unfold_core.specs.Loops.{HasLoops, IsFirstPlace}

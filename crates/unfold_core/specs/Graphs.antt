@@ -6,11 +6,11 @@ use Rattle.std.specs.declared.vec.Vec.{Vec}
 use Rattle.std.specs.declared.alloc.Global.{Global}
 use Rattle.xdp_machine.specs.Program.{XdpProgram}
 use Rattle.kind_core.specs.declared.kind.Kinds.{Kinds}
-use Rattle.kind_core.specs.declared.why.Why.{Why}
-use Rattle.kind_core.specs.declared.why.Why.TheVariants as why
-use Rattle.kind_core.specs.declared.why.Refusal.{Refusal}
-use Rattle.kind_core.specs.declared.why.BuildError.{BuildError}
-use Rattle.kind_core.specs.declared.why.BuildError.TheVariants.{Refused, NoMemory}
+use Rattle.xdp_state.specs.declared.refusal.Why.{Why}
+use Rattle.xdp_state.specs.declared.refusal.Why.TheVariants as why
+use Rattle.xdp_state.specs.declared.refusal.Refusal.{Refusal}
+use Rattle.xdp_state.specs.declared.refusal.BuildError.{BuildError}
+use Rattle.xdp_state.specs.declared.refusal.BuildError.TheVariants.{Refused, NoMemory}
 use Rattle.kind_core.specs.Kinds as kinds
 use Rattle.kind_core.specs.Joins.{joined}
 use Rattle.unfold_core.specs.declared.nesting.Loop.{Loop}
@@ -69,17 +69,21 @@ abbrev pub Pass : XdpProgram → List Loop → ℕ → List Point → Type 0
 Pass p ls k [] = Unit {0}
 Pass p ls k (n ∷ ns) = ((es : List Point) × (leaving p ls k n ≡ Ok es)) × Pass p ls (k + 1) ns
 
+-- the most nodes of a program
+abbrev pub most_nodes : ℕ
+most_nodes = 16384
+
 -- The graph of a program: exactly the nodes that the start or an edge leads to, in unfolded order; what is known at each is the join
 -- over all edges that lead to it; and no node is refused.
 pub record IsGraph (p : XdpProgram) (ls : List Loop) (g : List Point) : Type 0 where
-  pub few : length g ≤ 16384
+  pub few : length g ≤ most_nodes
   pub ordered : AreOrdered ls g
   pub pass : Pass p ls 0 g
   pub known : (n : GraphNode) → IsNode ls n → found ls n g ≡ arriving ls n None (leading p ls g)
 
 -- a node of this number is refused: it is one too many, or fails a test
 abbrev pub IsRefused : XdpProgram → List Loop → ℕ → Point → Why → Type 0
-IsRefused p ls number n w = ((number ≡ 16384) × (w ≡ why.Size)) ⊎ ((number < 16384) × (leaving p ls number n ≡ Err w))
+IsRefused p ls number n w = ((number ≡ most_nodes) × (w ≡ why.Size)) ⊎ ((number < most_nodes) × (leaving p ls number n ≡ Err w))
 
 -- The first node that is refused: up to it the nodes are those of the graph, and it is the only one of them that is refused.
 pub record IsFirstNode (p : XdpProgram) (ls : List Loop) (r : Refusal) : Type 0 where

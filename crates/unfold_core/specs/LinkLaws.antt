@@ -1,4 +1,4 @@
--- What the edges of a graph are: the present edges of its nodes. Each leads to where the machine goes on, and brings what is known behind the instruction.
+-- What the edges of a graph are: the present edges of its nodes. Each leads to where the machine goes on, and brings what is known after the instruction.
 use Rattle.std.specs.Prelude.{ℕ, pos, ◌≡◌, ◌<◌, ◌⊎◌, if◌then◌else◌, Bool, true, Option, Some, None, List, ◌∷◌, length, get_or, fold, All}
 use Rattle.std.specs.List.{Contains}
 use Rattle.xdp_machine.specs.bpf_isa.declared.instruction.Insn.{Insn}
@@ -48,7 +48,7 @@ pub record HasLinks (p : XdpProgram) (ls : List Loop) (g : List Point) (k : ℕ)
 abbrev pub NodesHaveLinks : Type 0
 NodesHaveLinks = (p : XdpProgram) (ls : List Loop) (g : List Point) (k : ℕ) (d : Point) → AreLoops p.insns ls → IsGraph p ls g → k < length g → HasLinks p ls g k d
 
--- what is known on an edge, behind the instruction of the node that it leaves
+-- what is known on an edge, after the instruction of the node that it leaves
 abbrev pub known_behind : XdpProgram → Point → Edge → Option Insn → Kinds
 known_behind p at x (Some i) = transferred p.decls at.kinds i x.from (is_reference p at.node.place) x.taken
 known_behind p at x None = at.kinds

@@ -5,10 +5,10 @@ use Rattle.std.specs.declared.vec.Vec.{Vec}
 use Rattle.std.specs.declared.alloc.Global.{Global}
 use Rattle.xdp_machine.specs.bpf_isa.declared.instruction.Insn.{Insn}
 use Rattle.xdp_machine.specs.bpf_isa.Text.{unit_count}
-use Rattle.kind_core.specs.declared.why.Refusal.{Refusal}
-use Rattle.kind_core.specs.declared.why.BuildError.{BuildError}
-use Rattle.kind_core.specs.declared.why.BuildError.TheVariants.{Refused, NoMemory}
-use Rattle.kind_core.specs.declared.why.Why.TheVariants as why
+use Rattle.xdp_state.specs.declared.refusal.Refusal.{Refusal}
+use Rattle.xdp_state.specs.declared.refusal.BuildError.{BuildError}
+use Rattle.xdp_state.specs.declared.refusal.BuildError.TheVariants.{Refused, NoMemory}
+use Rattle.xdp_state.specs.declared.refusal.Why.TheVariants as why
 use Rattle.unfold_core.specs.declared.nesting.Loop.{Loop}
 use Rattle.unfold_core.specs.Jumps.{target}
 
@@ -22,7 +22,7 @@ pub record IsLoop (insns : List Insn) (l : Loop) : Type 0 where
 abbrev pub holds : Loop → ℕ → Bool
 holds l place = nat_le l.head place && nat_le place l.last
 
--- a loop with a later head lies behind or inside
+-- a loop with a later head lies after or inside
 abbrev pub Nests : Loop → Loop → Type 0
 Nests l m = (l.head < m.head) × ((l.last < m.head) ⊎ (m.last ≤ l.last))
 
@@ -32,7 +32,7 @@ pub record AreLoops (insns : List Insn) (ls : List Loop) : Type 0 where
   pub all : (l : Loop) → IsLoop insns l → Contains ls l
   pub nested : AllPairs Nests ls
 
--- The last jump of a loop that begins inside another one and ends behind it refuses the program.
+-- The last jump of a loop that begins inside another one and ends after it refuses the program.
 pub record IsCrossing (insns : List Insn) (r : Refusal) : Type 0 where
   pub outer : Loop
   pub inner : Loop
@@ -44,12 +44,16 @@ pub record IsCrossing (insns : List Insn) (r : Refusal) : Type 0 where
   pub at_is : r.at ≡ inner.last
   pub why_is : r.why ≡ why.Loop
 
--- A program has at most 4,096 units.
+-- the most units of a program
+abbrev pub most_units : ℕ
+most_units = 4096
+
+-- A program has no more units than that.
 abbrev pub too_long : Refusal
-too_long = record { at = 4096; why = why.Size }
+too_long = record { at = most_units; why = why.Size }
 
 pub record IsTooLong (insns : List Insn) (r : Refusal) : Type 0 where
-  pub long : 4096 < unit_count insns
+  pub long : most_units < unit_count insns
   pub refusal : r ≡ too_long
 
 abbrev pub RefusesPlace : List Insn → Refusal → Type 0

@@ -17,9 +17,13 @@ abbrev pub rest : List ℕ → List ℕ
 rest [] = []
 rest (c ∷ cs) = cs
 
+-- the most copies of a loop
+abbrev pub most_copies : ℕ
+most_copies = 64
+
 -- a copy of a loop is 0 to 63, and 0 where the loop does not hold the place
 abbrev pub IsCopy : Loop → ℕ → ℕ → Type 0
-IsCopy l place c = (c < 64) × (holds l place ≡ false → c ≡ 0)
+IsCopy l place c = (c < most_copies) × (holds l place ≡ false → c ≡ 0)
 
 abbrev pub AreCopies : List Loop → ℕ → List ℕ → Type 0
 AreCopies [] place [] = Unit {0}
@@ -55,7 +59,7 @@ next_copies [] p q cs = []
 next_copies (l ∷ ls) p q cs = next_copy l p q (first cs) ∷ next_copies ls p q (rest cs)
 
 abbrev pub fits : ℕ → Bool
-fits c = nat_lt c 64
+fits c = nat_lt c most_copies
 
 -- the node at the end of an edge, none where it would be copy 64 of a loop
 abbrev pub reached : List Loop → GraphNode → ℕ → Option GraphNode

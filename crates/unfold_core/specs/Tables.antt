@@ -3,10 +3,10 @@ use Rattle.std.specs.Prelude.{ℕ, ◌≡◌, ◌≢◌, ◌≤◌, ◌<◌, ◌
 use Rattle.std.specs.List.{AllPairs, Contains}
 use Rattle.xdp_machine.specs.bpf_isa.declared.instruction.Insn.{Insn}
 use Rattle.unfold_core.specs.declared.nesting.Loop.{Loop}
-use Rattle.kind_core.specs.declared.why.Refusal.{Refusal}
-use Rattle.kind_core.specs.declared.why.Why.TheVariants as why
+use Rattle.xdp_state.specs.declared.refusal.Refusal.{Refusal}
+use Rattle.xdp_state.specs.declared.refusal.Why.TheVariants as why
 use Rattle.unfold_core.specs.Jumps.{target_of}
-use Rattle.unfold_core.specs.Loops.{too_long}
+use Rattle.unfold_core.specs.Loops.{most_units, too_long}
 
 -- the target of the jump at a place, by the instructions at each place
 abbrev pub target_in : List (Option Insn) → ℕ → Option ℕ
@@ -41,7 +41,7 @@ pub record AreLoopsBelow (leads : ℕ → Option ℕ) (bound heads : ℕ) (ls : 
   pub ascending : AllPairs (λ l m. l.head < m.head) ls
   pub all : (l : Loop) → l.head < heads → IsLast leads bound l.head (Some l.last) → Contains ls l
 
--- a loop begins inside another one and ends behind it
+-- a loop begins inside another one and ends after it
 abbrev pub Crosses : Loop → Loop → Type 0
 Crosses l m = (m.head ≤ l.last) × (l.last < m.last)
 
@@ -65,5 +65,5 @@ crossing place = record { at = place; why = why.Loop }
 
 -- the first refusal of a program of so many units, by the least last place of a loop that is crossed
 abbrev pub first_place : Option ℕ → ℕ → Option Refusal
-first_place (Some place) units = if nat_lt place 4096 || nat_le units 4096 then Some (crossing place) else Some too_long
-first_place None units = if nat_lt 4096 units then Some too_long else None
+first_place (Some place) units = if nat_lt place most_units || nat_le units most_units then Some (crossing place) else Some too_long
+first_place None units = if nat_lt most_units units then Some too_long else None

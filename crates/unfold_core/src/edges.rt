@@ -7,15 +7,16 @@ ghost use Rattle.xdp_machine.specs.bpf_isa.Spelling.{IsInsn};
 ghost use Rattle.unfold_core.specs.Units.{ArePlaces};
 ghost use Rattle.unfold_core.specs.Edges.{goes_next, goes_jump, edge_to, if_present, next_edge, jump_edge, edges_of, leaving, Adds, Makes, Leaves};
 ghost use Rattle.kind_core.specs.Edges.{decided};
-ghost use Rattle.kind_core.specs.declared.why.BuildError.TheVariants.{Refused};
+ghost use Rattle.xdp_state.specs.declared.refusal.BuildError.TheVariants.{Refused};
 
 use crate::jumps::target;
 use crate::nesting::Loop;
 use crate::nodes::{Node, reached};
-use kind_core::{BuildError, Kinds, Refusal, Why, allowed, decide, transfer};
+use kind_core::{Kinds, allowed, decide, transfer};
 use std::alloc::Global;
 use xdp_machine::bpf_isa::{Insn, Op};
 use xdp_object::Program;
+use xdp_state::{BuildError, Refusal, Why};
 
 /// A node and what is known there, or the end of an edge and what is known on it.
 #[derive(Debug, Drop)]

@@ -5,7 +5,7 @@ ghost use Rattle.xdp_machine.specs.bpf_isa.Text.{insn_at};
 ghost use Rattle.unfold_core.specs.Loops.{AreLoops};
 ghost use Rattle.unfold_core.specs.Units.{ArePlaces};
 ghost use Rattle.unfold_core.specs.Nodes.{IsNode};
-ghost use Rattle.unfold_core.specs.Graphs.{AreOrdered, IsGraph};
+ghost use Rattle.unfold_core.specs.Graphs.{AreOrdered, IsGraph, most_nodes};
 ghost use Rattle.unfold_core.specs.Pending.{number_of};
 ghost use Rattle.unfold_core.specs.Unfolding.{jumps_first, numbered, links};
 
@@ -13,10 +13,11 @@ use crate::edges::{Point, goes_next, insn_at, leave};
 use crate::nesting::Loop;
 use crate::nodes::{Node, comes_before};
 use crate::pending::number_of;
-use kind_core::{BuildError, decide};
+use kind_core::decide;
 use std::alloc::{AllocError, Global};
 use xdp_machine::bpf_isa::Insn;
 use xdp_object::Program;
+use xdp_state::BuildError;
 
 /// A present edge: the numbers of the nodes that it leaves and leads to, and whether it is that of a jump; else it leads to the next place.
 #[derive(Copy, Clone, Debug, PartialEq, Eq)]
@@ -63,7 +64,7 @@ fn add_links(
     ends: &[Point],
     edges: &mut Vec<Edge>,
 ) -> Result<(), AllocError>
-    requires few { length nodes.now ≤ 16384 }
+    requires few { length nodes.now ≤ most_nodes }
     requires nodes { AreOrdered loops.now nodes.now }
     requires ends { All (λ e. IsNode loops.now e.node) ends.now }
     ensures { OnOk result (edges.new.items ≡ edges.old.items ++ numbered loops.now nodes.now from jumps_first ends.now) }

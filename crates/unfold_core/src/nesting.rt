@@ -6,12 +6,12 @@ ghost use Rattle.unfold_core.specs.Tables.{first_place};
 
 use crate::tables::{least_crossed, loops_below};
 use crate::units::units_of;
-use kind_core::{BuildError, Refusal, Why};
 use std::alloc::Global;
 use xdp_object::Program;
+use xdp_state::{BuildError, Refusal, Why};
 
 /// The most units of a program.
-const MOST_UNITS: usize = 4096;
+pub const MOST_UNITS: usize = 4096;
 
 /// A loop: the places from its head to the last place that jumps back to it.
 #[derive(Copy, Clone, Debug, PartialEq, Eq)]
@@ -40,7 +40,7 @@ fn first_place(least: Option<u32>, units: usize) -> Option<Refusal>
 
 /// The loops of a program, by their heads, which ascend, so that outer loops come before inner ones. Without want of memory a refusal
 /// comes exactly where a place refuses the program, and is the first one: `Size` at place 4,096 of a program with more units, or `Loop`
-/// at the last place of a loop that begins inside another one and ends behind it.
+/// at the last place of a loop that begins inside another one and ends after it.
 pub fn loops(alloc: Global, program: &Program) -> Result<Vec<Loop>, BuildError>
     ensures { FindsLoops program.now.insns result }
 {

@@ -9,7 +9,7 @@ use std::alloc::{AllocError, Global};
 use std::marker::Model;
 
 /// The most copies of a loop.
-const MOST_COPIES: u16 = 64;
+pub const MOST_COPIES: u16 = 64;
 
 /// A place, in units, and its copy of each loop of the program, in the order of their heads: 0 to 63, and 0 of a loop that does not hold
 /// the place. Contracts see it as a `GraphNode`.

@@ -75,7 +75,7 @@ pub(crate) fn loops_below(
     listed(alloc, &last)
 }
 
-// Whether a loop begins inside one of these and ends behind it.
+// Whether a loop begins inside one of these and ends after it.
 fn is_crossed(earlier: &[Loop], inner: Loop) -> bool
     ensures { IsTrue result ↔ IsCrossed earlier.now inner }
 {
@@ -109,7 +109,7 @@ fn with_loop(least: Option<u32>, loops: &[Loop], k: usize) -> Option<u32>
     }
 }
 
-/// The least last place of a loop that begins inside an earlier one and ends behind it.
+/// The least last place of a loop that begins inside an earlier one and ends after it.
 pub(crate) fn least_crossed(loops: &[Loop]) -> Option<u32>
     ensures { IsLeastCrossed loops.now (length loops.now) result }
 {

@@ -1,8 +1,8 @@
 // Programs without loops.
 
 ghost use Rattle.std.specs.Prelude.{◌≡◌, ◌⊎◌, IfErr, IsErrOf};
-ghost use Rattle.kind_core.specs.declared.why.Refusal.{Refusal};
-ghost use Rattle.kind_core.specs.declared.why.BuildError.TheVariants.{Refused};
+ghost use Rattle.xdp_state.specs.declared.refusal.Refusal.{Refusal};
+ghost use Rattle.xdp_state.specs.declared.refusal.BuildError.TheVariants.{Refused};
 ghost use Rattle.unfold_core.specs.Loops.{AreLoops};
 ghost use Rattle.unfold_core.specs.Units.{ArePlaces};
 ghost use Rattle.unfold_core.specs.Graphs.{Walks};
@@ -14,13 +14,13 @@ use crate::links::{Edge, links};
 use crate::nesting::{Loop, loops};
 use crate::pending::{add_ends, at_start};
 use crate::units::places;
-use kind_core::{BuildError, Why};
 use std::alloc::Global;
 use xdp_machine::bpf_isa::Insn;
 use xdp_object::Program;
+use xdp_state::{BuildError, Why};
 
 /// The most nodes of a program.
-const MOST_NODES: u32 = 16_384;
+pub const MOST_NODES: u32 = 16_384;
 
 /// A program without loops.
 #[derive(Debug, Drop)]

@@ -53,9 +53,6 @@ pub found_takes : {A : Type 0} (o : Option A) (x : A) (c : Code) (ts : List Lexe
 found_takes (Some y) x c ts h = ap (λ z. Some z) (same_ok y x h)
 found_takes None x c ts h = absurd cc
 
-pub found_again : {A : Type 0} (o : Option A) (x : A) (c : Code) (ts : List Lexeme) → o ≡ Some x → found o c ts ≡ Ok x
-found_again o x c ts h = rw h refl
-
 -- ---- keywords and symbols are told apart by their texts
 keyword_again : (k : Keyword) → keyword_of (keyword_text k) ≡ Some k
 keyword_again keyword.Module = refl
@@ -194,9 +191,6 @@ name_takes (LName s ∷ ts) x e =
     let k = kept_takes (is_name s) (s, ts) x code.Syntax (LName s ∷ ts) e in
     subst (λ (y : List ℕ × List Lexeme). TakesName (LName s ∷ ts) y) k.1 (record { text = refl; proper = k.0 })
 name_takes ts x e = absurd cc
-
-pub name_again : (s : List ℕ) (ts : List Lexeme) → is_name s ≡ true → name_at (LName s ∷ ts) ≡ Ok (s, ts)
-name_again s ts h = kept_again (is_name s) (s, ts) code.Syntax (LName s ∷ ts) h
 
 pub record TakesConstant (ts : List Lexeme) (x : Word × List Lexeme) : Type 0 where
   pub text : ts ≡ constant x.0 ∷ x.1

@@ -44,7 +44,7 @@ parts_one_before : (prefix : List (Tree Net)) (t : Tree Net) (ps : Trees Net) �
 parts_one_before [] t ps = refl
 parts_one_before (x ∷ prefix) t ps = ap (λ q. TMore x q) (parts_one_before prefix t ps)
 
--- ---- what stands behind a part
+-- ---- what stands after a part
 concatenation_with : Sized → SizedParts × List Lexeme → Read SizedParts
 concatenation_with a ps = Ok (record { parts = TMore a.tree ps.0.parts; width = a.width + ps.0.width }, ps.1)
 

@@ -106,7 +106,7 @@ statement_is_no_else name (SIfElse c a b) rest = tt
 statement_is_no_else name (SSet r e) rest = tt
 statement_is_no_else name (SStore m i e) rest = tt
 
--- behind a statement of a block stands another, or its `end`
+-- after a statement of a block stands another, or its `end`
 block_is_no_else : (name : Net → List ℕ) (more : StatementTrees Net) (rest : List Lexeme) → IsNoElse (block_lexemes name more ++ LKeyword keyword.End ∷ rest)
 block_is_no_else name SEnd rest = tt
 block_is_no_else name (SThen a more) rest = subst IsNoElse (sym (append_assoc (statement_lexemes name a) (block_lexemes name more) (LKeyword keyword.End ∷ rest))) (statement_is_no_else name a (block_lexemes name more ++ LKeyword keyword.End ∷ rest))

@@ -26,7 +26,7 @@ use Rattle.verilog_expression.specs.Laws.{Names, IsTreeKept, IsBehindTree}
 use Rattle.verilog_expression.proofs.LexemeLaws.{kept_again, constant_again, op_again, entry_again}
 use Rattle.verilog_expression.proofs.Widths.{const_some, concatenation_some, whole_most, parts_most}
 
--- an expression of a width, and what stands behind it
+-- an expression of a width, and what stands after it
 abbrev pub read : Tree Net → ℕ → List Lexeme → Read Sized
 read t w rest = Ok (record { tree = t; width = w }, rest)
 
@@ -162,7 +162,7 @@ not_allowed false h k = k
 
 -- ---- whole expressions
 module _ (names : Resolve) (name : Net → List ℕ) (s : Scope Net) (k : Sorts Net) (named : Names names name s k) where
-  -- behind a name that stands for a value
+  -- after a name that stands for a value
   value_first : (d : ℕ) (any : Bool) (n : Net) (ts : List Lexeme) → k.value n ≡ true → expr_at names (suc d) any (LName (name n) ∷ ts) ≡ named_at (expr_at names d true) (LName (name n) ∷ ts) (entry.Value n (s.net n)) ts
   unfolding expr_at first_at
   value_first d any n ts h = rw (entry_again names (name n) (entry.Value n (s.net n)) ts (named.proper n h) (named.value n h)) refl
@@ -176,7 +176,7 @@ module _ (names : Resolve) (name : Net → List ℕ) (s : Scope Net) (k : Sorts 
   unary_again unary_op.Not any d a w us rest h e = rw (h, e) refl
   unary_again unary_op.ReduceOr any d a w us rest h e = rw (h, e) refl
 
-  -- in brackets behind the name of a memory
+  -- in brackets after the name of a memory
   IsCellRead : ℕ → Bool → Tree Net → List Lexeme → Net → Type 0
   IsCellRead d any i rest n = k.memory n ≡ true → 0 < memory_word_width (width_of s i) (s.index n) (s.memory_word n) → expr_at names (suc d) any (LName (name n) ∷ LSymbol symbol.OpenBracket ∷ (tree_lexemes name i ++ LSymbol symbol.CloseBracket ∷ rest)) ≡ read (TMemoryWord n i) (memory_word_width (width_of s i) (s.index n) (s.memory_word n)) rest
 

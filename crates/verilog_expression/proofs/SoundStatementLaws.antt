@@ -63,7 +63,7 @@ no_else_before true h = absurd (h refl)
 no_else_before false h = refl
 
 -- ---- what reading takes from the beginning
--- of at most this depth; and no `else` stands behind an `if` without one
+-- of at most this depth; and no `else` stands after an `if` without one
 record Takes (name : Net → List ℕ) (s : Scope Net) (k : Sorts Net) (free : Free) (rs : List ℕ) (ms : List (ℕ × ℕ)) (d : ℕ) (ts : List Lexeme) (x : StatementTree Net × List Lexeme) : Type 0 where
   text : ts ≡ statement_lexemes name x.0 ++ x.1
   deep : statement_depth x.0 ≤ d
@@ -139,7 +139,7 @@ module _ (name : Net → List ℕ) (s : Scope Net) (k : Sorts Net) (expr : List 
     memory_widths : (m index w : ℕ) → get_or ms m (0, 0) ≡ (s.index (net.Memory m), s.memory_word (net.Memory m)) → s.index (net.Memory m) ≡ index → s.memory_word (net.Memory m) ≡ w → get_or ms m (0, 0) ≡ (index, w)
     memory_widths m index w p q r = p ∙ rw (q, r) refl
 
-    -- behind the name of a register
+    -- after the name of a register
     assignment_takes : (d : ℕ) (own : List Lexeme) (text : List ℕ) (r w : ℕ) (ts : List Lexeme) (x : StatementTree Net × List Lexeme) → IsValueNamed name s k text (net.Register r) w → (kept_if (free (net.Register r)) ts code.Twice own >>= λ u. assigned_at expr w u >>= λ e. Ok (SSet r e.0, e.1)) ≡ Ok x → TakesStatement (suc d) (LName text ∷ ts) x
     assignment_takes d own text r w ts x v h =
         let u = bind_ok (kept_if (free (net.Register r)) ts code.Twice own) _ x h in

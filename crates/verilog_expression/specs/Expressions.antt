@@ -1,7 +1,7 @@
 -- Expressions from left to right (IEEE 1364-2005, annex A.8, a subset): each with its width, or the first fault.
 --
--- What follows a name decides the sort that is needed: behind `name [` a number asks for a vector and an expression for a
--- memory; a name alone asks for a value. A name of another sort is at fault itself, before anything behind it.
+-- What follows a name decides the sort that is needed: after `name [` a number asks for a vector and an expression for a
+-- memory; a name alone asks for a value. A name of another sort is at fault itself, before anything after it.
 -- A width is at fault at the token that ends its phrase.
 use Rattle.std.specs.Prelude.{ℕ, zero, suc, ◌+◌, nat_lt, nat_le, Bool, true, false, if◌then◌else◌, Option, Ok, List, ◌∷◌, length}
 use Rattle.net_core.specs.declared.tree.UnaryOp.{UnaryOp}
@@ -33,7 +33,7 @@ pub record SizedParts : Type 0 where
   pub parts : Trees Net
   pub width : ℕ
 
--- An expression that was read up to a token that ends it, and what stands behind that token. Where it has no width, the fault
+-- An expression that was read up to a token that ends it, and what stands after that token. Where it has no width, the fault
 -- is at this token.
 abbrev pub sized : Tree Net → ℕ → List Lexeme → List Lexeme → Read Sized
 sized t w rest ends = kept_if (nat_lt 0 w) (record { tree = t; width = w }, rest) code.Width ends
@@ -45,7 +45,7 @@ entry_at names ts = do
   e ← found (names s.0) code.Unknown ts
   Ok (e, s.1)
 
--- behind `name [` and a number: one bit of a net, or its bits down to another number
+-- after `name [` and a number: one bit of a net, or its bits down to another number
 unfoldable pub part_select_at : Net → ℕ → ℕ → List Lexeme → Read Sized
 part_select_at n w hi (LSymbol symbol.Colon ∷ ts) = do
   lo ← number_at ts
@@ -60,31 +60,31 @@ select_at n w ts = do
   hi ← number_at ts
   part_select_at n w hi.0 hi.1
 
--- behind `name [` of a memory: an index
+-- after `name [` of a memory: an index
 unfoldable pub memory_word_at : (List Lexeme → Read Sized) → ℕ → ℕ → ℕ → List Lexeme → Read Sized
 memory_word_at expr m index width ts = do
   i ← expr ts
   r ← symbol_at symbol.CloseBracket i.1
   sized (TMemoryWord (net.Memory m) i.0.tree) (memory_word_width i.0.width index width) r i.1
 
--- in the brackets behind the name of a value, which begins the first lexemes
+-- in the brackets after the name of a value, which begins the first lexemes
 abbrev pub in_value : List Lexeme → Net → ℕ → List Lexeme → Read Sized
 in_value own n w ts =
     if begins_number ts then select_at n w ts
     else (if begins_expression ts then fault code.Unknown own else fault code.Syntax ts)
 
--- in the brackets behind the name of a memory
+-- in the brackets after the name of a memory
 abbrev pub in_words : (List Lexeme → Read Sized) → List Lexeme → ℕ → ℕ → ℕ → List Lexeme → Read Sized
 in_words expr own m index width ts = if begins_number ts then fault code.Unknown own else memory_word_at expr m index width ts
 
--- behind a name, which begins the first lexemes
+-- after a name, which begins the first lexemes
 unfoldable pub named_at : (List Lexeme → Read Sized) → List Lexeme → Entry → List Lexeme → Read Sized
 named_at expr own (entry.Value n w) (LSymbol symbol.OpenBracket ∷ ts) = in_value own n w ts
 named_at expr own (entry.Value n w) ts = Ok (record { tree = TRead n; width = w }, ts)
 named_at expr own (entry.Words m index w) (LSymbol symbol.OpenBracket ∷ ts) = in_words expr own m index w ts
 named_at expr own e ts = fault code.Unknown own
 
--- behind a parenthesis and its first expression: a choice, or an operator between two operands
+-- after a parenthesis and its first expression: a choice, or an operator between two operands
 unfoldable pub second_at : (List Lexeme → Read Sized) → Sized → List Lexeme → Read Sized
 second_at expr a (LSymbol symbol.Question ∷ ts) = do
   b ← expr ts
@@ -103,7 +103,7 @@ paren_at expr ts = do
   a ← expr ts
   second_at expr a.0 a.1
 
--- the parts of a concatenation behind one of them
+-- the parts of a concatenation after one of them
 unfoldable pub more_at : (List Lexeme → Read SizedParts) → Sized → List Lexeme → Read SizedParts
 more_at parts a (LSymbol symbol.Comma ∷ ts) = do
   ps ← parts ts
@@ -135,7 +135,7 @@ unary_at true p operand own ts = do
   a ← operand ts
   Ok (record { tree = TUnary p a.0.tree; width = unary_width p a.0.width }, a.1)
 
--- behind the symbol that an expression begins with, and which begins the first lexemes
+-- after the symbol that an expression begins with, and which begins the first lexemes
 unfoldable pub symbol_first : Bool → (List Lexeme → Read Sized) → (List Lexeme → Read Sized) → Symbol → List Lexeme → List Lexeme → Read Sized
 symbol_first any operand expr symbol.Not own ts = unary_at any unary_op.Not operand own ts
 symbol_first any operand expr symbol.Or own ts = unary_at any unary_op.ReduceOr operand own ts

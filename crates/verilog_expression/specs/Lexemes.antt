@@ -22,16 +22,16 @@ same_lexeme (LNumber a) (LNumber b) = a == b
 same_lexeme (LSymbol a) (LSymbol b) = bytes_eq (symbol_text a) (symbol_text b)
 same_lexeme a b = false
 
--- what is left behind a lexeme that the grammar has here
+-- what is left after a lexeme that the grammar has here
 unfoldable pub lexeme_at : Lexeme → List Lexeme → Reading (List Lexeme)
 lexeme_at l [] = fault code.Syntax []
 lexeme_at l (t ∷ ts) = kept_if (same_lexeme l t) ts code.Syntax (t ∷ ts)
 
--- what is left behind one symbol
+-- what is left after one symbol
 abbrev pub symbol_at : Symbol → List Lexeme → Reading (List Lexeme)
 symbol_at s ts = lexeme_at (LSymbol s) ts
 
--- what is left behind a phrase of several lexemes
+-- what is left after a phrase of several lexemes
 unfoldable pub behind : List Lexeme → List Lexeme → Reading (List Lexeme)
 behind [] ts = Ok ts
 behind (l ∷ ls) ts = do

@@ -1,4 +1,4 @@
--- Reading from left to right: a value and the lexemes behind it, or the first fault.
+-- Reading from left to right: a value and the lexemes after it, or the first fault.
 use Rattle.std.specs.Prelude.{Bool, true, false, Option, Some, None, Result, Ok, Err, List, length}
 use Rattle.verilog_lex.specs.Lexeme.{Lexeme}
 use Rattle.verilog_expression.specs.declared.fault.Code.{Code}
@@ -8,7 +8,7 @@ use Rattle.verilog_expression.specs.declared.fault.Fault.{Fault}
 abbrev pub Reading : Type 0 → Type 0
 Reading A = Result A Fault
 
--- a value and the lexemes behind it, or the first fault
+-- a value and the lexemes after it, or the first fault
 abbrev pub Read : Type 0 → Type 0
 Read A = Reading (A × List Lexeme)
 

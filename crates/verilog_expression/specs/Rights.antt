@@ -30,7 +30,7 @@ abbrev pub division : Bool → Net → Net → RightTree Net
 division true a b = RQuotient a b
 division false a b = RRemainder a b
 
--- Two names of one width with `/` or `%` between: the first begins the first lexemes, the others stand behind the operator.
+-- Two names of one width with `/` or `%` between: the first begins the first lexemes, the others stand after the operator.
 unfoldable pub division_at : Resolve → Bool → List Lexeme → List Lexeme → Read SizedRight
 division_at names quotient own ts = do
   a ← value_at names own

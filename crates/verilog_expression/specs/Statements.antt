@@ -20,7 +20,7 @@ use Rattle.verilog_expression.specs.Expressions.{Resolve, Sized, entry_at, whole
 abbrev pub Free : Type 0
 Free = Net → Bool
 
--- behind a target of this width: the value that it gets
+-- after a target of this width: the value that it gets
 unfoldable pub assigned_at : (List Lexeme → Read Sized) → ℕ → List Lexeme → Read (Tree Net)
 assigned_at expr width ts = do
   a ← symbol_at symbol.LessEqual ts
@@ -28,7 +28,7 @@ assigned_at expr width ts = do
   r ← symbol_at symbol.Semicolon e.1
   kept_if (e.0.width == width) (e.0.tree, r) code.Width e.1
 
--- Behind the name of a register, which begins the first lexemes: no bracket, which asks for a memory.
+-- After the name of a register, which begins the first lexemes: no bracket, which asks for a memory.
 unfoldable pub set_at : Free → (List Lexeme → Read Sized) → List Lexeme → ℕ → ℕ → List Lexeme → Read (StatementTree Net)
 set_at free expr own k width (LSymbol symbol.OpenBracket ∷ ts) = fault code.Unknown own
 set_at free expr own k width ts = do
@@ -43,7 +43,7 @@ index_at expr index ts = do
   r ← symbol_at symbol.CloseBracket i.1
   kept_if (i.0.width == index) (i.0.tree, r) code.Width i.1
 
--- in the brackets behind the name of a memory
+-- in the brackets after the name of a memory
 unfoldable pub word_at : Free → (List Lexeme → Read Sized) → List Lexeme → ℕ → ℕ → ℕ → List Lexeme → Read (StatementTree Net)
 word_at free expr own k index width ts = do
   r ← kept_if (free (net.Memory k)) ts code.Twice own
@@ -55,13 +55,13 @@ unfoldable pub store_at : Free → (List Lexeme → Read Sized) → List Lexeme 
 store_at free expr own k index width (LSymbol symbol.OpenBracket ∷ ts) = word_at free expr own k index width ts
 store_at free expr own k index width ts = fault code.Unknown own
 
--- behind the name of a target, which begins the first lexemes
+-- after the name of a target, which begins the first lexemes
 unfoldable pub target_at : Free → (List Lexeme → Read Sized) → List Lexeme → Entry → List Lexeme → Read (StatementTree Net)
 target_at free expr own (entry.Value (net.Register k) w) ts = set_at free expr own k w ts
 target_at free expr own (entry.Words m index w) ts = store_at free expr own m index w ts
 target_at free expr own e ts = fault code.Unknown own
 
--- behind the first branch of an `if`: an `else` belongs to it
+-- after the first branch of an `if`: an `else` belongs to it
 unfoldable pub else_at : (List Lexeme → Read (StatementTree Net)) → Tree Net → StatementTree Net → List Lexeme → Read (StatementTree Net)
 else_at statement c a (LKeyword keyword.Else ∷ ts) = do
   b ← statement ts
@@ -91,7 +91,7 @@ block_at statement (suc n) ts = do
   more ← block_at statement n a.1
   Ok (SThen a.0 more.0, more.1)
 
--- Behind `begin`. There are fewer statements than lexemes.
+-- After `begin`. There are fewer statements than lexemes.
 unfoldable pub begin_at : (List Lexeme → Read (StatementTree Net)) → List Lexeme → Read (StatementTree Net)
 begin_at statement ts = do
   more ← block_at statement (length ts) ts

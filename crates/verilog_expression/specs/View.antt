@@ -51,7 +51,7 @@ abbrev pub Finds : {X Y : Type 0} → (X → Y) → Option X → Option Y → Ty
 Finds view (Some x) found = found ≡ Some (view x)
 Finds view None found = found ≡ None
 
--- what was read, and the lexemes behind it
+-- what was read, and the lexemes after it
 abbrev pub as_sized : Expr Net → ℕ → Sized
 as_sized e w = record { tree = tree_of e; width = w }
 
@@ -78,7 +78,7 @@ abbrev pub capped : Read SizedParts → Read SizedParts
 capped (Ok x) = Ok (record { parts = x.0.parts; width = min x.0.width 255 }, x.1)
 capped (Err f) = Err f
 
--- the lexemes behind a comma, and behind the `end` of a block
+-- the lexemes after a comma, and after the `end` of a block
 abbrev pub comma_at : List Lexeme → Option (List Lexeme)
 comma_at (LSymbol symbol.Comma ∷ ts) = Some ts
 comma_at ts = None
@@ -87,7 +87,7 @@ abbrev pub end_at : List Lexeme → Option (List Lexeme)
 end_at (LKeyword keyword.End ∷ ts) = Some ts
 end_at ts = None
 
--- what is read behind parts that stand in front, and whose widths are so many together
+-- what is read after parts that stand in front, and whose widths are so many together
 abbrev pub behind_parts : List (Tree Net) → ℕ → Read SizedParts → Read SizedParts
 behind_parts prefix sum (Ok x) = Ok (record { parts = parts_before prefix x.0.parts; width = sum + x.0.width }, x.1)
 behind_parts prefix sum (Err f) = Err f

@@ -68,7 +68,7 @@ fn first<'a, N: Names>(
     }
 }
 
-// Behind the symbol that an expression begins with: it is the first of the tokens `own`.
+// After the symbol that an expression begins with: it is the first of the tokens `own`.
 #[cycle(reader)]
 #[tactic(auto, unfolding(crate::specs::Expressions::symbol_first))]
 fn behind_symbol<'a, N: Names>(
@@ -91,7 +91,7 @@ fn behind_symbol<'a, N: Names>(
     }
 }
 
-// Behind a name: it is the first of the tokens `own`.
+// After a name: it is the first of the tokens `own`.
 #[cycle(reader)]
 #[tactic(auto, unfolding(crate::specs::Expressions::named_at))]
 fn named<'a, N: Names>(
@@ -115,7 +115,7 @@ fn named<'a, N: Names>(
     }
 }
 
-// Behind the name of a memory: it is the first of the tokens `own`.
+// After the name of a memory: it is the first of the tokens `own`.
 #[cycle(reader)]
 #[tactic(auto, unfolding(crate::specs::Expressions::named_at))]
 fn behind_words<'a, N: Names>(
@@ -148,7 +148,7 @@ fn behind_words<'a, N: Names>(
     }
 }
 
-// In the brackets behind the name of a memory.
+// In the brackets after the name of a memory.
 #[cycle(reader)]
 #[tactic(auto, unfolding(crate::specs::Expressions::memory_word_at))]
 fn in_words<'a, N: Names>(
@@ -168,7 +168,7 @@ fn in_words<'a, N: Names>(
     sized(word, memory_word_width(bits, index, width), rest, ends)
 }
 
-// Behind a prefix operator: it is the first of the tokens `own`.
+// After a prefix operator: it is the first of the tokens `own`.
 #[cycle(reader)]
 #[tactic(auto, unfolding(crate::specs::Expressions::unary_at))]
 fn unary_expression<'a, N: Names>(
@@ -204,7 +204,7 @@ fn paren<'a, N: Names>(
     second(alloc, names, depth, first, width, rest)
 }
 
-// Behind a parenthesis and its first expression: a choice, or an operator between two operands.
+// After a parenthesis and its first expression: a choice, or an operator between two operands.
 #[cycle(reader)]
 #[tactic(auto, unfolding(crate::specs::Expressions::second_at))]
 fn second<'a, N: Names>(
@@ -295,7 +295,7 @@ fn parts<'a, N: Names>(
     fault(Code::Syntax, after)
 }
 
-/// The expression in front of what is left, its width in bits, and what is left behind it. It is the first fault that is
+/// The expression in front of what is left, its width in bits, and what is left after it. It is the first fault that is
 /// returned, unless memory runs out.
 #[tactic(auto, unfolding(crate::specs::Expressions::whole_expr_at))]
 pub fn expression<'a, N: Names>(

@@ -11,7 +11,7 @@ pub enum Code {
     Twice,
     /// A width, a range or a bound.
     Width,
-    /// An item behind one of a later section.
+    /// An item after one of a later section.
     Order,
 }
 

@@ -23,7 +23,7 @@ pub fn fault<T>(code: Code, rest: Rest) -> Result<T, PhraseError>
     }))
 }
 
-/// What is left behind a lexeme that the grammar has here.
+/// What is left after a lexeme that the grammar has here.
 #[tactic(auto, unfolding(crate::specs::Lexemes::lexeme_at))]
 pub fn lexeme<'a>(mark: Mark, rest: Rest<'a>) -> Result<Rest<'a>, PhraseError>
     ensures { Gives (λ r. lexemes_left r) result (lexeme_at (mark_lexeme mark.entry) (lexemes_left rest.entry)) }
@@ -40,14 +40,14 @@ pub fn lexeme<'a>(mark: Mark, rest: Rest<'a>) -> Result<Rest<'a>, PhraseError>
     }
 }
 
-/// What is left behind one symbol.
+/// What is left after one symbol.
 pub(crate) fn symbol<'a>(symbol: Symbol, rest: Rest<'a>) -> Result<Rest<'a>, PhraseError>
     ensures { Gives (λ r. lexemes_left r) result (symbol_at symbol (lexemes_left rest.entry)) }
 {
     lexeme(Mark::Symbol(symbol), rest)
 }
 
-/// What is left behind a phrase of several lexemes.
+/// What is left after a phrase of several lexemes.
 pub fn phrase<'a>(marks: &[Mark], rest: Rest<'a>) -> Result<Rest<'a>, PhraseError>
     ensures { Gives (λ r. lexemes_left r) result (behind (map mark_lexeme marks.now) (lexemes_left rest.entry)) }
 {

@@ -48,7 +48,7 @@ pub(crate) fn begins_expression(rest: Rest) -> bool
     }
 }
 
-/// What is left behind a comma, where one stands in front.
+/// What is left after a comma, where one stands in front.
 pub(crate) fn comma<'a>(rest: Rest<'a>) -> Option<Rest<'a>>
     ensures { Finds (λ r. lexemes_left r) result (comma_at (lexemes_left rest.entry)) }
 {
@@ -64,7 +64,7 @@ pub(crate) fn comma<'a>(rest: Rest<'a>) -> Option<Rest<'a>>
     }
 }
 
-/// What is left behind the `end` of a block, where it stands in front.
+/// What is left after the `end` of a block, where it stands in front.
 pub(crate) fn block_end<'a>(rest: Rest<'a>) -> Option<Rest<'a>>
     ensures { Finds (λ r. lexemes_left r) result (end_at (lexemes_left rest.entry)) }
 {

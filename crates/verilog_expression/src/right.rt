@@ -27,7 +27,7 @@ fn value<'a, N: Names>(names: &N, rest: Rest<'a>) -> Result<(Net, u8, Rest<'a>),
     }
 }
 
-// Two names of one width: the first begins the tokens `own`, and the second stands behind the operator.
+// Two names of one width: the first begins the tokens `own`, and the second stands after the operator.
 #[tactic(auto, unfolding(crate::specs::Rights::division_at))]
 fn division<'a, N: Names>(
     names: &N,
@@ -61,7 +61,7 @@ fn plain<'a, N: Names>(
     Ok((Right::Plain(value), width, rest))
 }
 
-/// The right side of a wire in front of what is left, its width in bits, and what is left behind it. It is the first fault
+/// The right side of a wire in front of what is left, its width in bits, and what is left after it. It is the first fault
 /// that is returned, unless memory runs out.
 #[tactic(auto, unfolding(crate::specs::Rights::right_at))]
 pub fn right_side<'a, N: Names>(

@@ -94,7 +94,7 @@ fn one_statement<'a, N: Names>(
     }
 }
 
-// Behind `if`.
+// After `if`.
 #[cycle(statement)]
 #[tactic(auto, unfolding(crate::specs::Statements::if_at))]
 fn choice<'a, N: Names>(
@@ -110,7 +110,7 @@ fn choice<'a, N: Names>(
     branch(alloc, names, depth, condition, first, rest)
 }
 
-// Behind the first branch of an `if`.
+// After the first branch of an `if`.
 #[cycle(statement)]
 #[tactic(auto, unfolding(crate::specs::Statements::else_at))]
 fn branch<'a, N: Names>(
@@ -139,7 +139,7 @@ fn branch<'a, N: Names>(
     }
 }
 
-// Behind `begin`.
+// After `begin`.
 #[cycle(statement)]
 #[tactic(auto, unfolding(crate::specs::Statements::begin_at))]
 fn begin<'a, N: Names>(
@@ -180,7 +180,7 @@ fn list<'a, N: Names>(
     fault(Code::Syntax, after)
 }
 
-/// The statement in front of what is left, and what is left behind it. It is the first fault that is returned, unless memory
+/// The statement in front of what is left, and what is left after it. It is the first fault that is returned, unless memory
 /// runs out.
 #[tactic(auto, unfolding(crate::specs::Statements::whole_statement_at))]
 pub fn statement<'a, N: Names>(

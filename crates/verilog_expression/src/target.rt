@@ -17,7 +17,7 @@ use net_core::tree::{Expr, Net, Stmt};
 use std::alloc::Global;
 use verilog_lex::{Symbol, Token, TokenKind};
 
-// Behind a target of this width: the value that it gets.
+// After a target of this width: the value that it gets.
 #[tactic(auto, unfolding(crate::specs::Statements::assigned_at))]
 fn assigned<'a, N: Names>(
     alloc: Global,
@@ -37,7 +37,7 @@ fn assigned<'a, N: Names>(
     }
 }
 
-// Behind the name of a register: it is the first of the tokens `own`.
+// After the name of a register: it is the first of the tokens `own`.
 #[tactic(auto, unfolding(crate::specs::Statements::set_at))]
 fn set<'a, N: Names>(
     alloc: Global,
@@ -86,7 +86,7 @@ fn index_of<'a, N: Names>(
     }
 }
 
-// In the brackets behind the name of a memory, which is the first of the tokens `own`.
+// In the brackets after the name of a memory, which is the first of the tokens `own`.
 #[tactic(auto, unfolding(crate::specs::Statements::word_at))]
 fn word<'a, N: Names>(
     alloc: Global,
@@ -107,7 +107,7 @@ fn word<'a, N: Names>(
     Ok((Stmt::Store(memory, at, value), rest))
 }
 
-// Behind the name of a memory: it is the first of the tokens `own`.
+// After the name of a memory: it is the first of the tokens `own`.
 #[tactic(auto, unfolding(crate::specs::Statements::store_at))]
 fn store<'a, N: Names>(
     alloc: Global,
@@ -135,7 +135,7 @@ fn store<'a, N: Names>(
     }
 }
 
-/// Behind the name of what is set: it is the first of the tokens `own`.
+/// After the name of what is set: it is the first of the tokens `own`.
 #[tactic(auto, unfolding(crate::specs::Statements::target_at))]
 pub(crate) fn target<'a, N: Names>(
     alloc: Global,

@@ -19,7 +19,7 @@ use net_core::tree::{Expr, Net};
 use net_core::width::part_select_width;
 use verilog_lex::{Symbol, Token, TokenKind};
 
-/// An expression and what is left behind it. Where it has no width, the fault is at the token that ends it.
+/// An expression and what is left after it. Where it has no width, the fault is at the token that ends it.
 pub(crate) fn sized<'a>(
     tree: Expr<Net>,
     width: u8,
@@ -80,7 +80,7 @@ fn bit<'a>(
     }
 }
 
-// Behind `name [` of a value: one bit of it, or its bits from a number down to another.
+// After `name [` of a value: one bit of it, or its bits from a number down to another.
 #[tactic(auto, unfolding(crate::specs::Expressions::select_at, crate::specs::Expressions::part_select_at))]
 fn select<'a>(net: Net, width: u8, rest: Rest<'a>) -> Result<(Expr<Net>, u8, Rest<'a>), PhraseError>
     ensures { Gives sized_of result (phrase.select_at net width (lexemes_left rest.entry)) }
@@ -114,7 +114,7 @@ pub(crate) fn constant_expr<'a>(rest: Rest<'a>) -> Result<(Expr<Net>, u8, Rest<'
     Ok((Expr::Const(word), word.width, rest))
 }
 
-// In the brackets behind the name of a value, whose tokens `own` are.
+// In the brackets after the name of a value, whose tokens `own` are.
 fn in_value<'a>(
     own: Rest<'a>,
     net: Net,
@@ -132,7 +132,7 @@ fn in_value<'a>(
     }
 }
 
-/// Behind the name of a value: it is the first of the tokens `own`.
+/// After the name of a value: it is the first of the tokens `own`.
 #[tactic(auto, unfolding(crate::specs::Expressions::named_at))]
 pub(crate) fn behind_value<'a>(
     own: Rest<'a>,

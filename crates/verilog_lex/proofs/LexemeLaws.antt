@@ -2,7 +2,7 @@
 use Rattle.std.proofs.Common.{◌≡◌, ℕ, ◌+◌, ◌-◌, ◌≤◌, List, [], ◌∷◌, length, take, drop, slice_range, Ok, refl, sym, ap, subst, ◌∙◌, arith, length-drop, drop-drop}
 use Rattle.std.proofs.Math.Seq.{drop-length}
 use Rattle.verilog_lex.specs.Element.{element_in}
-use Rattle.verilog_lex.specs.Tokens.{Leads, Read, token, tokens_in}
+use Rattle.verilog_lex.specs.Tokens.{Leads, token, tokens_in}
 use Rattle.verilog_lex.specs.Tokens.Leads.{here, separator as over, next as after}
 use Rattle.verilog_lex.specs.Lexeme.{Lexeme, Lexes, lexeme, lexemes_of}
 use Rattle.verilog_lex.specs.Lexeme.Lexes.{done, separator, next}
@@ -62,11 +62,3 @@ pub tokens_in-lexes : (text : List ℕ) (ls : List Lexeme) → Lexes text ls →
 tokens_in-lexes text ls h =
     let from = leads_from text 0 text ls h refl (omega arith) in
     (from.found, tokens_in-leads text from.found from.leads, from.same)
-
--- a text is one list of lexemes at most
-pub Lexes-unique : (text : List ℕ) (ls ms : List Lexeme) → Lexes text ls → Lexes text ms → ls ≡ ms
-Lexes-unique text ls ms h k =
-    let a = tokens_in-lexes text ls h in
-    let b = tokens_in-lexes text ms k in
-    let e : a.0 ≡ b.0 = (let r : (let r : Read = Ok a.0 in r) ≡ Ok b.0 = sym a.1 ∙ b.1 in cc) in
-    sym a.2 ∙ ap (lexemes_of text) e ∙ b.2

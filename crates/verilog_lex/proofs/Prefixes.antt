@@ -11,15 +11,13 @@ use Rattle.std.specs.List.{prefix_len, list_all}
 use Rattle.std.specs.Str.Parse.{AllDigits, digits_value}
 use Rattle.std.proofs.lemmas.Bool.{and_from, and_left, and_parts, cond-false, cond-true, or_parts, or_right, lt-ltb, le-leb, ltb-true, leb-true, false_from_ne_true}
 use Rattle.verilog_lex.specs.Bytes.{is_space, is_digit, begins_word, is_word_byte, begins_with, is_digit_of}
-use Rattle.verilog_lex.specs.Words.{keyword_text, symbol_text}
+use Rattle.verilog_lex.specs.Words.{keyword_text}
 use Rattle.verilog_lex.specs.Number.{has_leading_zero, radix_of, some_digits, digits_after, constant_in, sized_kind, fits_size}
 use Rattle.verilog_lex.specs.Element.{element_in, number_in, number_element, sized_or_plain, plain_element, word_in, word_kind}
-use Rattle.verilog_lex.specs.Spelling.{is_word, goes_on, sized_text, symbol_spelling}
+use Rattle.verilog_lex.specs.Spelling.{is_word, goes_on, sized_text}
 use Rattle.verilog_lex.specs.declared.element.LexicalElement.TheVariants.{Token}
 use Rattle.verilog_lex.specs.declared.token.Keyword.{Keyword}
 use Rattle.verilog_lex.specs.declared.token.Keyword.TheVariants as keyword
-use Rattle.verilog_lex.specs.declared.token.Symbol.{Symbol}
-use Rattle.verilog_lex.specs.declared.token.Symbol.TheVariants as symbol
 use Rattle.verilog_lex.specs.declared.token.TokenKind.TheVariants as kind
 use Rattle.verilog_lex.proofs.ByteRuns.{stops, prefix_len-whole, word_no_space, word_no_slash, word_no_digit, digit_no_space, digit_no_slash}
 
@@ -160,11 +158,6 @@ element_in-sized width value rest h e =
     ∙ cond-false (has_leading_zero (decimal width)) _ _ (no_leading_zero width narrow)
     ∙ ap (sized_or_plain (decimal width) after) (constant_in-digits (decimal value) rest digits.0.0 (digits_of_pass (decimal value) digits.0.1) (stops_digits_of rest e))
     ∙ sized_whole (decimal width) (decimal value) rest width value size.1 digits.1 h
-
--- a symbol is read whatever follows
-pub element_in-symbol : (s : Symbol) (rest : List ℕ) → element_in (symbol_spelling s ++ rest) ≡ Token (kind.Symbol s) (length (symbol_text s))
-element_in-symbol symbol.LessEqual rest = refl
-element_in-symbol s rest = refl
 
 pub keyword_is_word : (k : Keyword) → is_word (keyword_text k) ≡ true
 keyword_is_word keyword.Module = refl

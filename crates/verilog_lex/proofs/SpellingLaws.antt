@@ -1,24 +1,21 @@
 -- Texts that are read as they were written, element by element.
-use Rattle.std.proofs.Common.{◌≡◌, ℕ, ◌+◌, ◌≤◌, true, false, Result, OnOk, List, [], ◌∷◌, ◌++◌, length, refl, sym, ap, subst, ◌∙◌, arith, append_assoc, append-nil}
+use Rattle.std.proofs.Common.{◌≡◌, ℕ, ◌+◌, ◌≤◌, true, false, Result, OnOk, List, [], ◌∷◌, ◌++◌, length, refl, sym, ap, subst, ◌∙◌, append_assoc, append-nil}
 use Rattle.std.proofs.lemmas.Result.{on_ok_weaker}
 use Rattle.std.proofs.Math.Seq.{take-append_seam, drop-append_seam}
 use Rattle.std.specs.Fmt.{decimal}
-use Rattle.std.specs.List.{list_all, prefix_len}
-use Rattle.verilog_lex.specs.Bytes.{is_comment_byte}
 use Rattle.verilog_lex.specs.Words.{keyword_text, symbol_text}
 use Rattle.verilog_lex.specs.Number.{fits_size}
 use Rattle.verilog_lex.specs.Element.{element_in, word_kind, keyword_or_name}
 use Rattle.verilog_lex.specs.Lexeme.{Lexeme, LName, LKeyword, LNumber, LSized, LSymbol, Lexes, lexeme}
 use Rattle.verilog_lex.specs.Lexeme.Lexes.{done, separator, next}
 use Rattle.verilog_lex.specs.Spelling.{IsName, IsClosed, IsOpen, goes_on, sized_text, symbol_spelling}
-use Rattle.verilog_lex.specs.declared.element.LexicalElement.TheVariants.{Separator, Token}
+use Rattle.verilog_lex.specs.declared.element.LexicalElement.TheVariants.{Token}
 use Rattle.verilog_lex.specs.declared.token.Keyword.{Keyword}
 use Rattle.verilog_lex.specs.declared.token.Symbol.{Symbol}
 use Rattle.verilog_lex.specs.declared.token.Symbol.TheVariants as symbol
 use Rattle.verilog_lex.specs.declared.token.TokenKind.{TokenKind}
 use Rattle.verilog_lex.specs.declared.token.TokenKind.TheVariants as kind
 use Rattle.verilog_lex.proofs.Prefixes.{element_in-word, element_in-number, element_in-sized, keyword_is_word, word_kind-keyword, stops_words}
-use Rattle.verilog_lex.proofs.ByteRuns.{prefix_len-whole}
 
 -- a token, and then a text
 Lexes-prefix : (text rest : List ℕ) (k : TokenKind) (ls : List Lexeme) → element_in (text ++ rest) ≡ Token k (length text) → Lexes rest ls → Lexes (text ++ rest) (lexeme k text ∷ ls)
@@ -67,36 +64,12 @@ IsClosed-space = record { before = λ rest ls h. separator (32 ∷ rest) 1 ls re
 pub IsClosed-line : IsClosed (10 ∷ []) []
 IsClosed-line = record { before = λ rest ls h. separator (10 ∷ rest) 1 ls refl h }
 
-comment_prefix : (bytes rest : List ℕ) → list_all is_comment_byte bytes ≡ true → element_in (47 ∷ 47 ∷ (bytes ++ 10 ∷ rest)) ≡ Separator (length (47 ∷ 47 ∷ bytes))
-comment_prefix bytes rest e =
-    let whole : prefix_len is_comment_byte (bytes ++ 10 ∷ rest) ≡ length bytes = prefix_len-whole is_comment_byte bytes (10 ∷ rest) e refl in
-    let count : 2 + prefix_len is_comment_byte (bytes ++ 10 ∷ rest) ≡ length (47 ∷ 47 ∷ bytes) = omega (arith, whole) in
-    ap Separator count
-
-Lexes-comment : (bytes rest : List ℕ) (ls : List Lexeme) → list_all is_comment_byte bytes ≡ true → Lexes rest ls → Lexes (47 ∷ 47 ∷ (bytes ++ 10 ∷ rest)) ls
-Lexes-comment bytes rest ls e h =
-    let P : List ℕ → Type 0 = λ left. Lexes left ls in
-    let line : Lexes (10 ∷ rest) ls = separator (10 ∷ rest) 1 ls refl h in
-    separator (47 ∷ 47 ∷ (bytes ++ 10 ∷ rest)) (length (47 ∷ 47 ∷ bytes)) ls (comment_prefix bytes rest e)
-    (subst P (sym (drop-append_seam (47 ∷ 47 ∷ bytes) (10 ∷ rest))) line)
-
--- a comment, with the end of its line
-pub IsClosed-comment : (bytes : List ℕ) → list_all is_comment_byte bytes ≡ true → IsClosed (47 ∷ 47 ∷ (bytes ++ 10 ∷ [])) []
-IsClosed-comment bytes e = record {
-  before = λ rest ls h.
-      let P : List ℕ → Type 0 = λ text. Lexes (47 ∷ 47 ∷ text) ls in
-      subst P (sym (append_assoc bytes (10 ∷ []) rest)) (Lexes-comment bytes rest ls e h);
-}
-
 pub IsClosed-nothing : IsClosed [] []
 IsClosed-nothing = record { before = λ rest ls h. h }
 
 -- two texts after each other
 joined : (a b rest : List ℕ) (f g ls : List Lexeme) → Lexes (a ++ (b ++ rest)) (f ++ (g ++ ls)) → Lexes ((a ++ b) ++ rest) ((f ++ g) ++ ls)
 joined a b rest f g ls h = rw (append_assoc a b rest, append_assoc f g ls) h
-
-pub IsClosed-append : (a b : List ℕ) (f g : List Lexeme) → IsClosed a f → IsClosed b g → IsClosed (a ++ b) (f ++ g)
-IsClosed-append a b f g h k = record { before = λ rest ls l. joined a b rest f g ls (h.before (b ++ rest) (g ++ ls) (k.before rest ls l)) }
 
 pub IsOpen-append : (a b : List ℕ) (f g : List Lexeme) → IsClosed a f → IsOpen b g → IsOpen (a ++ b) (f ++ g)
 IsOpen-append a b f g h k = record { before = λ rest ls l e. joined a b rest f g ls (h.before (b ++ rest) (g ++ ls) (k.before rest ls l e)) }

@@ -19,6 +19,5 @@ pub use crate::element::{LexicalElement, first_element};
 pub use crate::lex::tokens;
 pub use crate::token::{Keyword, LexError, Symbol, Token, TokenKind};
 pub use crate::write::{
-    is_name, push_comment, push_keyword, push_line, push_name, push_number, push_sized, push_space,
-    push_symbol,
+    push_keyword, push_line, push_name, push_number, push_sized, push_space, push_symbol,
 };

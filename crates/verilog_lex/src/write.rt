@@ -2,43 +2,18 @@
 //!
 //! A text is *closed* while whatever is added to it is read apart from what is there, and *open* after
 //! a word or a number, which a letter, a digit, `_` or `'` would go on with. A space, the end of a
-//! line, a comment or a symbol closes it.
+//! line or a symbol closes it.
 
-ghost use Rattle.std.specs.Prelude.{◌≡◌, ◌≤◌, ◌↔◌, ◌∷◌, ◌++◌, [], List, IsTrue, OnErr, OnOk, codes, take, vec_len};
+ghost use Rattle.std.specs.Prelude.{◌≡◌, ◌≤◌, ◌∷◌, ◌++◌, [], List, IsTrue, OnErr, OnOk, codes, take, vec_len};
 ghost use Rattle.std.specs.Fmt.{decimal};
-ghost use Rattle.std.specs.List.{list_all};
-ghost use Rattle.verilog_lex.specs.Bytes.{is_comment_byte, is_word_byte};
 ghost use Rattle.verilog_lex.specs.Lexeme.{LKeyword, LName, LNumber, LSized, LSymbol, Lexeme};
 ghost use Rattle.verilog_lex.specs.Number.{fits_size};
-ghost use Rattle.verilog_lex.specs.Spelling.{IsClosed, IsName, IsOpen, is_word, sized_text, symbol_spelling};
+ghost use Rattle.verilog_lex.specs.Spelling.{IsClosed, IsName, IsOpen, sized_text, symbol_spelling};
 ghost use Rattle.verilog_lex.specs.Words.{keyword_text};
 
-use crate::element::{is_first_of_word, is_of_word, keyword};
 use crate::token::{Keyword, Symbol};
 use itoa::Buffer;
 use std::alloc::AllocError;
-
-fn all_of_word(bytes: &[u8]) -> bool
-    ensures { result ≡ list_all is_word_byte bytes.now }
-{
-    bytes.iter().all(|c| is_of_word(*c))
-}
-
-fn is_word_text(bytes: &[u8]) -> bool
-    ensures { result ≡ is_word bytes.now }
-{
-    match bytes {
-        [] => false,
-        [first, rest @ ..] => is_first_of_word(*first) && all_of_word(rest),
-    }
-}
-
-/// Whether these bytes can be a name: a letter or `_`, then letters, digits and `_`, and no keyword.
-pub fn is_name(bytes: &[u8]) -> bool
-    ensures { IsTrue result ↔ IsName bytes.now }
-{
-    is_word_text(bytes) && keyword(bytes).is_none()
-}
 
 /// Adds a name to a closed text. An error leaves the text as it was, here and below.
 pub fn push_name(text: &mut Vec<u8>, name: &[u8]) -> Result<(), AllocError>
@@ -113,16 +88,6 @@ pub fn push_line(text: &mut Vec<u8>) -> Result<(), AllocError>
     ensures err { OnErr result (text.new.items ≡ text.old.items) }
 {
     text.extend_from_slice(b"\n")
-}
-
-/// Adds a comment of ASCII bytes without a line feed, and ends its line. It closes the text.
-pub fn push_comment(text: &mut Vec<u8>, comment: &[u8]) -> Result<(), AllocError>
-    requires { IsTrue (list_all is_comment_byte comment.now) }
-    ensures bytes { OnOk result (text.new.items ≡ text.old.items ++ (codes "//" ++ (comment.now ++ codes "\n"))) }
-    ensures read { OnOk result ((ls : List Lexeme) → IsOpen text.old.items ls → IsClosed text.new.items ls) }
-    ensures err { OnErr result (text.new.items ≡ text.old.items) }
-{
-    push_parts(text, b"//", comment, b"\n")
 }
 
 // Adds three parts, or nothing.

@@ -1,4 +1,4 @@
--- Items by their first words, and registers and memories by what stands behind their names.
+-- Items by their first words, and registers and memories by what stands after their names.
 use Rattle.std.proofs.Common.{◌≡◌, ◌∙◌, ap, refl, ℕ, ◌<◌, ◌≤◌, Bool, true, false, Option, Some, None, Ok, Err, List, ◌∷◌}
 use Rattle.std.specs.Prelude.{nat_le, if◌then◌else◌}
 use Rattle.std.proofs.lemmas.Bool.{lt-leb, le-leb}

@@ -1,4 +1,4 @@
--- Each item of a well-formed design is read where it is spelled, behind what stands before it.
+-- Each item of a well-formed design is read where it is spelled, after what stands before it.
 use Rattle.std.proofs.Common.{◌≡◌, ℕ, suc, ◌<◌, false, ◌&&◌, Ok, List, [], ◌++◌, length, take, get_or, refl, ap, ◌∙◌, arith}
 use Rattle.std.specs.Prelude.{nat_le, count_by}
 use Rattle.std.proofs.lemmas.Bool.{and_parts, leb-true, ltb-true, cond-true}

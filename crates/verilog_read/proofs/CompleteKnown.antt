@@ -1,4 +1,4 @@
--- The names of a well-formed design stand for its nets, with their widths, behind all that is declared and the first wires.
+-- The names of a well-formed design stand for its nets, with their widths, after all that is declared and the first wires.
 use Rattle.std.proofs.Common.{◌≡◌, inl, inr, ℕ, zero, suc, ◌+◌, ◌<◌, ◌≤◌, Bool, true, false, Some, List, length, take, get_or, refl, sym, ap, ◌∙◌, subst, arith}
 use Rattle.std.specs.Prelude.{count_by}
 use Rattle.std.proofs.lemmas.Bool.{cond-true, cond-false, ltb-true, not-true, cases_lt}
@@ -132,7 +132,7 @@ module _ (d : Netlist) (h : IsWellFormed d) (before : ℕ) (few : before ≤ len
     most_memory_word = memory_word_most;
   }
 
--- ---- behind all wires
+-- ---- after all wires
 pub all_names : (d : Netlist) → IsWellFormed d → (assigns : List AssignTree) (always : List (StatementTree Net)) → Names (entry_in (behind_wires d (length d.wires) assigns always)) (name_of d) (full_scope d) (sorts d (length d.wires))
 all_names d h assigns always =
     let IsNamed : List ℕ → Type 0 = λ ws. Names (entry_in (behind_wires d (length d.wires) assigns always)) (name_of d) (scope d ws) (sorts d (length d.wires)) in

@@ -1,4 +1,4 @@
--- Each declaration is read where it is spelled, behind a design so far.
+-- Each declaration is read where it is spelled, after a design so far.
 use Rattle.std.proofs.Common.{◌≡◌, ℕ, ◌-◌, ◌^◌, ◌<◌, ◌≤◌, Bool, true, false, Some, Ok, List, [], ◌∷◌, ◌++◌, refl, append_assoc}
 use Rattle.std.specs.Prelude.{map, if◌then◌else◌}
 use Rattle.std.specs.Str.{bytes_eq}

@@ -30,7 +30,7 @@ new_name d h m place l n = none_passes (bytes_eq (text_at d place)) (take m d.na
     let below : k < m = omega (arith, q, length-take m d.names) in
     false_from_ne_true _ (λ t. names_distinct d h k place (omega arith) n (sym (get_or-take m d.names k [] below) ∙ sym ((bytes_eq-Decides (text_at d place) (get_or (take m d.names) k [])).0 t))))
 
--- one more name, behind those before it
+-- one more name, after those before it
 pub new_behind : (d : Netlist) → IsWellFormed d → (a : Netlist) (place : ℕ) → a.names ≡ take place d.names → place < length d.names → IsNew a (text_at d place)
 new_behind d h a place e l = record {
   proper = name_spelled d h place l;

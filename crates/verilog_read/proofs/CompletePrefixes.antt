@@ -18,7 +18,7 @@ before_port d k = record no_design { names = take k d.names; ports = take k d.po
 abbrev pub before_declared : Netlist → ℕ → Netlist
 before_declared d k = record no_design { names = take (length d.ports + k) d.names; ports = d.ports; declared = take k d.declared }
 
--- behind all that is declared and so many wires
+-- after all that is declared and so many wires
 abbrev pub behind_wires : Netlist → ℕ → List AssignTree → List (StatementTree Net) → Netlist
 behind_wires d k assigns always = record { names = take (length d.ports + length d.declared + k) d.names; ports = d.ports; declared = d.declared; wires = take k d.wires; assigns = assigns; always = always }
 

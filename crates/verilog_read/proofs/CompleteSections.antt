@@ -1,4 +1,4 @@
--- Items of a section are read where they are spelled, one behind another, up to what follows the section.
+-- Items of a section are read where they are spelled, one after another, up to what follows the section.
 use Rattle.std.proofs.Common.{◌≡◌, ℕ, zero, suc, ◌+◌, ◌<◌, ◌≤◌, Some, Ok, List, [], ◌∷◌, ◌++◌, length, drop, get_or, refl, sym, ap, ◌∙◌, subst, append_assoc, length-append, arith}
 use Rattle.std.proofs.lemmas.Bool.{le-leb}
 use Rattle.net_core.specs.Nets.{Netlist}
@@ -20,7 +20,7 @@ items_more n now s a b (LKeyword keyword.Endmodule ∷ ts) us h e = absurd cc
 items_more n now s a b ts us h e = rw e refl
 
 -- ---- from a section on
--- Behind an item of this section or of an earlier one the design is read to its end.
+-- After an item of this section or of an earlier one the design is read to its end.
 abbrev pub Ends : ℕ → Netlist → List Lexeme → Netlist → Type 0
 Ends most a ts b = (n : ℕ) (now : Section) → length ts ≤ n → rank now ≤ most → items_at n now a ts ≡ Ok (b, [])
 

@@ -1,4 +1,4 @@
--- Each wire, assign and always block is read where it is spelled, behind a design whose names stand for what they read.
+-- Each wire, assign and always block is read where it is spelled, after a design whose names stand for what they read.
 use Rattle.std.proofs.Common.{◌≡◌, ℕ, ◌<◌, ◌≤◌, true, false, Some, Ok, List, [], ◌∷◌, ◌++◌, refl, append_assoc}
 use Rattle.std.specs.Prelude.{codes}
 use Rattle.net_core.specs.declared.tree.Net.{Net}

@@ -15,8 +15,8 @@ use Rattle.verilog_expression.specs.declared.entry.Entry.TheVariants as entry
 use Rattle.verilog_read.specs.Entries.{port_entry, behind_ports, entry_of}
 use Rattle.verilog_read.proofs.LawPlaces.{count_yes, count_no, place_at, register_bits, memory_bits, bits_of, index_bits}
 
--- ---- behind the ports
--- what is declared stands for its number among its like, behind so many of each
+-- ---- after the ports
+-- what is declared stands for its number among its like, after so many of each
 abbrev pub entry_for : Declared → ℕ → ℕ → ℕ → Entry
 entry_for declared.Integer n r m = entry.Integer n
 entry_for (declared.Register w) n r m = entry.Value (net.Register r) w.width
@@ -25,7 +25,7 @@ entry_for (declared.Memory i w k) n r m = entry.Words m i w.width
 same_entry : (x : Declared) (n r m n' r' m' : ℕ) → n ≡ n' → r ≡ r' → m ≡ m' → entry_for x n r m ≡ entry_for x n' r' m'
 same_entry x n r m n' r' m' p q u = ap (λ k. entry_for x k r m) p ∙ ap (λ k. entry_for x n' k m) q ∙ ap (λ k. entry_for x n' r' k) u
 
--- behind others
+-- after others
 entry_moved : (x : Declared) (prefix prefix' : List Declared) (n r m n' r' m' : ℕ) → n' + count_by is_integer prefix ≡ n + count_by is_integer prefix' → r' + count_by is_register prefix ≡ r + count_by is_register prefix' → m' + count_by is_memory prefix ≡ m + count_by is_memory prefix'
     → entry_for x (n' + count_by is_integer prefix) (r' + count_by is_register prefix) (m' + count_by is_memory prefix) ≡ entry_for x (n + count_by is_integer prefix') (r + count_by is_register prefix') (m + count_by is_memory prefix')
 entry_moved x prefix prefix' n r m n' r' m' p q u = same_entry x (n' + count_by is_integer prefix) (r' + count_by is_register prefix) (m' + count_by is_memory prefix) (n + count_by is_integer prefix') (r + count_by is_register prefix') (m + count_by is_memory prefix') p q u

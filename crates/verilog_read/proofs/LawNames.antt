@@ -4,20 +4,15 @@ use Rattle.std.specs.Prelude.{if◌then◌else◌, codes, take, option_map}
 use Rattle.std.specs.Str.{bytes_eq}
 use Rattle.std.specs.List.{list_any, position_or_len}
 use Rattle.std.proofs.lemmas.Bool.{cond-true, cond-false, lt-ltb, or_parts}
-use Rattle.std.proofs.lemmas.List.{length-append, get_or_append_left, take-append-le, take_at}
+use Rattle.std.proofs.lemmas.List.{take_at}
 use Rattle.std.proofs.lemmas.List.Quantifiers.{position-Some}
 use Rattle.std.proofs.lemmas.Slice.Eq.{bytes_eq-Decides}
-use Rattle.net_core.specs.declared.tree.Net.TheVariants as net
-use Rattle.net_core.specs.declared.design.Port.{Port}
-use Rattle.net_core.specs.declared.design.Declared.{Declared}
-use Rattle.net_core.specs.declared.design.Declared.TheVariants as declared
 use Rattle.net_core.specs.Nets.{Netlist, WireTree}
 use Rattle.net_core.specs.Width.{wire_widths}
 use Rattle.net_core.proofs.WireLaws.{length_widths}
 use Rattle.verilog_expression.specs.declared.entry.Entry.{Entry}
 use Rattle.verilog_expression.specs.declared.entry.Entry.TheVariants as entry
-use Rattle.verilog_read.specs.Entries.{port_entry, entry_of, place_in, entry_in}
-use Rattle.verilog_read.proofs.LawEntries.{entry_port, entry_declared, entry_wire, entry_numbered}
+use Rattle.verilog_read.specs.Entries.{entry_of, place_in, entry_in}
 
 -- ---- from a name to its place
 pub record StandsAt (d : Netlist) (s : List ℕ) (e : Entry) : Type 0 where
@@ -64,27 +59,7 @@ entry_named d i l n o =
     cond-false (bytes_eq (get_or d.names i []) (codes "clk")) (Some entry.Clock) (option_map (entry_of d) (place_in d.names (get_or d.names i []))) o
     ∙ ap (option_map (entry_of d)) (place_named d.names i l n)
 
-pub clock_named : (d : Netlist) → entry_in d (codes "clk") ≡ Some entry.Clock
-unfolding entry_in
-clock_named d = refl
-
 -- ---- in front of more
-numbered_prefix : (xs ys : List Declared) (i : ℕ) → i < length xs → entry_numbered (xs ++ ys) i ≡ entry_numbered xs i
-numbered_prefix xs ys i l = rw (get_or_append_left xs ys declared.Integer i l, take-append-le i xs ys (omega arith)) refl
-
-pub entry_port_prefix : (d e : Netlist) → e.ports ≡ d.ports → (k : ℕ) → k < length d.ports → entry_of e k ≡ entry_of d k
-entry_port_prefix d e ports k l =
-    let same : length e.ports ≡ length d.ports = ap length ports in
-    let none : Port = record { output = false; width = 0 } in
-    entry_port e k none (omega arith) ∙ ap (λ ps. port_entry k (get_or ps k none)) ports ∙ sym (entry_port d k none l)
-
-pub entry_declared_prefix : (d e : Netlist) (more : List Declared) → e.ports ≡ d.ports → e.declared ≡ d.declared ++ more → (i : ℕ) → i < length d.declared → entry_of e (length d.ports + i) ≡ entry_of d (length d.ports + i)
-entry_declared_prefix d e more ports declared i l =
-    let same : length e.ports ≡ length d.ports = ap length ports in
-    let longer : length e.declared ≡ length (d.declared ++ more) = ap length declared in
-    ap (λ n. entry_of e (n + i)) (sym same)
-    ∙ entry_declared e i (omega (arith, longer, length-append d.declared more)) ∙ ap (λ xs. entry_numbered xs i) declared ∙ numbered_prefix d.declared more i l
-    ∙ sym (entry_declared d i l)
 
 pub widths_prefix : (ws more : List WireTree) → wire_widths (ws ++ more) ≡ wire_widths ws ++ wire_widths more
 widths_prefix [] more = refl
@@ -93,12 +68,3 @@ widths_prefix (w ∷ ws) more = ap (λ xs. w.width ∷ xs) (widths_prefix ws mor
 -- the widths of the first wires
 pub take_widths : (ws more : List WireTree) → take (length ws) (wire_widths (ws ++ more)) ≡ wire_widths ws
 take_widths ws more = ap (take (length ws)) (widths_prefix ws more) ∙ take_at (wire_widths ws) (wire_widths more) (length ws) (length_widths ws)
-
-pub entry_wire_prefix : (d e : Netlist) (more : List WireTree) → e.ports ≡ d.ports → e.declared ≡ d.declared → e.wires ≡ d.wires ++ more → (k : ℕ) → k < length d.wires → entry_of e (length d.ports + length d.declared + k) ≡ entry_of d (length d.ports + length d.declared + k)
-entry_wire_prefix d e more ports declared wires k l =
-    let same : length d.ports + length d.declared + k ≡ length e.ports + length e.declared + k = omega (arith, ap length ports, ap length declared) in
-    ap (entry_of e) same ∙ entry_wire e k
-    ∙ ap (λ (ws : List WireTree). entry.Value (net.Wire k) (get_or (wire_widths ws) k 0)) wires
-    ∙ ap (λ (xs : List ℕ). entry.Value (net.Wire k) (get_or xs k 0)) (widths_prefix d.wires more)
-    ∙ ap (entry.Value (net.Wire k)) (get_or_append_left (wire_widths d.wires) (wire_widths more) 0 k (omega (arith, length_widths d.wires)))
-    ∙ sym (entry_wire d k)

@@ -36,7 +36,6 @@ pub mod LoopStep
 pub mod Listed
 pub mod Texts
 pub mod Free
-pub mod Ordered
 pub mod Begun
 pub mod Outcomes
 pub mod VerilogFaults

@@ -57,12 +57,6 @@ more_ports names ps k e h = rw e (last (drop PORT_COUNT names) (drop PORT_COUNT 
     last : (ns : List (List ℕ)) (rs : List Port) (p : Port) (more : List Port) → rs ≡ p ∷ more → other_port PORT_COUNT ns rs [] [] ≡ Some PORT_COUNT
     last ns rs p more f = rw f refl
 
-pub no_more_ports : (names : List (List ℕ)) (ps : List Port) (k : ℕ) → k ≡ PORT_COUNT → length ps ≤ PORT_COUNT → other_port k (drop k names) (drop k ps) (drop k port_names) (drop k port_list) ≡ None
-no_more_ports names ps k e h = rw e (last (drop PORT_COUNT names) (drop PORT_COUNT ps) (drop_all PORT_COUNT ps h))
-  where
-    last : (ns : List (List ℕ)) (rs : List Port) → rs ≡ [] → other_port PORT_COUNT ns rs [] [] ≡ None
-    last ns rs f = rw f refl
-
 -- ---- outputs
 output_at_number : (made : List AssignTree) (ps : List Port) (k : ℕ) (d : Port) → k < length ps → unassigned k made (drop k ps) ≡ cond ((get_or ps k d).output && not (is_assigned made k)) (Some k) (unassigned (suc k) made (drop (suc k) ps))
 output_at_number made ps k d h = last (drop k ps) (drop-cons ps k d h)

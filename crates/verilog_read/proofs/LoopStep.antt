@@ -18,7 +18,7 @@ use Rattle.verilog_read.specs.Parts.{part_of}
 use Rattle.verilog_read.specs.View.{endmodule_at}
 
 -- ---- ports
--- behind a port, from what stands behind a comma
+-- after a port, from what stands after a comma
 by_comma : (Netlist → List Lexeme → Read Netlist) → Netlist → List Lexeme → Option (List Lexeme) → Read Netlist
 by_comma ports d ts (Some more) = ports d more
 by_comma ports d ts None = Ok (d, ts)
@@ -52,7 +52,7 @@ unfolding ports_at
 no_port n d ts h = rw h refl
 
 -- ---- items
--- an item, from what stands behind `endmodule`
+-- an item, from what stands after `endmodule`
 by_end : (Section → Netlist → List Lexeme → Read Netlist) → Section → Netlist → List Lexeme → Option (List Lexeme) → Read Netlist
 by_end items now d ts (Some more) = Ok (d, more)
 by_end items now d ts None = item_in now d ts >>= λ x. items x.0.0 x.0.1 x.1

@@ -1,4 +1,4 @@
--- What names stand for stays where another name comes behind them.
+-- What names stand for stays where another name comes after them.
 use Rattle.std.proofs.Common.{◌≡◌, ap, refl, arith, ℕ, zero, suc, ◌+◌, ◌<◌, List, [], ◌∷◌, ◌++◌, length, get_or}
 use Rattle.std.proofs.lemmas.List.{get_or_append_left}
 use Rattle.net_core.specs.declared.design.Declared.{Declared}
@@ -42,7 +42,7 @@ wire_entry ws (declared.Integer ∷ xs) (suc j) k a b c e = wire_entry ws xs j k
 wire_entry ws (declared.Register w ∷ xs) (suc j) k a b c e = wire_entry ws xs j k a (suc b) c (omega (arith, e))
 wire_entry ws (declared.Memory i w n ∷ xs) (suc j) k a b c e = wire_entry ws xs j k a b (suc c) (omega (arith, e))
 
--- all stays where a wire comes behind
+-- all stays where a wire comes after
 pub wires_stay : (ws : List ℕ) (w : ℕ) (xs : List Declared) (j a b c : ℕ) → j < length xs + length ws → behind_ports (ws ++ w ∷ []) xs j a b c ≡ behind_ports ws xs j a b c
 wires_stay ws w [] j a b c h = ap (λ (n : ℕ). entry.Value (net.Wire j) n) (get_or_append_left ws (w ∷ []) 0 j (omega (arith, h)))
 wires_stay ws w (declared.Integer ∷ xs) zero a b c h = refl

@@ -31,7 +31,7 @@ use Rattle.verilog_read.proofs.SoundNames.{AreIntegers, integer_below}
 use Rattle.verilog_read.proofs.SoundWords.{range_takes, fresh_takes, ends_takes, index_takes}
 
 -- ---- what is found
--- an item behind others, in a design whose integers have these names
+-- an item after others, in a design whose integers have these names
 pub record IsDeclaredFound (d : Netlist) (ts : List Lexeme) (x : Netlist × List Lexeme) : Type 0 where
   pub name : List ℕ
   pub item : Declared
@@ -42,7 +42,7 @@ pub record IsDeclaredFound (d : Netlist) (ts : List Lexeme) (x : Netlist × List
   pub fits : declared_fits item ≡ true
   pub text : (integer : ℕ → List ℕ) → AreIntegers d integer → ts ≡ declared_lexemes integer name item ++ x.1
 
--- the same behind `reg`, a width and a name
+-- the same after `reg`, a width and a name
 record IsStoredFound (d : Netlist) (width : ℕ) (s : List ℕ) (ts : List Lexeme) (x : Netlist × List Lexeme) : Type 0 where
   item : Declared
   made : with_declared s item d ≡ x.0
@@ -133,7 +133,7 @@ integer_takes d ts x e =
     (record { text = (name_takes ts s.0 s.1).text; stands = as_integer_takes (entry_in d s.0.0) k.0 (found_takes (as_integer (entry_in d s.0.0)) k.0 code.Unknown ts k.1) })
 
 -- ---- memories
--- behind the range of the index
+-- after the range of the index
 record IsFillFound (d : Netlist) (width : ℕ) (s : List ℕ) (index : ℕ) (ts : List Lexeme) (x : Netlist × List Lexeme) : Type 0 where
   first : Word
   number : ℕ
@@ -202,7 +202,7 @@ memory_found d width s ts x e =
           (behind_takes (LNumber 0 ∷ LSymbol symbol.Colon ∷ []) ts a.0 a.1) (number_takes a.0 n.0 n.1) (lexeme_takes (LSymbol symbol.CloseBracket) n.0.1 r.0 r.1) t.last_value (f.text integer named);
     }
 
--- ---- behind `reg`
+-- ---- after `reg`
 stored_found : (d : Netlist) (width : ℕ) (s : List ℕ) (ts : List Lexeme) (x : Netlist × List Lexeme) → stored_at d width s ts ≡ Ok x → IsStoredFound d width s ts x
 unfolding stored_at
 stored_found d width s (LSymbol symbol.Assign ∷ ts) x e = register_found d width s ts x e

@@ -41,7 +41,7 @@ item_step d (LKeyword keyword.Assign ∷ ts) s x p h = of_section 2 s d _ x sect
 item_step d (LKeyword keyword.Always ∷ ts) s x p h = of_section 3 s d _ x section.Always p refl (always_step d _ x (always_found d ts x h))
 item_step d ts s x p h = absurd cc
 
--- an item behind those of earlier sections
+-- an item after those of earlier sections
 record IsItemIn (now : Section) (d : Netlist) (ts : List Lexeme) (x : (Section × Netlist) × List Lexeme) : Type 0 where
   ordered : rank now ≤ rank x.0.0
   step : IsStep (rank x.0.0) d ts (x.0.1, x.1)

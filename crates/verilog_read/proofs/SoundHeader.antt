@@ -104,7 +104,7 @@ record IsPortsFound (e d : Netlist) (ts : List Lexeme) (x : Netlist × List Lexe
   begun : IsBegun e x.0 → IsBegun e d
   spelled : HasPorts d → IsBegun e x.0 → ports_before e 0 d.ports ++ ts ≡ ports_lexemes e 0 x.0.ports ++ x.1
 
--- a port and the comma behind it
+-- a port and the comma after it
 then_comma : (own ts t1 r : List Lexeme) → ts ≡ own ++ t1 → t1 ≡ LSymbol symbol.Comma ∷ r → ts ≡ (own ++ LSymbol symbol.Comma ∷ []) ++ r
 then_comma own ts t1 r p q = rw (p, q) (simp append_assoc)
 

@@ -1,4 +1,4 @@
--- Each declaration and each wire that is read is a step: it adds its lexemes behind those before it, and keeps the rules.
+-- Each declaration and each wire that is read is a step: it adds its lexemes after those before it, and keeps the rules.
 use Rattle.std.proofs.Common.{◌≡◌, ℕ, suc, ◌+◌, List, [], ◌∷◌, ◌++◌, length, nat_lt, sym, ap, ◌∙◌, append_assoc, arith}
 use Rattle.std.specs.List.{list_all}
 use Rattle.std.proofs.lemmas.Bool.{lt-ltb}

@@ -1,4 +1,4 @@
--- What the ports of a design without a fault of the ports are, and that it keeps the rules that are asked behind the items.
+-- What the ports of a design without a fault of the ports are, and that it keeps the rules that are asked after the items.
 use Rattle.std.proofs.Common.{◌≡◌, ℕ, suc, ◌+◌, ◌<◌, Bool, true, false, not, ◌&&◌, Option, Some, None, List, [], ◌∷◌, length, get_or, nat_lt, refl, ap, ◌∙◌, arith}
 use Rattle.std.specs.Prelude.{◌==◌, if◌then◌else◌, take}
 use Rattle.std.specs.Str.{bytes_eq}
@@ -83,7 +83,7 @@ outputs_assigned k assigns (p ∷ ps) h =
     let t = no_number_before (p.output && not (is_assigned assigns k)) (unassigned (suc k) assigns ps) k h in
     and_from (if p.output then is_assigned assigns k else true) (all_assigned assigns (suc k) ps) (output_assigned p.output (is_assigned assigns k) t.0) (outputs_assigned (suc k) assigns ps t.1)
 
--- ---- the rules behind the items
+-- ---- the rules after the items
 three_kept : (a b c : Bool) (v w x : Why) → a ≡ true → b ≡ true → c ≡ true → first_broken ((a, v) ∷ (b, w) ∷ (c, x) ∷ []) ≡ None
 three_kept a b c v w x p q r = rw (p, q, r) refl
 

@@ -39,7 +39,7 @@ pub same_sides : (a b : ℕ) → 0 < a → a ≡ b → same a b ≡ true
 same_sides a b h e = and_from (nat_lt 0 a) (a == b) (lt-ltb 0 a h) (eq-eqb a b e)
 
 -- ---- names
--- a name behind others, which is a new one
+-- a name after others, which is a new one
 pub record IsLast (e : Netlist) (names : List (List ℕ)) (name : List ℕ) : Type 0 where
   pub more : List (List ℕ)
   pub all : e.names ≡ names ++ name ∷ more

@@ -107,7 +107,7 @@ one_less all xs more y h = h ∙ append_assoc xs (y ∷ []) more
 pub all_more : {A : Type 0} (p : A → Bool) (xs : List A) (y : A) → list_all p xs ≡ true → p y ≡ true → list_all p (xs ++ y ∷ []) ≡ true
 all_more p xs y h k = list_all-append p xs (y ∷ []) ∙ and_from (list_all p xs) (p y && true) h (and_from (p y) true k refl)
 
--- The text so far grows at its end, where the sections behind have no items.
+-- The text so far grows at its end, where the sections after have no items.
 pub grows_declared : (a a' b c f own : List Lexeme) → b ≡ [] → c ≡ [] → f ≡ [] → a' ≡ a ++ own → a' ++ (b ++ (c ++ f)) ≡ (a ++ (b ++ (c ++ f))) ++ own
 grows_declared a a' b c f own p q u v = rw (p, q, u, v) (simp (append_assoc, append-nil))
 

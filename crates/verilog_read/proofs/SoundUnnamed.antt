@@ -1,4 +1,4 @@
--- Each assign and each always block that is read is a step: it adds its lexemes behind those before it, and keeps the rules.
+-- Each assign and each always block that is read is a step: it adds its lexemes after those before it, and keeps the rules.
 use Rattle.std.proofs.Common.{◌≡◌, ℕ, ◌+◌, ◌≤◌, List, [], ◌∷◌, ◌++◌, length, refl, sym, ap, ◌∙◌, subst, append_assoc, arith}
 use Rattle.std.proofs.lemmas.List.{append-nil}
 use Rattle.net_core.specs.declared.tree.Net.{Net}
@@ -19,7 +19,7 @@ use Rattle.verilog_read.proofs.SoundItems.{IsAssignFound, IsAlwaysFound, IsAlway
 use Rattle.verilog_read.proofs.SoundRules.{section_more, assign_keeps, always_keeps}
 use Rattle.verilog_read.proofs.SoundSteps.{Has, Fits, text, Rules, IsStep, step_so, one_less, grows_assigns, grows_always}
 
--- ---- behind the wires
+-- ---- after the wires
 -- what names stand for where all wires stand before
 all_known : (e d : Netlist) (r : ℕ) → 2 ≤ r → HasPortsOfAll e → Has r d → Fits e r d → Knows (entry_in d) (name_of e) (scope e (wire_widths e.wires)) (sorts e (length e.wires))
 all_known e d r l all c g =

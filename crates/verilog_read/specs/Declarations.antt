@@ -24,14 +24,14 @@ ends_at fits ts = do
   r ← symbol_at symbol.Semicolon ts
   kept_if fits r code.Width ts
 
--- behind `integer`
+-- after `integer`
 unfoldable pub integer_item_at : Netlist → List Lexeme → Read Netlist
 integer_item_at d ts = do
   s ← fresh_at d ts
   r ← symbol_at symbol.Semicolon s.1
   Ok (with_declared s.0 declared.Integer d, r)
 
--- behind `reg`, a width, a name and `=`
+-- after `reg`, a width, a name and `=`
 unfoldable pub register_at : Netlist → ℕ → List ℕ → List Lexeme → Read Netlist
 register_at d width s ts = do
   c ← constant_at ts
@@ -69,7 +69,7 @@ all_parts_at (p ∷ ps) ts = do
   r ← part_at p ts
   all_parts_at ps r
 
--- the loop over an integer that fills a memory, behind its first name and before the constant
+-- the loop over an integer that fills a memory, after its first name and before the constant
 abbrev pub loop_parts : List ℕ → List ℕ → ℕ → List Part
 loop_parts name i words =
     This (LSymbol symbol.Assign) ∷ This (LNumber 0) ∷ This (LSymbol symbol.Semicolon)
@@ -89,7 +89,7 @@ integer_at d ts = do
   k ← found (as_integer (entry_in d s.0)) code.Unknown ts
   Ok ((s.0, k), s.1)
 
--- behind `reg`, a width, a name and the range of its index
+-- after `reg`, a width, a name and the range of its index
 unfoldable pub fill_at : Netlist → ℕ → List ℕ → ℕ → List Lexeme → Read Netlist
 fill_at d width s index ts = do
   a ← behind (LSymbol symbol.Semicolon ∷ LKeyword keyword.Initial ∷ LKeyword keyword.For ∷ LSymbol symbol.OpenParenthesis ∷ []) ts
@@ -99,7 +99,7 @@ fill_at d width s index ts = do
   r ← ends_at (c.0.width == width) c.1
   Ok (with_declared s (declared.Memory index c.0 i.0.1) d, r)
 
--- behind `reg`, a width, a name and `[`
+-- after `reg`, a width, a name and `[`
 unfoldable pub memory_at : Netlist → ℕ → List ℕ → List Lexeme → Read Netlist
 memory_at d width s ts = do
   a ← behind (LNumber 0 ∷ LSymbol symbol.Colon ∷ []) ts
@@ -113,7 +113,7 @@ stored_at d width s (LSymbol symbol.Assign ∷ ts) = register_at d width s ts
 stored_at d width s (LSymbol symbol.OpenBracket ∷ ts) = memory_at d width s ts
 stored_at d width s ts = fault code.Syntax ts
 
--- behind `reg`
+-- after `reg`
 unfoldable pub reg_item_at : Netlist → List Lexeme → Read Netlist
 reg_item_at d ts = do
   w ← range_at ts

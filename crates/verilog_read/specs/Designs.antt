@@ -14,7 +14,7 @@ use Rattle.verilog_read.specs.declared.section.Section.TheVariants as section
 use Rattle.verilog_read.specs.Header.{header_at}
 use Rattle.verilog_read.specs.Items.{items_at}
 
--- a design behind which nothing is left
+-- a design after which nothing is left
 abbrev pub whole_at : Netlist → List Lexeme → Reading Netlist
 whole_at d [] = Ok d
 whole_at d (t ∷ ts) = fault code.Syntax (t ∷ ts)

@@ -1,4 +1,4 @@
--- What a name stands for behind what a design has so far: its ports, what is declared, its wires.
+-- What a name stands for after what a design has so far: its ports, what is declared, its wires.
 use Rattle.std.specs.Prelude.{ℕ, zero, suc, ◌-◌, nat_lt, true, false, if◌then◌else◌, Option, Some, List, [], ◌∷◌, length, codes, option_map, position}
 use Rattle.std.specs.Str.{bytes_eq}
 use Rattle.std.specs.List.{list_all}
@@ -18,8 +18,8 @@ use Rattle.verilog_expression.specs.Statements.{Free}
 abbrev pub port_entry : ℕ → Port → Entry
 port_entry k p = if p.output then entry.Output k p.width else entry.Value (net.Port k) p.width
 
--- What stands at a place behind the ports: integers, registers and memories by their number among their like, of which so many
--- stand before, and wires, which have these widths, behind all that is declared.
+-- What stands at a place after the ports: integers, registers and memories by their number among their like, of which so many
+-- stand before, and wires, which have these widths, after all that is declared.
 abbrev pub behind_ports : List ℕ → List Declared → ℕ → ℕ → ℕ → ℕ → Entry
 behind_ports widths [] place integers registers memories = entry.Value (net.Wire place) (get_or widths place 0)
 behind_ports widths (declared.Integer ∷ xs) zero integers registers memories = entry.Integer integers

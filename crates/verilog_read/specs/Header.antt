@@ -44,7 +44,7 @@ port_at d ts = do
   s ← fresh_at d w.1
   Ok (with_port s.0 (record { output = o.0; width = w.0 }) d, s.1)
 
--- behind a port: others, where a comma follows
+-- after a port: others, where a comma follows
 unfoldable pub more_ports_at : (Netlist → List Lexeme → Read Netlist) → Netlist → List Lexeme → Read Netlist
 more_ports_at ports d (LSymbol symbol.Comma ∷ ts) = ports d ts
 more_ports_at ports d ts = Ok (d, ts)

@@ -1,4 +1,4 @@
--- The items of a design from left to right, each behind those before it (IEEE 1364-2005, annex A.1.4, a subset).
+-- The items of a design from left to right, each after those before it (IEEE 1364-2005, annex A.1.4, a subset).
 use Rattle.std.specs.Prelude.{ℕ, zero, suc, ◌==◌, nat_le, Option, Some, None, Ok, List, [], ◌∷◌, ◌++◌, codes}
 use Rattle.std.proofs.Common.{not}
 use Rattle.net_core.specs.declared.tree.Net.{Net}
@@ -30,7 +30,7 @@ with_assign a d = record d { assigns = d.assigns ++ a ∷ [] }
 abbrev pub with_always : StatementTree Net → Netlist → Netlist
 with_always a d = record d { always = d.always ++ a ∷ [] }
 
--- behind `wire`: the right side does not know the wire's own name
+-- after `wire`: the right side does not know the wire's own name
 unfoldable pub wire_at : Netlist → List Lexeme → Read Netlist
 wire_at d ts = do
   w ← range_at ts
@@ -52,7 +52,7 @@ output_at d ts = do
   o ← found (as_output (entry_in d s.0)) code.Unknown ts
   kept_if (not (is_assigned d.assigns o.0)) (o, s.1) code.Twice ts
 
--- behind `assign`
+-- after `assign`
 unfoldable pub assign_at : Netlist → List Lexeme → Read Netlist
 assign_at d ts = do
   o ← output_at d ts
@@ -61,7 +61,7 @@ assign_at d ts = do
   r ← ends_at (e.0.width == o.0.1) e.1
   Ok (with_assign (record { port = o.0.0; value = e.0.tree }) d, r)
 
--- behind `always`
+-- after `always`
 unfoldable pub always_at : Netlist → List Lexeme → Read Netlist
 always_at d ts = do
   a ← behind (LSymbol symbol.At ∷ LSymbol symbol.OpenParenthesis ∷ LKeyword keyword.Posedge ∷ LName (codes "clk") ∷ LSymbol symbol.CloseParenthesis ∷ []) ts

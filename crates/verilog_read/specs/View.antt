@@ -59,7 +59,7 @@ pub record AddsAllTargets (before after : Targets) (more : StatementTrees Net) :
   pub registers : Raises before.registers.items after.registers.items (λ r. not (all_targets_pass (λ k. not (k == r)) (λ k. true) more))
   pub memories : Raises before.memories.items after.memories.items (λ m. not (all_targets_pass (λ k. true) (λ k. not (k == m)) more))
 
--- ---- what is declared, behind so many of each
+-- ---- what is declared, after so many of each
 abbrev pub declared_entry : Counts → Declared → Entry
 declared_entry c declared.Integer = entry.Integer c.integers
 declared_entry c (declared.Register w) = entry.Value (net.Register c.registers) w.width
@@ -83,7 +83,7 @@ no_counts = record { integers = 0; registers = 0; memories = 0 }
 abbrev pub found_in : List (Bor (List ℕ) × Entry) → List ℕ → Option Entry
 found_in entries name = lookup (λ key. bytes_eq name key.now) entries
 
--- a name and what it stands for, behind others
+-- a name and what it stands for, after others
 pub record AddsEntry (before after : List (Bor (List ℕ) × Entry)) (name : List ℕ) (e : Entry) : Type 0 where
   pub key : Bor (List ℕ)
   pub spelled : key.now ≡ name
@@ -98,7 +98,7 @@ pub record IsKnown (d : Netlist) (table : List (Bor (List ℕ) × Entry)) (c : C
   pub memories : (k : ℕ) → is_up t.memories.items k ≡ not (list_all (leaves_memory k) d.always)
   pub assigned : (k : ℕ) → is_up flags k ≡ is_assigned d.assigns k
 
--- ---- lexemes behind a keyword
+-- ---- lexemes after a keyword
 abbrev pub endmodule_at : List Lexeme → Option (List Lexeme)
 endmodule_at (LKeyword keyword.Endmodule ∷ ts) = Some ts
 endmodule_at ts = None

@@ -1,4 +1,4 @@
--- The first words of items, and what a register or a memory has behind its name.
+-- The first words of items, and what a register or a memory has after its name.
 use Rattle.std.specs.Prelude.{Bool, true, false, Option, Some, None, Ok, List, ◌∷◌}
 use Rattle.net_core.specs.Nets.{Netlist}
 use Rattle.verilog_lex.specs.declared.token.Keyword.TheVariants as keyword
@@ -13,7 +13,7 @@ use Rattle.verilog_read.specs.declared.sections.Item.TheVariants as item
 use Rattle.verilog_read.specs.Declarations.{integer_item_at, reg_item_at}
 use Rattle.verilog_read.specs.Items.{wire_at, assign_at, always_at}
 
--- the item that begins here, and what stands behind its first word
+-- the item that begins here, and what stands after its first word
 abbrev pub begins_at : List Lexeme → Option (Item × List Lexeme)
 begins_at (LKeyword keyword.Integer ∷ ts) = Some (item.Integer, ts)
 begins_at (LKeyword keyword.Reg ∷ ts) = Some (item.Reg, ts)
@@ -29,7 +29,7 @@ item_section item.Wire = section.Wires
 item_section item.Assign = section.Assigns
 item_section item.Always = section.Always
 
--- behind the first word of an item
+-- after the first word of an item
 abbrev pub behind_word : Item → Netlist → List Lexeme → Read Netlist
 behind_word item.Integer = integer_item_at
 behind_word item.Reg = reg_item_at
@@ -37,7 +37,7 @@ behind_word item.Wire = wire_at
 behind_word item.Assign = assign_at
 behind_word item.Always = always_at
 
--- behind the name of a register, `=`, and of a memory, `[`: whether it is the first
+-- after the name of a register, `=`, and of a memory, `[`: whether it is the first
 abbrev pub storage_at : List Lexeme → Read Bool
 storage_at (LSymbol symbol.Assign ∷ ts) = Ok (true, ts)
 storage_at (LSymbol symbol.OpenBracket ∷ ts) = Ok (false, ts)

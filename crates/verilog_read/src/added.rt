@@ -1,4 +1,4 @@
-//! A design with one more port or item, behind those that it has.
+//! A design with one more port or item, after those that it has.
 
 ghost use Rattle.std.specs.Prelude.{◌≡◌, ◌∷◌, ◌++◌, [], suc, map, string_bytes, IfOk, OnOk};
 ghost use Rattle.net_core.specs.View.{statement_of, assign_of, netlist_of, wire_of};
@@ -37,7 +37,7 @@ fn more(count: u32) -> Result<u32, AllocError>
     }
 }
 
-// A name behind others that a design has, and what it stands for. It is new.
+// A name after others that a design has, and what it stands for. It is new.
 fn add_name<'a>(
     alloc: Global,
     names: &mut Vec<String>,

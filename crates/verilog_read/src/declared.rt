@@ -17,7 +17,7 @@ use verilog_expression::lexemes::{constant, fault, lexeme};
 use verilog_expression::{Code, Mark, PhraseError, Rest};
 use verilog_lex::{Symbol, Token, TokenKind};
 
-/// An integer, behind its keyword.
+/// An integer, after its keyword.
 #[tactic(auto, unfolding(crate::specs::Declarations::integer_item_at))]
 pub(crate) fn integer_item<'a>(
     alloc: Global,
@@ -34,7 +34,7 @@ pub(crate) fn integer_item<'a>(
     Ok((partial, rest))
 }
 
-// Behind `reg`, a width, a name and `=`.
+// After `reg`, a width, a name and `=`.
 #[tactic(auto, unfolding(crate::specs::Declarations::register_at))]
 fn register<'a>(
     alloc: Global,
@@ -54,7 +54,7 @@ fn register<'a>(
     Ok((partial, rest))
 }
 
-// Behind the name of a register, `=`, and of a memory, `[`: whether it is the first.
+// After the name of a register, `=`, and of a memory, `[`: whether it is the first.
 fn storage<'a>(rest: Rest<'a>) -> Result<(bool, Rest<'a>), PhraseError>
     ensures { Gives (λ x. (x.0, lexemes_left x.1)) result (storage_at (lexemes_left rest.entry)) }
 {
@@ -77,7 +77,7 @@ fn storage<'a>(rest: Rest<'a>) -> Result<(bool, Rest<'a>), PhraseError>
     }
 }
 
-// Behind `reg`, a width and a name.
+// After `reg`, a width and a name.
 fn stored<'a>(
     alloc: Global,
     partial: Partial<'a>,
@@ -98,7 +98,7 @@ fn stored<'a>(
     }
 }
 
-/// A register or a memory, behind its keyword.
+/// A register or a memory, after its keyword.
 #[tactic(auto, unfolding(crate::specs::Declarations::reg_item_at))]
 pub(crate) fn reg_item<'a>(
     alloc: Global,

@@ -24,7 +24,7 @@ pub enum ReadError {
     /// A width, a range or a bound, at the token that ends its phrase.
     #[error("width at byte {at}")]
     Width { at: usize },
-    /// An item behind one of a later section.
+    /// An item after one of a later section.
     #[error("item out of order at byte {at}")]
     Order { at: usize },
     /// The first port, by its number from 0, that is not as every design has it, or else the first output without an assign.

@@ -38,7 +38,7 @@ fn direction<'a>(rest: Rest<'a>) -> Result<(bool, Rest<'a>), PhraseError>
     }
 }
 
-// A design with the port in front behind its others.
+// A design with the port in front after its others.
 #[tactic(auto, unfolding(crate::specs::Header::port_at))]
 fn port<'a>(
     alloc: Global,
@@ -57,7 +57,7 @@ fn port<'a>(
     Ok((partial, rest))
 }
 
-// What is left behind a comma, where one stands in front.
+// What is left after a comma, where one stands in front.
 fn comma<'a>(rest: Rest<'a>) -> Option<Rest<'a>>
     ensures { Finds (λ r. lexemes_left r) result (comma_at (lexemes_left rest.entry)) }
 {

@@ -1,4 +1,4 @@
-//! Wires, assigns and always blocks, each behind the items before it.
+//! Wires, assigns and always blocks, each after the items before it.
 
 ghost use Rattle.std.specs.Prelude.{◌≡◌};
 ghost use Rattle.net_core.specs.View.{netlist_of};
@@ -17,7 +17,7 @@ use verilog_expression::{
 };
 use verilog_lex::{Keyword, Symbol};
 
-/// A wire, behind its keyword.
+/// A wire, after its keyword.
 #[tactic(auto, unfolding(crate::specs::Items::wire_at))]
 pub(crate) fn wire_item<'a>(
     alloc: Global,
@@ -63,7 +63,7 @@ fn output<'a>(partial: &Partial, rest: Rest<'a>) -> Result<(u32, u8, Rest<'a>), 
     Ok((port, width, after))
 }
 
-/// What an output shows, behind its keyword.
+/// What an output shows, after its keyword.
 #[tactic(auto, unfolding(crate::specs::Items::assign_at))]
 pub(crate) fn assign_item<'a>(
     alloc: Global,
@@ -80,7 +80,7 @@ pub(crate) fn assign_item<'a>(
     Ok((partial, rest))
 }
 
-/// An always block, behind its keyword.
+/// An always block, after its keyword.
 #[tactic(auto, unfolding(crate::specs::Items::always_at))]
 pub(crate) fn always_item<'a>(
     alloc: Global,

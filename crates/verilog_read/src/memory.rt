@@ -49,7 +49,7 @@ pub(crate) enum Part<'a> {
     Bound(u32),
 }
 
-// What is left behind a name that stood before.
+// What is left after a name that stood before.
 #[tactic(auto, unfolding(crate::specs::Declarations::part_at))]
 fn same<'a>(before: &[u8], rest: Rest<'a>) -> Result<Rest<'a>, PhraseError>
     ensures { Gives (λ r. lexemes_left r) result (part_at (declarations.Part.Same before.now) (lexemes_left rest.entry)) }
@@ -62,7 +62,7 @@ fn same<'a>(before: &[u8], rest: Rest<'a>) -> Result<Rest<'a>, PhraseError>
     }
 }
 
-// What is left behind the number of words.
+// What is left after the number of words.
 #[tactic(auto, unfolding(crate::specs::Declarations::part_at))]
 fn bound<'a>(words: u32, rest: Rest<'a>) -> Result<Rest<'a>, PhraseError>
     ensures { Gives (λ r. lexemes_left r) result (part_at (declarations.Part.Bound words) (lexemes_left rest.entry)) }
@@ -75,7 +75,7 @@ fn bound<'a>(words: u32, rest: Rest<'a>) -> Result<Rest<'a>, PhraseError>
     }
 }
 
-// What is left behind a part.
+// What is left after a part.
 #[tactic(auto, unfolding(crate::specs::Declarations::part_at))]
 fn one_part<'a>(part: Part, rest: Rest<'a>) -> Result<Rest<'a>, PhraseError>
     ensures { Gives (λ r. lexemes_left r) result (part_at (part_of part.entry) (lexemes_left rest.entry)) }
@@ -87,7 +87,7 @@ fn one_part<'a>(part: Part, rest: Rest<'a>) -> Result<Rest<'a>, PhraseError>
     }
 }
 
-// What is left behind several parts.
+// What is left after several parts.
 fn all_parts<'a>(parts: &[Part], rest: Rest<'a>) -> Result<Rest<'a>, PhraseError>
     ensures { Gives (λ r. lexemes_left r) result (all_parts_at (map part_of parts.now) (lexemes_left rest.entry)) }
 {
@@ -98,7 +98,7 @@ fn all_parts<'a>(parts: &[Part], rest: Rest<'a>) -> Result<Rest<'a>, PhraseError
     Ok(after)
 }
 
-// The loop over an integer that fills a memory, behind its first name and before the constant.
+// The loop over an integer that fills a memory, after its first name and before the constant.
 fn loop_head<'a, 'n>(
     name: &'n str,
     integer: &'n [u8],
@@ -156,7 +156,7 @@ fn integer<'a>(partial: &Partial, rest: Rest<'a>) -> Result<(&'a [u8], u32, Rest
     Ok((name, integer, after))
 }
 
-// Behind the range of a memory's index.
+// After the range of a memory's index.
 #[tactic(auto, unfolding(crate::specs::Declarations::fill_at))]
 fn fill<'a>(
     alloc: Global,
@@ -192,7 +192,7 @@ fn fill<'a>(
     Ok((partial, rest))
 }
 
-/// A memory, behind its width, its name and `[`.
+/// A memory, after its width, its name and `[`.
 #[tactic(auto, unfolding(crate::specs::Declarations::memory_at))]
 pub(crate) fn memory<'a>(
     alloc: Global,

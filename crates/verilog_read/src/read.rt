@@ -22,7 +22,7 @@ use verilog_expression::lexemes::fault;
 use verilog_expression::{Code, PhraseError, Rest};
 use verilog_lex::{LexError, Token, tokens};
 
-// A design behind which nothing is left.
+// A design after which nothing is left.
 fn whole<'a>(partial: Partial<'a>, rest: Rest<'a>) -> Result<Partial<'a>, PhraseError>
     ensures { Gives (λ d. netlist_of d) result (whole_at (netlist_of partial.entry) (lexemes_left rest.entry)) }
 {

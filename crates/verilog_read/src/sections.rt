@@ -37,7 +37,7 @@ pub(crate) enum Item {
     Always,
 }
 
-// The item that begins in front, and what is left behind its first word.
+// The item that begins in front, and what is left after its first word.
 fn begins<'a>(rest: Rest<'a>) -> Option<(Item, Rest<'a>)>
     ensures { Finds (λ x. (x.0, lexemes_left x.1)) result (begins_at (lexemes_left rest.entry)) }
 {
@@ -75,7 +75,7 @@ fn section_of(item: Item) -> Section
     }
 }
 
-// An item, behind its first word.
+// An item, after its first word.
 fn item_behind<'a>(
     alloc: Global,
     item: Item,
@@ -118,7 +118,7 @@ fn ordered_item<'a>(
     Ok((section, partial, rest))
 }
 
-// What is left behind `endmodule`, where it stands in front.
+// What is left after `endmodule`, where it stands in front.
 fn endmodule<'a>(rest: Rest<'a>) -> Option<Rest<'a>>
     ensures { Finds (λ r. lexemes_left r) result (endmodule_at (lexemes_left rest.entry)) }
 {

@@ -18,11 +18,11 @@ opened {text} {ls} h = IsOpen-closed text ls h
 pub from_ok : {T E P Q : Type 0} (r : Result T E) → OnOk r P → (P → Q) → OnOk r Q
 from_ok r h f = on_ok_weaker r f h
 
--- the end of a line behind a word
+-- the end of a line after a word
 pub word_line : {a b c : List ℕ} {ls : List Lexeme} → AddsWord a b ls → ((before : List Lexeme) → IsOpen b before → IsClosed c before) → AddsLine a c ls
 word_line {ls = ls} w e = record { read = λ before h. e (before ++ ls) (w.read before h) }
 
--- more of a line behind a word
+-- more of a line after a word
 pub marked_line : {a b c : List ℕ} {ls ms : List Lexeme} → AddsWord a b ls → ((before : List Lexeme) → IsOpen b before → IsClosed c (before ++ ms)) → AddsLine a c (ls ++ ms)
 marked_line {a} {b} {c} {ls} {ms} w e = record {
   read = λ before h. let P : List Lexeme → Type 0 = λ all. IsClosed c all in subst P (append_assoc before ls ms) (e (before ++ ls) (w.read before h));

@@ -1,8 +1,7 @@
 -- What a well-formed design gives to each function that writes a part of it.
-use Rattle.std.specs.Prelude.{◌≡◌, ℕ, zero, suc, ◌+◌, ◌<◌, ◌≤◌, nat_lt, nat_le, if◌then◌else◌, Bool, true, false, ◌&&◌, ◌⊎◌, List, [], ◌∷◌, count_by, take, length, map, Option, None, Some}
+use Rattle.std.specs.Prelude.{◌≡◌, ℕ, zero, suc, ◌+◌, ◌<◌, ◌≤◌, nat_lt, nat_le, if◌then◌else◌, Bool, true, false, ◌&&◌, ◌⊎◌, List, [], ◌∷◌, count_by, take, length, map}
 use Rattle.std.specs.List.{list_all}
-use Rattle.std.specs.Result.{is_ok}
-use Rattle.std.proofs.Common.{get_or, refl, sym, ap, ◌∙◌, inl, inr, arith}
+use Rattle.std.proofs.Common.{get_or, sym, ap, ◌∙◌, inl, inr, arith}
 use Rattle.std.proofs.lemmas.Bool.{and_parts, leb-true, ltb-true, cases_lt}
 use Rattle.std.proofs.lemmas.List.{get_or_past, get_or-map, length-map}
 use Rattle.std.proofs.lemmas.List.Sums.{sum_by-take-le}
@@ -15,10 +14,9 @@ use Rattle.net_core.specs.Names.{is_integer, place_of, name_place}
 use Rattle.net_core.specs.Nets.{StatementTree, WireTree, AssignTree, Netlist}
 use Rattle.net_core.specs.Width.{right_width, width_of, output_width, full_scope, register_widths, memory_widths, same, word_fits, scope_before}
 use Rattle.verilog_lex.specs.Spelling.{IsName}
-use Rattle.design_rules.specs.declared.formed.NetError.{NetError}
 use Rattle.design_rules.specs.FormedSyntax.{trees_pass}
 use Rattle.design_rules.specs.FormedScope.{sorts, reads_known, is_output, registers_of, memories_of}
-use Rattle.design_rules.specs.Formed.{IsWellFormed, result_of, targets_known}
+use Rattle.design_rules.specs.Formed.{IsWellFormed, targets_known}
 use Rattle.verilog_write.specs.VerilogGrammar.Grammar.{text_at, integer_name}
 use Rattle.design_rules.proofs.FormedItemLaws.{declared_kept, wire_kept, assign_kept, block_kept, last_kept}
 use Rattle.design_rules.proofs.FormedWidthLaws.{ports_listed, same_some}
@@ -115,8 +113,3 @@ at_view f xs k x l e = ap f e ∙ sym (get_or-map f xs k x (f x) l)
 
 pub below_view : {A B : Type 0} (f : A → B) (xs : List A) (k : ℕ) → k < length xs → k < length (map f xs)
 below_view f xs k l = omega (arith, l, length-map xs f)
-
--- ---- what the test of a design says
-pub fault_none : (f : Option NetError) → is_ok (result_of f) ≡ true → f ≡ None
-fault_none None h = refl
-fault_none (Some e) h = cc

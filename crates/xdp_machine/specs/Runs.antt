@@ -35,10 +35,6 @@ run code (suc n) m = then_on (run code n) m (step code m)
 abbrev pub IsRun : Code → PacketIn → MapState → Leaves → Type 0
 IsRun code packet maps e = (n : ℕ) × (run code n (start packet maps) ≡ Ended e)
 
--- The run has no end: after some steps the next one has no case.
-abbrev pub IsStuckRun : Code → PacketIn → MapState → Machine → Type 0
-IsStuckRun code packet maps m = (n : ℕ) × (run code n (start packet maps) ≡ Stuck m)
-
 -- The capture run: each packet's run begins with the maps that the one before left, and these are the last.
 abbrev pub AreRuns : Code → MapState → List PacketIn → List Leaves → MapState → Type 0
 AreRuns code maps [] [] last = last ≡ maps

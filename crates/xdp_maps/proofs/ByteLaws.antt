@@ -31,3 +31,7 @@ bytes_from j (suc n) x = All-cons (λ b. b < 256) (byte_at j x) (bytes_low_first
 
 pub IsBytes-little_bytes : (n x : ℕ) → IsBytes n (little_bytes n x)
 IsBytes-little_bytes n x = record { len = length-bytes_low_first 0 n x; bytes_fit = bytes_from 0 n x }
+
+-- and written inside a value
+pub IsBytes-written : (n at c x : ℕ) (value : List ℕ) → IsBytes n value → at + c ≤ n → IsBytes n (patched value at (little_bytes c x))
+IsBytes-written n at c x value b inside = let w = IsBytes-little_bytes c x in IsBytes-patched n value at (little_bytes c x) b (omega (arith, inside, w.len)) w.bytes_fit

@@ -1,6 +1,9 @@
 pub mod ByteLaws
+pub mod LittleLaws
 pub mod ChoiceLaws
 pub mod IndexLaws
+pub mod LimitLaws
+pub mod ResourceLaws
 pub mod Entries
 pub mod Hashes
 pub mod Refusals

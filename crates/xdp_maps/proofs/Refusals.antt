@@ -33,11 +33,6 @@ unfolding IsSigned
 signed-hash_refusal cap used present flags =
     signed_if (nat_lt 2 flags) _ _ refl (signed_if ((flags == 1) && present) _ _ refl (signed_if ((flags == 2) && not present) _ _ refl (signed_if (not present && nat_le cap used) _ _ refl refl)))
 
-pub signed-array_refusal : (cap index flags : ℕ) → to_z w64 (of_z w64 (number_of (array_refusal cap index flags))) ≡ number_of (array_refusal cap index flags)
-unfolding IsSigned
-signed-array_refusal cap index flags =
-    signed_if (nat_lt 2 flags) _ _ refl (signed_if (nat_le cap index) _ _ refl (signed_if (flags == 1) _ _ refl refl))
-
 -- an index that is written is one of the array's
 pub inside-array_refusal : (cap index flags : ℕ) → array_refusal cap index flags ≡ None → index < cap
 inside-array_refusal cap index flags h = grind (arith, nat_tests)

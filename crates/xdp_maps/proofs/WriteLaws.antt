@@ -18,6 +18,7 @@ use Rattle.xdp_maps.proofs.Hashes.{order_total, order_exact}
 use Rattle.xdp_maps.proofs.Keys.{key_cases}
 use Rattle.xdp_maps.proofs.Over.{same_insert, other_insert, other_remove}
 use Rattle.xdp_maps.proofs.StateLemmas.{equal_or_not}
+use Rattle.xdp_maps.proofs.ResourceLaws.{first, second, third}
 
 cases : (k key : List ℕ) → (k ≡ key) ⊎ (k ≢ key)
 cases = key_cases (slice_cmp nat_cmp) order_total order_exact
@@ -47,15 +48,6 @@ at_key q ws old new key written others present size = record {
   ];
   size = size;
 }
-
-first : (r : Resource) (rs : List Resource) → Contains (r ∷ rs) r
-first r rs = (0, omega arith, refl)
-
-second : (r s : Resource) (rs : List Resource) → Contains (r ∷ s ∷ rs) s
-second r s rs = (1, omega arith, refl)
-
-third : (r s t : Resource) → Contains (r ∷ s ∷ t ∷ []) t
-third r s t = (2, omega arith, refl)
 
 insert_keeps : (q : ℕ) (c : Contents) (key v : List ℕ) (b : Bool) → is_some (lookup_of c key) ≡ b → Keeps q (update_writes q key b) c (map.insert c key v)
 insert_keeps q c key v true there =

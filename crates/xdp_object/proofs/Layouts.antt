@@ -138,7 +138,7 @@ second_symbol bytes name code maps refs h =
     ∙ symbol_at-written (symbol_bytes no_symbol) (function_symbol (length code)) (map_symbols (35 + length name) 0 maps) 1 (length-symbol_bytes no_symbol)
     (record { name = omega arith; section = omega arith; value = omega arith; size = omega (arith, h.small) })
 
--- the symbols of some maps, and of others behind them
+-- the symbols of some maps, and of others after them
 map_symbols-append : (name_at value : ℕ) (before after : List MapRecord)
     → map_symbols name_at value (before ++ after) ≡ map_symbols name_at value before ++ map_symbols (name_at + length (map_names before)) (value + 20 * length before) after
 map_symbols-append name_at value [] after =

@@ -73,7 +73,7 @@ pub in_places-fault : (hash_cap : ℕ) (bytes : List ℕ) (t : MapTable) (places
 in_places-fault hash_cap bytes t places i n error h e fault =
     in_places-refers hash_cap bytes t places i n h e ∙ ap (λ r. carried r (λ v. all_in_places hash_cap bytes v places (i + 1))) fault
 
--- one of those that are left, put behind those so far
+-- one of those that are left, put after those so far
 pub pushed_front : (new old later left all : List ℕ) (x : ℕ) → new ≡ old ++ x ∷ [] → left ≡ x ∷ later → old ++ left ≡ all → new ++ later ≡ all
 pushed_front new old later left all x e f g =
     ap (λ xs. xs ++ later) e ∙ append_assoc old (x ∷ []) later ∙ ap (λ xs. old ++ xs) (sym f) ∙ g

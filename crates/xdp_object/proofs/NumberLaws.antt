@@ -71,10 +71,6 @@ pub same_op : (o : Option ℕ) (i : Insn) → (with_low o i).op ≡ i.op
 same_op None i = refl
 same_op (Some n) i = refl
 
-pub same_src : (o : Option ℕ) (i : Insn) → (with_low o i).src ≡ i.src
-same_src None i = refl
-same_src (Some n) i = refl
-
 pub op_is_load : (op : Op) → is_load_op op ≡ true → op ≡ LoadImm
 op_is_load LoadImm e = refl
 op_is_load op e = absurd (cc)

@@ -1,6 +1,6 @@
 -- What the absence of an error says of an ELF file.
-use Rattle.std.proofs.Common.{◌≡◌, ◌∙◌, ℕ, zero, suc, ◌+◌, ◌%◌, ◌<◌, ◌≤◌, ◌==◌, ◌&&◌, Bool, true, false, cond, ltb, Option, Some, None, List, length, refl, ap, arith}
-use Rattle.std.proofs.lemmas.Bool.{ltb-true, ltb-false}
+use Rattle.std.proofs.Common.{◌≡◌, ◌∙◌, ℕ, zero, suc, ◌+◌, ◌%◌, ◌<◌, ◌==◌, ◌&&◌, Bool, true, false, cond, ltb, Option, Some, None, List, refl, ap, arith}
+use Rattle.std.proofs.lemmas.Bool.{ltb-true}
 use Rattle.std.specs.Option.{IsSome, is_some, option_or}
 use Rattle.elf_view.specs.File.{e_shnum, e_shstrndx, first_symtab, section_at, section_bytes, string_at, symtab_at}
 use Rattle.elf_view.specs.Rules.{first_error, is_string_table, name_open, names_open, no_names, sections_outside, short_file, short_headers, wrong_header, wrong_machine, wrong_symbols, wrong_table}
@@ -34,11 +34,6 @@ no_error bytes e0 =
     let e7 = no_rest (names_open bytes) _ e6 in
     record { file = no_first (short_file bytes) _ e0; names = no_first (no_names bytes) _ e5; named = no_first (names_open bytes) _ e6; symbols = no_first (wrong_symbols bytes) _ e7 }
 
--- a test that gives nothing only where it is false, or only where it is true
-pub none_if_false : {X : Type 0} (b : Bool) (x : X) → cond b (Some x) None ≡ None → b ≡ false
-none_if_false true x e = absurd (cc)
-none_if_false false x e = refl
-
 pub none_if_true : {X : Type 0} (b : Bool) (x : X) → cond b None (Some x) ≡ None → b ≡ true
 none_if_true true x e = refl
 none_if_true false x e = absurd (cc)
@@ -50,11 +45,6 @@ and_left false b e = absurd (cc)
 pub and_right : (a b : Bool) → a && b ≡ true → b ≡ true
 and_right true b e = e
 and_right false b e = absurd (cc)
-
--- the file header is whole
-pub header_whole : (bytes : List ℕ) → first_error bytes ≡ None → 64 ≤ length bytes
-unfolding short_file
-header_whole bytes e = ltb-false (length bytes) 64 (none_if_false (ltb (length bytes) 64) _ (no_error bytes e).file)
 
 is_below : (bytes : List ℕ) (i : ℕ) → is_string_table bytes i ≡ true → i < e_shnum bytes
 is_below bytes i e = ltb-true i (e_shnum bytes) (and_left (ltb i (e_shnum bytes)) _ e)

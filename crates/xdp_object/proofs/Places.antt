@@ -76,7 +76,7 @@ length-places_of bytes f = length-map-range_with_len (relocated_at bytes f) 0 (f
 
 -- ---- a walk over instructions
 
--- what begins at a place is what begins there behind the first k instructions, which end at `place`
+-- what begins at a place is what begins there after the first k instructions, which end at `place`
 pub record Walked (insns : List Insn) (k place : ℕ) : Type 0 where
   pub rest : (p : ℕ) → place ≤ p → insn_at insns p ≡ insn_at (drop k insns) (p - place)
 
@@ -116,7 +116,7 @@ or_none : {X : Type 0} (a : Option X) → option_or a None ≡ a
 or_none None = refl
 or_none (Some x) = refl
 
--- the places of an instruction, and those behind it
+-- the places of an instruction, and those after it
 pub unknown-step : (places : List Relocated) (insns : List Insn) (k place n : ℕ) (d : Insn) → Walked insns k place → k < length insns
     → place + units_of (get_or insns k d).op ≤ n
     → first_from (unknown_at places insns) place (n - place)
@@ -155,7 +155,7 @@ unknown-step places insns k place n d w lt inside = elim (one_or_two (get_or ins
         sym (ap (λ v. option_or (option_or a (cond (v == 2) (unknown_by (place + 1) (said_at places (place + 1)) None) None)) (first_from (unknown_at places insns) (place + v) (n - (place + v)))) e
         ∙ option_or-assoc a (unknown_by (place + 1) (said_at places (place + 1)) None) (first_from (unknown_at places insns) (place + 2) (n - (place + 2))))
 
--- the units of an instruction, and those behind it
+-- the units of an instruction, and those after it
 pub units_left : (insns : List Insn) (k : ℕ) (d : Insn) → k < length insns
     → unit_count (drop k insns) ≡ units_of (get_or insns k d).op + unit_count (drop (k + 1) insns)
 units_left insns k d lt =

@@ -47,7 +47,7 @@ abbrev pub said_by : (ℕ → ℕ) → List ℕ → ℕ → Relocated
 said_by number [] p = Untouched
 said_by number (q ∷ qs) p = both (says number p q) (said_by number qs p)
 
--- nothing of one before them or behind them
+-- nothing of one before them or after them
 apart : (number : ℕ → ℕ) (q : ℕ) (qs : List ℕ) (p : ℕ) → q ≢ p → said_by number (q ∷ qs) p ≡ said_by number qs p
 apart number q qs p h = ap (λ b. both (cond b (Refers (2 + number q)) Untouched) (said_by number qs p)) (is_other q p h)
 
@@ -122,7 +122,7 @@ abbrev pub Counts : (ℕ → ℕ) → (maps so_far : ℕ) → List ℕ → Type 
 Counts number maps so_far [] = so_far ≡ maps
 Counts number maps so_far (q ∷ qs) = ((number q < so_far) × Counts number maps so_far qs) ⊎ ((number q ≡ so_far) × (so_far < maps) × Counts number maps (suc so_far) qs)
 
--- each map from one on is referred to, first behind maps of smaller numbers
+-- each map from one on is referred to, first after maps of smaller numbers
 abbrev pub Firsts : (ℕ → ℕ) → (maps so_far : ℕ) → List ℕ → Type 0
 Firsts number maps so_far qs =
     (n : ℕ) → so_far ≤ n → n < maps → (k : ℕ) × (k < length qs) × (number (get_or qs k 0) ≡ n) × ((j : ℕ) → j < k → number (get_or qs j 0) < n)
@@ -138,7 +138,7 @@ counts number maps so_far (q ∷ qs) few below firsts =
     small : number q < maps
     small = All-head (λ x. number x < maps) q qs below
 
-    -- a map behind that of q is not referred to at q
+    -- a map after that of q is not referred to at q
     behind : (n : ℕ) → number q < n → n < maps → so_far ≤ n → (k : ℕ) × (k < length qs) × (number (get_or qs k 0) ≡ n) × ((j : ℕ) → j < k → number (get_or qs j 0) < n)
     behind n above under low = by_place (firsts n low under)
       where
@@ -147,7 +147,7 @@ counts number maps so_far (q ∷ qs) few below firsts =
         by_place (zero, inside, is, before) = absurd (omega arith)
         by_place (suc k, inside, is, before) = (k, omega arith, is, λ j low'. before (suc j) (omega arith))
 
-    -- q refers to no map behind the next
+    -- q refers to no map after the next
     not_later : so_far < number q → ⊥
     not_later above = by_place (firsts so_far (omega arith) (omega (arith, small)))
       where
@@ -218,7 +218,7 @@ said_number number count (q ∷ qs) from end p (above, below, later) each = elim
       ∙ sym (ap (λ b. cond (b || list_any (λ r. r == p) qs) (Some (number p)) None) (is_other q p other))
 ]
 
--- each declaration is that of its symbol, behind those before it
+-- each declaration is that of its symbol, after those before it
 abbrev pub AreNext : (hash_cap : ℕ) → List ℕ → List MapDecl → Type 0
 AreNext hash_cap bytes decls =
     (before : List MapDecl) (d : MapDecl) (after : List MapDecl) → decls ≡ before ++ d ∷ after → next_map hash_cap bytes before (2 + length before) ≡ Ok d

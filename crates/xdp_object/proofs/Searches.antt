@@ -15,9 +15,6 @@ pub record Found (ps : List ℕ) (n count last : ℕ) : Type 0 where
   pub few : count ≤ n
   pub below : 0 < count → last < n
 
-pub found_none : (last : ℕ) → Found [] 0 0 last
-found_none last = record { count_is = refl; sole = λ e. absurd (omega arith); few = omega arith; below = λ h. absurd (omega arith) }
-
 -- the numbers below n + 1 that pass a test
 filter-more : (p : ℕ → Bool) (n : ℕ) → filter p (range_with_len 0 (n + 1)) ≡ filter p (range_with_len 0 n) ++ cond (p n) (n ∷ []) []
 filter-more p n =

@@ -79,7 +79,7 @@ not_named (Some s) text never = by_test (bytes_eq s text) refl
     by_test true e = absurd (never (ap Some ((bytes_eq-Decides s text).0 e)))
     by_test false e = refl
 
--- another text stands there, or no zero byte stands behind it
+-- another text stands there, or no zero byte stands after it
 pub other_text : (table text : List ℕ) (at : ℕ) → ((rest : List ℕ) → drop at table ≢ text ++ rest) → ¬ (string_at table at ≡ Some text)
 other_text table text at never e = let h = string_ends table text at e in never (0 ∷ h.rest) h.whole
 
@@ -91,7 +91,7 @@ longer_text table text behind at e never f =
 pub no_letter : (table text : List ℕ) (at k : ℕ) → k < length text → (get_or text k 0 == 0) ≡ true → ¬ (string_at table at ≡ Some text)
 no_letter table text at k below zero' e = (string_ends table text at e).letters k 0 below (eqb-true (get_or text k 0) 0 zero')
 
--- the text stands there, and a zero byte behind it: it is the string, unless it holds a zero byte itself
+-- the text stands there, and a zero byte after it: it is the string, unless it holds a zero byte itself
 pub whole_text : (table text behind : List ℕ) (at : ℕ) (r : Bool) → drop at table ≡ text ++ behind → (rest : List ℕ) × (behind ≡ 0 ∷ rest)
     → IsAnyAnswer (λ y b. (y == 0) ≡ b) text r → not r ≡ option_map_or (λ s. bytes_eq s text) (string_at table at) false
 whole_text table text behind at true e (rest, z) (k, below, here) =

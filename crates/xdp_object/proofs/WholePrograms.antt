@@ -2,7 +2,7 @@
 use Rattle.std.proofs.Common.{◌≡◌, ◌≢◌, ◌∙◌, ℕ, ◌+◌, ◌-◌, ◌*◌, ◌/◌, ◌%◌, ◌^◌, ◌<◌, ◌≤◌, ◌==◌, ◌||◌, Bool, true, false, cond, Option, Some, None, List, [], ◌∷◌, length, get_or, refl, sym, ap, subst, arith, inl, inr}
 use Rattle.std.proofs.Math.Facts.{to_z-of_z}
 use Rattle.std.proofs.lemmas.Bool.{cases_lt, eqb-true}
-use Rattle.std.proofs.lemmas.List.{get_or_past, length-append, length-map}
+use Rattle.std.proofs.lemmas.List.{get_or_past, length-append, length-map, nil_from_length}
 use Rattle.std.proofs.lemmas.List.Elements.{All-head, All-nil, All-tail}
 use Rattle.std.specs.Int.{w64, cast_signed, cast_unsigned}
 use Rattle.std.specs.Int.RustNames.{FitsSigned}
@@ -166,10 +166,6 @@ small_rels name code maps refs fits = omega (arith, fits, length-rels refs)
 as_many : (maps : List MapRecord) (decls : List MapDecl) → AreRecords maps decls → length maps ≡ length decls
 as_many maps decls h = sym (length-map maps (λ (m : MapRecord). m.name.now)) ∙ ap length h.names ∙ length-map decls (λ (d : MapDecl). d.name)
 
-none_of : {X : Type 0} (xs : List X) → length xs ≡ 0 → xs ≡ []
-none_of [] e = refl
-none_of (x ∷ xs) e = absurd (omega arith)
-
 no_refs : (p : XdpProgram) → All (IsRef p) p.refs → length p.decls ≡ 0 → p.refs ≡ []
 no_refs p each e = by_refs p.refs each
   where
@@ -191,7 +187,7 @@ maps_of_program hash_cap p code [] w records_are fits refs good =
     record {
       says = subst (λ (qs : List ℕ). Says bytes (function_symbol (length code)) (map_at p) qs) (sym (no_refs p refs none))
           (says_nothing bytes p.name code (refs_of p) (map_at p) (seen p.name code [] (refs_of p) fits));
-      next = no_next hash_cap bytes p.decls (none_of p.decls none);
+      next = no_next hash_cap bytes p.decls (nil_from_length p.decls none);
     }
 maps_of_program hash_cap p code (m ∷ ms) w records_are fits refs good =
     let maps = m ∷ ms in

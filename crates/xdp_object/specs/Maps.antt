@@ -78,7 +78,7 @@ named_map hash_cap bytes before n (Some name) =
     if is_map_name name && not (is_taken before name) then declared_by hash_cap n name (map_numbers bytes n name)
     else Err (Map n Name)
 
--- the declaration of the map of symbol n, behind those before it
+-- the declaration of the map of symbol n, after those before it
 unfoldable pub next_map : ℕ → List ℕ → List MapDecl → ℕ → Result MapDecl ObjectError
 next_map hash_cap bytes before n =
     if nat_le 16 (length before) then Err (Map n Many) else named_map hash_cap bytes before n (symbol_name bytes n)

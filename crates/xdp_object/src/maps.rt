@@ -82,7 +82,7 @@ fn map_numbers(
     }
 }
 
-/// The declaration of the map of symbol `n`, behind those before it.
+/// The declaration of the map of symbol `n`, after those before it.
 #[tactic(auto, unfolding(crate::specs::Maps::next_map))]
 fn next_map(
     view: &ElfView<'_>,
@@ -144,7 +144,7 @@ impl MapTable {
         self.decls
     }
 
-    /// Refers to the map of symbol `n`: a new map is entered behind the others.
+    /// Refers to the map of symbol `n`: a new map is entered after the others.
     #[tactic(auto, unfolding(crate::specs::Maps::referred))]
     fn refer(
         &mut self,

@@ -25,7 +25,7 @@ fn begins_with_zero(bytes: &[u8]) -> bool
     }
 }
 
-/// What stands behind a text, if the bytes begin with it.
+/// What stands after a text, if the bytes begin with it.
 fn after<'a>(bytes: &'a [u8], text: &[u8]) -> Option<&'a [u8]>
     ensures { MatchOption result
         ((rest : List ℕ) → bytes.now ≢ text.now ++ rest)

@@ -60,7 +60,7 @@ fresh_at before (x ∷ xs) h (suc i) l =
     subst (λ n. FreshAt (before ++ x ∷ xs) n) k
     (subst (λ names. FreshAt names (length (before ++ x ∷ []) + i)) (append_assoc before (x ∷ []) xs) (fresh_at (before ++ x ∷ []) xs h.2 i (omega arith)))
 
--- ---- numbers behind a letter
+-- ---- numbers after a letter
 digits_continue : (cs : List ℕ) → all_ascii_digits cs ≡ true → list_all continues_name cs ≡ true
 digits_continue [] h = refl
 digits_continue (c ∷ cs) h =

@@ -5,7 +5,7 @@ use Rattle.std.proofs.Common.{get_or, not, refl, sym, ap, ◌∙◌, subst, appe
 use Rattle.std.proofs.lemmas.Bool.{and_parts, and_from, eqb-true, lt-ltb, eq-eqb}
 use Rattle.std.proofs.lemmas.List.{append-nil}
 use Rattle.std.proofs.lemmas.List.Recursion.{is_count_by}
-use Rattle.net_core.proofs.list_laws_laws.PlaceLaws.{some_below}
+use Rattle.list_laws.proofs.PlaceLaws.{some_below}
 use Rattle.net_core.specs.declared.tree.Word.{Word}
 use Rattle.net_core.specs.declared.tree.Net.{Net}
 use Rattle.net_core.specs.declared.design.Port as port

@@ -4,7 +4,7 @@ use Rattle.std.proofs.Common.{refl, sym, ap, ◌∙◌, arith, get_or, append_as
 use Rattle.std.proofs.lemmas.List.{get_or_at}
 use Rattle.block_core.specs.declared.name.Name.{Name}
 use Rattle.block_core.specs.Blocks.{BlockTree, OutputTree, Whole, IsPlaced, PlacedFrom, Among}
-use Rattle.block_core.specs.ProductBlocks.Apart.{is_marked, IsApart, outputs_flat, AreApart}
+use Rattle.block_core.specs.ProductBlocks.Apart.{is_marked, IsApart, outputs_flat, HasNoProductChains}
 use Rattle.block_core.specs.ProductBlocks.Alone.{IsApartAlone, IsFree}
 use Rattle.block_core.proofs.ProductBlocks.FreeLaws.{all_marked, free_is_apart}
 
@@ -32,7 +32,7 @@ module _ {P : Type 0} (d : Whole P) where
         let one = h q (inl refl) in
         each_apart (front ++ one.marks ∷ []) (suc at) ps (λ q a. h q (inr a)) (e ∙ sym (append_assoc front (one.marks ∷ []) (marks_of ps (λ q a. h q (inr a))))) (length-append front (one.marks ∷ []) ∙ omega (arith, l)) s.1 p a
 
-pub alone_apart : {P : Type 0} (d : Whole P) (outputs : List (OutputTree (Name P))) → IsPlaced d → ((p : P) → Among p d.parts → IsApartAlone p (d.block p)) → ((made : Name P → Bool) → outputs_flat made outputs ≡ true) → AreApart d outputs
+pub alone_apart : {P : Type 0} (d : Whole P) (outputs : List (OutputTree (Name P))) → IsPlaced d → ((p : P) → Among p d.parts → IsApartAlone p (d.block p)) → ((made : Name P → Bool) → outputs_flat made outputs ≡ true) → HasNoProductChains d outputs
 alone_apart d outputs placed h shows =
     let every = marks_of d d.parts h in
     record { marks = marks_in d every; blocks = each_apart d every [] 0 d.parts h refl refl placed.placed; shows = shows (is_marked (marks_in d every)) }

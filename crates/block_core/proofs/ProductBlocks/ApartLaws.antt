@@ -13,7 +13,7 @@ use Rattle.block_core.specs.Link.{resolve, link_wires, link_output, all_wires, a
 use Rattle.block_core.specs.Order.{IsBefore, InOrder, AllInOrder}
 use Rattle.block_core.specs.Formed.{IsThere, StatementReads, OutputsRead}
 use Rattle.block_core.proofs.GatheredLaws.{runs, get_gather}
-use Rattle.block_core.specs.ProductBlocks.Apart.{is_marked, AreMarked, IsApart, outputs_flat, LinkedAreApart}
+use Rattle.block_core.specs.ProductBlocks.Apart.{is_marked, AreMarked, IsApart, outputs_flat, LinkedHasNoProductChains}
 use Rattle.block_core.proofs.ProductBlocks.Renamed.{flat_still, right_less, right_still, statement_still}
 
 -- ---- marks that were found, beside those that were given for all wires
@@ -32,7 +32,7 @@ covers_next g found x h last k e = elim (cases_lt k (length found)) [
   ]
 ]
 
--- what is found of wires, behind marks that were found before
+-- what is found of wires, after marks that were found before
 record Walked (g found : List Bool) (ws : List WireTree) : Type 0 where
   flat : wires_flat found ws ≡ true
   covered : Covers g (wire_products found ws)
@@ -59,7 +59,7 @@ module _ {P : Type 0} (d : Whole P) (placed : IsPlaced d) (marks : P → List Bo
     | inr past ↦ let x = get_or_past (marks q) i true past in cc
   ]
 
-  -- the wires of a part, from one on, and what comes behind them
+  -- the wires of a part, from one on, and what comes after them
   one_part : (before : List P) (p : P) → ((at : ℕ) (n : Name P) → IsBefore d before p at n → IsThere d n)
       → (front own more : List Bool) (at : ℕ) (found : List Bool) (xs : List (BlockWireTree (Name P))) (rest : List WireTree)
       → all_marks ≡ front ++ (own ++ more) → length front ≡ length found → Covers all_marks found → InOrder d before p at xs → AreMarked (is_marked marks) own xs
@@ -111,8 +111,8 @@ module _ {P : Type 0} (d : Whole P) (placed : IsPlaced d) (marks : P → List Bo
         let x = and_parts (is_flat (is_marked marks) o.value) (outputs_flat (is_marked marks) os) e in
         and_from _ _ (flat_still (resolve d) (IsThere d) (is_marked marks) (made_by_product found) (unmarked found h) o.value r.0 x.0) (outputs_apart os r.1 x.1)
 
-pub linked_are_apart : (P : Type 0) → LinkedAreApart P
-linked_are_apart P d names ports outputs f a =
+pub linked_has_no_product_chains : (P : Type 0) → LinkedHasNoProductChains P
+linked_has_no_product_chains P d names ports outputs f a =
     let all = gather a.marks d.parts in
     let walked = parts_walked d f.placed a.marks a.blocks [] d.parts (λ q i. absurd i) (λ q i. i) [] [] refl refl (λ k e. refl) f.ordered in
     let found = wire_products [] (all_wires d d.parts) in

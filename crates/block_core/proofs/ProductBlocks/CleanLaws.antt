@@ -1,4 +1,4 @@
--- Trees without products that read clean nets alone, those that no product makes, may be operands of products; and marks of wires behind others.
+-- Trees without products that read clean nets alone, those that no product makes, may be operands of products; and marks of wires after others.
 use Rattle.std.specs.Prelude.{◌≡◌, cond, Bool, true, false, List, [], ◌∷◌, ◌++◌}
 use Rattle.std.proofs.Common.{refl, not}
 use Rattle.std.proofs.lemmas.Bool.{and_from}

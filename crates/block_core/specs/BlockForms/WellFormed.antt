@@ -21,7 +21,7 @@ abbrev pub is_shown : {N : Type 0} → List (OutputTree N) → ℕ → Bool
 is_shown [] port = false
 is_shown (o ∷ os) port = (o.port == port) || is_shown os port
 
--- no output is shown twice, behind those that stand before
+-- no output is shown twice, after those that stand before
 abbrev pub shown_once : {N : Type 0} → List (OutputTree N) → List (OutputTree N) → Bool
 shown_once before [] = true
 shown_once before (o ∷ os) = not (is_shown before o.port) && shown_once (before ++ o ∷ []) os
@@ -39,7 +39,7 @@ abbrev pub all_new : List (List ℕ) → List (List ℕ) → Bool
 all_new before [] = true
 all_new before (x ∷ xs) = is_name x && (not (list_any (bytes_eq x) before) && all_new (before ++ x ∷ []) xs)
 
--- Names of the integer, the registers, the memories and the wires: one for each, all new behind those of the ports.
+-- Names of the integer, the registers, the memories and the wires: one for each, all new after those of the ports.
 pub record AreNames {P : Type 0} (d : Whole P) (names : List (List ℕ)) : Type 0 where
   pub count : length names ≡ 1 + (length (all_registers d d.parts) + (length (all_memories d d.parts) + length (all_wires d d.parts)))
   pub new : IsTrue (all_new ports.port_names names)

@@ -2,7 +2,7 @@
 use Rattle.std.specs.Prelude.{◌≡◌, ℕ, Bool, true, false, ◌&&◌, List, [], ◌∷◌}
 use Rattle.std.proofs.Common.{get_or}
 use Rattle.net_core.specs.declared.design.Port.{Port}
-use Rattle.net_core.specs.ProductRules.Products.{right_product, is_flat, right_flat, statement_flat, products_apart}
+use Rattle.net_core.specs.ProductRules.Products.{right_product, is_flat, right_flat, statement_flat, no_product_chains}
 use Rattle.block_core.specs.declared.name.Name.{Name}
 use Rattle.block_core.specs.declared.name.Name.TheVariants as name
 use Rattle.block_core.specs.Blocks.{BlockTree, BlockWireTree, OutputTree, Whole, Among}
@@ -33,12 +33,12 @@ outputs_flat made [] = true
 outputs_flat made (o ∷ os) = is_flat made o.value && outputs_flat made os
 
 -- There are marks for the wires of each part under which its block is so, and what is shown.
-pub record AreApart {P : Type 0} (d : Whole P) (outputs : List (OutputTree (Name P))) : Type 0 where
+pub record HasNoProductChains {P : Type 0} (d : Whole P) (outputs : List (OutputTree (Name P))) : Type 0 where
   pub marks : P → List Bool
   pub blocks : (p : P) → Among p d.parts → IsApart (is_marked marks) (marks p) (d.block p)
   pub shows : outputs_flat (is_marked marks) outputs ≡ true
 
 -- no product of such a design stands inside an operand of another
-abbrev pub LinkedAreApart : (P : Type 0) → Type 0
-LinkedAreApart P = (d : Whole P) (names : List (List ℕ)) (ports : List Port) (outputs : List (OutputTree (Name P)))
-    → IsFormed d ports outputs → AreApart d outputs → products_apart (link d names ports outputs) ≡ true
+abbrev pub LinkedHasNoProductChains : (P : Type 0) → Type 0
+LinkedHasNoProductChains P = (d : Whole P) (names : List (List ℕ)) (ports : List Port) (outputs : List (OutputTree (Name P)))
+    → IsFormed d ports outputs → HasNoProductChains d outputs → no_product_chains (link d names ports outputs) ≡ true

@@ -15,10 +15,11 @@ use Rattle.net_core.specs.ProductRules.Products.{statements_flat}
 use Rattle.block_core.proofs.ProductBlocks.FreeLaws.{flat_without}
 use Rattle.block_core.specs.Parts.{AllWithin}
 use Rattle.block_core.specs.Formed.{StatementsRead}
+use Rattle.block_core.proofs.list_laws_laws.BoolLaws.{and_is}
 use Rattle.cell_nets.specs.declared.operand.Operand.{Operand}
 use Rattle.cell_nets.specs.Operands.{IsWide, AreFit, AreDeclared, IsAvailable, IsNetOf}
 use Rattle.cell_nets.proofs.WireLemmas.{reads_as}
-use Rattle.frame_net.proofs.FormLaws.{same_is, and_is}
+use Rattle.frame_net.proofs.FormLaws.{same_is}
 use Rattle.cell_nets.specs.declared.operand_blocks.registers.Taken.{Taken}
 use Rattle.cell_nets.specs.OperandBlocks.Registers.{operand_in, width_in, taken_word}
 use Rattle.cell_nets.specs.OperandBlocks.Sets.{IsSet, AreSets, set_block}

@@ -1,4 +1,4 @@
--- Parts of wires alone, by what stands behind their wires.
+-- Parts of wires alone, by what stands after their wires.
 use Rattle.std.specs.Prelude.{Contains}
 use Rattle.std.specs.List.{list_all}
 use Rattle.std.proofs.Common.{◌≡◌, ◌⊎◌, inl, inr, ◌∙◌, ℕ, zero, suc, ◌+◌, ◌<◌, Bool, true, All, List, [], ◌∷◌, length, map as map_list, get_or, append-nil, refl, sym, ap, subst, arith}
@@ -17,8 +17,8 @@ use Rattle.cell_nets.specs.declared.operand.Operand.{Operand}
 use Rattle.cell_nets.specs.declared.operand.Operand.TheVariants.{Known, Net, Part}
 use Rattle.cell_nets.specs.Operands.{IsOperand, HasWidth, AreFit, IsDeclared, AreDeclared, IsAvailable, HasNet, IsNetOf}
 use Rattle.cell_nets.specs.Wires.{own, behind, AreWires}
-use Rattle.cell_nets.proofs.ApartLemmas.{all_self}
-use Rattle.cell_nets.proofs.ChoiceLemmas.{fit_of}
+use Rattle.cell_nets.proofs.ApartLaws.{all_self}
+use Rattle.cell_nets.proofs.ChoiceLaws.{fit_of}
 use Rattle.cell_nets.specs.StepNets.Standing.{Stands}
 use Rattle.cell_nets.specs.OperandBlocks.Wiring.{wires_block, IsWiring, Offers}
 
@@ -56,7 +56,7 @@ net_of q ins h (Known n) c = tt
 net_of q ins h (Net n w) c = h n (w, inl c)
 net_of q ins h (Part n of from w) c = h n (of, inr (from, w, c))
 
--- what holds of each net from outside and of each wire of the part holds of all that stand behind its wires
+-- what holds of each net from outside and of each wire of the part holds of all that stand after its wires
 from_each :
     {P : Type 0} (part : P) (outside : List (Operand (Name P))) (ws : List (BlockWireTree (Name P))) (q : Name P → Type 0) → ((n : Name P) → IsNetOf outside n → q n) → ((i : ℕ) → i < length ws → q (name.Wire part (0 + i))) → (a : Operand (Name P))
     → Contains (behind part outside ws) a → OfNet q a
@@ -136,7 +136,7 @@ module _ {P : Type 0} (part : P) (ws : List (BlockWireTree (Name P))) (outside o
   pub there_in : (w : Whole P) → Among part w.parts → ((n : Name P) → IsNetOf outside n → IsThere w n) → (n : Name P) (u : ℕ) → Contains (behind part outside ws) (Net n u) → IsThere w n
   there_in w among given n u c = from_net (IsThere w) given (λ i l. among) n u c
 
-  -- what stands behind them is offered to others
+  -- what stands after them is offered to others
   pub offers : All IsOperand outs → Offers part outside (wires_block ws) outs
   offers operands = record {
     operands = operands;

@@ -1,4 +1,4 @@
--- Steps, one behind another.
+-- Steps, one after another.
 use Rattle.std.proofs.Common.{◌≡◌, ℕ, zero, suc, All, List, [], ◌∷◌, ◌∙◌, arith}
 use Rattle.net_core.specs.Value.{Env}
 use Rattle.block_core.specs.declared.name.Name.{Name}
@@ -7,8 +7,8 @@ use Rattle.block_core.specs.Parts.{Solve}
 use Rattle.cell_nets.specs.declared.operand.Operand.{Operand}
 use Rattle.cell_nets.specs.Operands.{number_in, IsOperand, IsFit, AreFit, IsAvailable}
 use Rattle.cell_nets.specs.Wires.{behind, AreWires, IsGiven, HasBits, Gives}
-use Rattle.cell_nets.proofs.ApartLemmas.{stay_none, stay_as, stay_next}
-use Rattle.cell_nets.proofs.ChoiceLemmas.{fit_of}
+use Rattle.cell_nets.proofs.ApartLaws.{stay_none, stay_as, stay_next}
+use Rattle.cell_nets.proofs.ChoiceLaws.{fit_of}
 pub use Rattle.cell_nets.specs.StepNets.Standing.{Stands}
 
 -- those that are there

@@ -4,12 +4,13 @@ use Rattle.std.proofs.Common.{◌≡◌, ◌⊎◌, inl, inr, ℕ, Bool, List, [
 use Rattle.net_core.specs.Value.{Env}
 use Rattle.block_core.specs.declared.name.Name.{Name}
 use Rattle.block_core.specs.Blocks.{BlockWireTree}
+use Rattle.block_core.proofs.list_laws_laws.AllLaws.{all_one}
 use Rattle.cell_core.specs.Cells.{bit, on, bits_from}
 use Rattle.cell_nets.specs.declared.operand.Operand.{Operand}
 use Rattle.cell_nets.specs.declared.operand.Operand.TheVariants.{Known}
 use Rattle.cell_nets.specs.Operands.{number_in, IsAvailable}
 use Rattle.cell_nets.specs.Wires.{always, Gives}
-use Rattle.cell_nets.proofs.GiveLemmas.{all_one, gives_as, known_gives}
+use Rattle.cell_nets.proofs.GiveLaws.{gives_as, known_gives}
 use Rattle.cell_nets.specs.StepNets.Folding.{IsSettled, IsTruth}
 use Rattle.cell_nets.proofs.StepNets.StepLaws.{bit_small}
 

@@ -7,6 +7,7 @@ use Rattle.net_core.specs.Value.{Env}
 use Rattle.cell_core.specs.xdp_machine.Arithmetic.{low}
 use Rattle.cell_core.specs.xdp_machine.State.{PacketIn}
 use Rattle.cell_core.specs.Cells.{bit, on, bits_from}
+use Rattle.cell_core.proofs.BitLaws.{bit_bits, small_bits}
 use Rattle.cell_nets.specs.declared.operand.Operand.{Operand}
 use Rattle.cell_nets.specs.declared.operand.Operand.TheVariants.{Known, Net, Part}
 use Rattle.block_core.specs.Blocks.{BlockWireTree}
@@ -14,8 +15,8 @@ use Rattle.block_core.specs.declared.name.Name.{Name}
 use Rattle.cell_nets.specs.Operands.{number_in, IsAvailable, IsNarrow, IsFit}
 use Rattle.cell_nets.specs.Wires.{always, HasBits, Gives}
 use Rattle.cell_nets.proofs.StepNets.ChainLaws.{starts, last}
-use Rattle.cell_nets.proofs.NarrowLemmas.{from_zero, bits_small}
-use Rattle.cell_nets.proofs.ShiftLemmas.{cut_low}
+use Rattle.cell_nets.proofs.NarrowLaws.{from_zero, bits_small}
+use Rattle.cell_nets.proofs.ShiftLaws.{cut_low}
 
 pub no_packet : PacketIn
 no_packet = record { frame = []; ifindex = 0; time = 0 }
@@ -30,14 +31,7 @@ all_each Q [] h k d lt = absurd (omega arith)
 all_each Q (x ∷ xs) h zero d lt = h.0
 all_each Q (x ∷ xs) h (suc k) d lt = all_each Q xs h.1 k d (omega arith)
 
--- ---- low bits
-pub small_bits : (n w : ℕ) → n < 2 ^ w → bits_from n 0 w ≡ n
-small_bits n w h = from_zero n w ∙ mod-eq_of_lt {n = n} {m = 2 ^ w} h
-
-pub bit_bits : (b : Bool) → bits_from (bit b) 0 1 ≡ bit b
-bit_bits true = refl
-bit_bits false = refl
-
+-- ---- single bits
 pub on_bit : (b : Bool) → on (bit b) ≡ b
 on_bit true = refl
 on_bit false = refl

@@ -16,7 +16,7 @@ use net_core::build::block;
 use net_core::tree::{Expr, Right, Stmts};
 use std::alloc::{AllocError, Global};
 
-// Adds a wire behind others, and says what it is called. Of 2^32 wires a part has no room for more, as where memory is out.
+// Adds a wire after others, and says what it is called. Of 2^32 wires a part has no room for more, as where memory is out.
 fn push<P: Copy>(
     wires: &mut Vec<BlockWire<Name<P>>>,
     part: P,

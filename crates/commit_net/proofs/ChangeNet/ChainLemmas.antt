@@ -1,4 +1,4 @@
--- Steps of nets, one behind another, of which some are known for each of several clocks.
+-- Steps of nets, one after another, of which some are known for each of several clocks.
 use Rattle.std.proofs.Common.{◌≡◌, ℕ, zero, suc, All, List, [], ◌∷◌, ◌++◌, get_or, subst, arith}
 use Rattle.std.proofs.lemmas.List.Elements.{All-append}
 use Rattle.net_core.specs.Value.{Env}
@@ -7,7 +7,7 @@ use Rattle.block_core.specs.Blocks.{BlockWireTree}
 use Rattle.overlay_net.specs.cell_nets.declared.operand.Operand.{Operand}
 use Rattle.overlay_net.specs.cell_nets.Operands.{number_in, IsAvailable}
 use Rattle.overlay_net.specs.cell_nets.Wires.{behind, AreWires, IsGiven, Gives}
-use Rattle.overlay_net.proofs.cell_nets_laws.ApartLemmas.{stay_none, stay_as, stay_next}
+use Rattle.overlay_net.proofs.cell_nets_laws.ApartLaws.{stay_none, stay_as, stay_next}
 use Rattle.overlay_net.specs.cell_nets.StepNets.Standing.{Stands}
 
 pub first_of : {X : Type 0} (Q : X → Type 0) (x : X) (xs : List X) → Q x → All Q xs → All Q (x ∷ xs)
@@ -35,7 +35,7 @@ pub stands_from : {P : Type 0} {p : P} {old new : List (BlockWireTree (Name P))}
 stands_from {p = p} {new = new} {args = args} {outs = outs} {needs = needs} {knows = knows} e x = subst (λ l. Stands p l new args needs outs knows) e x
 
 module _ {P : Type 0} {p : P} {old mid new : List (BlockWireTree (Name P))} {args outs bs : List (Operand (Name P))} {needs knows : Env (Name P) → Type 0} (x : Stands p old mid args needs outs knows) where
-  -- some behind others
+  -- some after others
   pub joined :
       {lasts : List (Operand (Name P))} {more shows : Env (Name P) → Type 0} → Stands p mid new bs more lasts shows → ((ins : List (Operand (Name P))) → All (IsAvailable ins) outs → All (IsAvailable ins) bs) → ((v : Env (Name P)) → knows v → more v)
       → Stands p old new args needs (lasts ++ outs) (λ v. knows v × shows v)

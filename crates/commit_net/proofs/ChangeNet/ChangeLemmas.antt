@@ -17,7 +17,7 @@ use Rattle.overlay_net.specs.cell_core.Sites.{ProgramView, site_at, bytes_of}
 use Rattle.overlay_net.specs.hazard_core.declared.access.Access.{Access}
 use Rattle.overlay_net.specs.hazard_core.declared.change.Change.{Change}
 use Rattle.overlay_net.specs.hazard_core.Tables.{TableState, table_at, slot_at}
-use Rattle.overlay_net.specs.hazard_core.Held.{Held, is_delete, asked_key}
+use Rattle.overlay_net.specs.hazard_core.StageValues.{StageValues, is_delete, asked_key}
 use Rattle.overlay_net.specs.hazard_core.Commits.{word_count, makes_entry, written_slot, changed_key, change_by, host_change}
 use Rattle.hash_net.specs.array_net.Hosts.{SeesHost}
 use Rattle.overlay_net.specs.cell_nets.declared.operand.Operand.{Operand}
@@ -42,7 +42,7 @@ use Rattle.commit_net.proofs.ChangeNet.KeyLemmas.{left_of, right_of, key_idle, k
 use Rattle.commit_net.proofs.ChangeNet.PairLemmas.{all_operands}
 
 -- ---- the change of a commit
-change_is : (p : ProgramView) (t : TableState) (taken : List ℕ) (h : Held) (j : ℕ)
+change_is : (p : ProgramView) (t : TableState) (taken : List ℕ) (h : StageValues) (j : ℕ)
     → change_by p t taken h j ≡ record { map = (site_at p.sites j).map; slot = written_slot p t taken h j; key = changed_key (site_at p.sites j).act (asked_key t.decls h (site_at p.sites j)) (slot_before p t taken h j).key; presence = is_delete (site_at p.sites j).act || makes_entry p t h j }
 unfolding change_by
 change_is p t taken h j = refl
@@ -129,7 +129,7 @@ module _ {P : Type 0} (part : P) (number : ℕ) (d : MapDecl) (bits : ℕ) (ns :
         let e : key ≡ at ∷ [] = subst (λ k. ShowKeys_as k v ns acts at keys key) kind shown in
         ap (λ l. bytes_of d.key (map_list (number_in v) l)) e ∙ ap (λ (w : Word). bytes_of d.key (w.value ∷ [])) s ∙ ap (λ k. bytes_of k (n ∷ [])) (four kind) ∙ index_bytes n
 
-    commit_key : (v : Env (Name P)) (p : ProgramView) (t : TableState) (taken : List ℕ) (h : Held) (j : ℕ) → AreFit v out → Solve v part 0 ws → IsCommitting v p t taken h j d bits ns commits slot keys
+    commit_key : (v : Env (Name P)) (p : ProgramView) (t : TableState) (taken : List ℕ) (h : StageValues) (j : ℕ) → AreFit v out → Solve v part 0 ws → IsCommitting v p t taken h j d bits ns commits slot keys
         → bytes_of d.key (map_list (number_in v) key) ≡ changed_key (site_at p.sites j).act (asked_key t.decls h (site_at p.sites j)) (slot_before p t taken h j).key
     commit_key v p t taken h j f s is = by_kind d.kind refl
       where

@@ -21,14 +21,14 @@ use Rattle.overlay_net.specs.cell_core.Sites.{ProgramView, SiteView, site_at, by
 use Rattle.overlay_net.specs.hazard_core.declared.slot.Slot.{Slot}
 use Rattle.overlay_net.specs.hazard_core.Tables.{TableState, no_slot, decl_of, table_at, slot_at, has_key, slot_of, free_slot}
 use Rattle.overlay_net.specs.hazard_core.declared.pointer.Pointer.TheVariants.{Null, InSlot}
-use Rattle.overlay_net.specs.hazard_core.Held.{Held, held_value, asked_key, slot_pointer, is_delete, written_as, written_pointer}
+use Rattle.overlay_net.specs.hazard_core.StageValues.{StageValues, stage_value, asked_key, slot_pointer, is_delete, written_as, written_pointer}
 use Rattle.overlay_net.specs.hazard_core.Commits.{word_count, word_at, slot_under, written_slot, changed_key}
 use Rattle.overlay_net.specs.hazard_core.Changes.{IsRightCommit}
 use Rattle.overlay_net.specs.cell_nets.declared.operand.Operand.{Operand}
 use Rattle.overlay_net.specs.cell_nets.declared.operand.Operand.TheVariants.{Known, Net}
 use Rattle.overlay_net.specs.cell_nets.Operands.{number_in, IsOperand, IsFit}
-use Rattle.overlay_net.proofs.cell_nets_laws.ChoiceLemmas.{number_small}
-use Rattle.overlay_net.proofs.cell_nets_laws.StepNets.StepLaws.{small_bits}
+use Rattle.overlay_net.proofs.cell_nets_laws.ChoiceLaws.{number_small}
+use Rattle.overlay_net.proofs.cell_core_laws.BitLaws.{small_bits}
 use Rattle.commit_net.specs.declared.choosing.CommitNets.{CommitNets}
 use Rattle.commit_net.specs.Choosing.{read_of, all_read, IsOnly, Commits}
 use Rattle.commit_net.specs.Wholes.{slot_before}
@@ -117,8 +117,8 @@ key_in_is (act.Load at size) d key xs = refl
 key_in_is (act.Store at size) d key xs = refl
 key_in_is (act.Atomic at x) d key xs = refl
 
-own_bytes : (decls : List MapDecl) (h : Held) (s : SiteView) (d : MapDecl) → decl_of decls s.map ≡ d → bytes_of d.key (map_list (held_value h) s.key) ≡ asked_key decls h s
-own_bytes decls h s d e = ap (λ (x : MapDecl). bytes_of x.key (map_list (held_value h) s.key)) (sym e) ∙ key_in_is s.act (decl_of decls s.map) (map_list (held_value h) s.key) (map_list (held_value h) s.operands)
+own_bytes : (decls : List MapDecl) (h : StageValues) (s : SiteView) (d : MapDecl) → decl_of decls s.map ≡ d → bytes_of d.key (map_list (stage_value h) s.key) ≡ asked_key decls h s
+own_bytes decls h s d e = ap (λ (x : MapDecl). bytes_of x.key (map_list (stage_value h) s.key)) (sym e) ∙ key_in_is s.act (decl_of decls s.map) (map_list (stage_value h) s.key) (map_list (stage_value h) s.operands)
 
 module _ {N : Type 0} (v : Env N) (d : MapDecl) (ns : List (CommitNets N)) (c : Operand N) (keys : List N) (outs : List (Operand N)) (count : length keys ≡ word_count d.key) (shown : ShowWords v ns c keys outs) where
   abbrev numbers : List ℕ
@@ -145,7 +145,7 @@ module _ {N : Type 0} (v : Env N) (d : MapDecl) (ns : List (CommitNets N)) (c : 
         word_is w n l ∙ ap (λ t. bits_from (if t then phi (map_list (number_in v) (key_pairs w (Net (get_or keys w n) 64) ns)) else x.value) 0 64) off ∙ small_bits x.value 64 (fit w n (omega (arith, l, count))) ∙ h w n l)
 
     -- the operation of a site commits
-    module _ (p : ProgramView) (t : TableState) (taken : List ℕ) (h : Held) (j : ℕ) (op : Commits v p t taken h j ns) (yes : on (number_in v c) ≡ true) (operands : All IsOperand (all_read ns)) (fits : All (IsFit v) (all_read ns)) where
+    module _ (p : ProgramView) (t : TableState) (taken : List ℕ) (h : StageValues) (j : ℕ) (op : Commits v p t taken h j ns) (yes : on (number_in v c) ≡ true) (operands : All IsOperand (all_read ns)) (fits : All (IsFit v) (all_read ns)) where
       abbrev nets : CommitNets N
       nets = op.chosen.nets
 
@@ -176,17 +176,17 @@ module _ {N : Type 0} (v : Env N) (d : MapDecl) (ns : List (CommitNets N)) (c : 
 
       own_key : d.key ≤ 8 * length site.key → decl_of t.decls site.map ≡ d → N → owns_key site.act ≡ true → bytes_of d.key numbers ≡ asked_key t.decls h site
       own_key wide declared n owns =
-          let cells = map_list (held_value h) site.key in
+          let cells = map_list (stage_value h) site.key in
           let keys_here = nets.nets.now.key.items in
           let shows = op.shows.asked.key in
           let own : owns_key nets.act ≡ true = ap owns_key (sym op.chosen.act) ∙ owns in
           let long : length keys_here ≡ length cells = sym (length-map keys_here (number_in v)) ∙ ap length shows in
-          same_bytes d.key numbers cells enough (omega (arith, wide, length-map site.key (held_value h)))
+          same_bytes d.key numbers cells enough (omega (arith, wide, length-map site.key (stage_value h)))
           (λ w l.
           let there = Net (get_or keys w n) 64 in
           number_is w n l
           ∙ ap (λ b. number_in v (if b then get_or keys_here w (Known 0) else there)) own
-          ∙ sym (get_or-map (number_in v) keys_here w (Known 0) 0 (omega (arith, l, wide, long, length-map site.key (held_value h))))
+          ∙ sym (get_or-map (number_in v) keys_here w (Known 0) 0 (omega (arith, l, wide, long, length-map site.key (stage_value h))))
           ∙ ap (λ xs. slice_index xs w) shows)
           ∙ own_bytes t.decls h site d declared
 
@@ -226,7 +226,7 @@ found_key slots taken j key = by_test (nat_lt (slot_of slots key) (length slots)
     by_test true e l used = key_at key (slot_at slots (slot_of slots key)) (passes_at_first (has_key key) slots no_slot l)
     by_test false e l used = absurd (unused (slot_at slots (free_slot slots)).used (passes_at_first (λ s. not s.used) slots no_slot l) used)
 
-module _ (p : ProgramView) (t : TableState) (taken : List ℕ) (h : Held) (j : ℕ) (right : IsRightCommit p t taken h j) (kind : (decl_of t.decls (site_at p.sites j).map).kind ≡ Array) (there : has_key (index_key (written_slot p t taken h j)) (slot_before p t taken h j) ≡ true) where
+module _ (p : ProgramView) (t : TableState) (taken : List ℕ) (h : StageValues) (j : ℕ) (right : IsRightCommit p t taken h j) (kind : (decl_of t.decls (site_at p.sites j).map).kind ≡ Array) (there : has_key (index_key (written_slot p t taken h j)) (slot_before p t taken h j) ≡ true) where
   abbrev here : SiteView
   here = site_at p.sites j
 

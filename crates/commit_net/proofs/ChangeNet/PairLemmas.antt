@@ -14,7 +14,7 @@ use Rattle.overlay_net.specs.cell_nets.declared.operand.Operand.{Operand}
 use Rattle.overlay_net.specs.cell_nets.declared.operand.Operand.TheVariants.{Known, Net}
 use Rattle.overlay_net.specs.cell_nets.Operands.{number_in, IsOperand, IsAvailable}
 use Rattle.overlay_net.specs.cell_nets.Wires.{always, Gives}
-use Rattle.overlay_net.proofs.cell_nets_laws.ShiftLemmas.{cut_low}
+use Rattle.overlay_net.proofs.cell_nets_laws.ShiftLaws.{cut_low}
 use Rattle.overlay_net.specs.cell_nets.StepNets.Standing.{Stands}
 use Rattle.overlay_net.proofs.cell_nets_laws.StepNets.ChainLaws.{starts, next}
 use Rattle.commit_net.specs.declared.choosing.CommitNets.{CommitNets}

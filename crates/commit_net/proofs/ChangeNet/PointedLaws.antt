@@ -1,15 +1,15 @@
--- Wires of a part over what comes from outside, and an operand behind them.
+-- Wires of a part over what comes from outside, and an operand after them.
 use Rattle.std.specs.List.{list_all}
-use Rattle.std.proofs.Common.{◌≡◌, ℕ, Bool, true, List, [], ◌∷◌, ◌++◌, append-nil, refl, sym, subst}
+use Rattle.std.proofs.Common.{◌≡◌, ℕ, Bool, true, List, [], ◌∷◌, ◌++◌, refl, sym, subst}
 use Rattle.std.proofs.lemmas.Bool.{and_parts}
 use Rattle.net_core.specs.Value.{Env}
 use Rattle.block_core.specs.ProductBlocks.Alone.{wire_flat}
 use Rattle.block_core.specs.declared.name.Name.{Name}
 use Rattle.block_core.specs.Blocks.{BlockWireTree}
 use Rattle.block_core.specs.Parts.{Solve}
-use Rattle.frame_net.proofs.FormLaws.{and_is}
+use Rattle.block_core.proofs.list_laws_laws.BoolLaws.{and_is}
 use Rattle.overlay_net.specs.cell_nets.declared.operand.Operand.{Operand}
-use Rattle.overlay_net.specs.cell_nets.Operands.{number_in, IsOperand, AreFit, IsAvailable}
+use Rattle.overlay_net.specs.cell_nets.Operands.{number_in, AreFit, IsAvailable}
 use Rattle.overlay_net.specs.cell_nets.Wires.{behind, Gives, always}
 use Rattle.overlay_net.proofs.cell_nets_laws.StepNets.StepLaws.{all_each}
 use Rattle.overlay_net.proofs.cell_nets_laws.OperandBlocks.WiringLaws.{no_wires, all_outside}
@@ -19,17 +19,13 @@ pub all_both : {X : Type 0} (f : X → Bool) (xs ys : List X) → list_all f xs 
 all_both f [] ys e g = g
 all_both f (x ∷ xs) ys e g = let q = and_parts (f x) (list_all f xs) e in and_is _ _ q.0 (all_both f xs ys q.1 g)
 
--- no wires, and an operand from outside or a number
-pub over_outside : {P : Type 0} (part : P) (outside : List (Operand (Name P))) (a : Operand (Name P)) → IsOperand a → IsAvailable outside a → IsOver part outside [] a
-over_outside part outside a operand there = record { wires = no_wires part outside; there = subst (λ l. IsAvailable l a) (sym (append-nil outside)) there; operand = operand; free = λ made. refl }
-
 -- what is given from no wires on
 pub over_given : {P : Type 0} {part : P} {outside : List (Operand (Name P))} {ws : List (BlockWireTree (Name P))} {needs : Env (Name P) → Type 0} {f : Env (Name P) → ℕ} {w : ℕ} {o : Operand (Name P)} → Gives part [] ws outside needs f w o → IsOver part outside ws o
 over_given {part = part} {outside = outside} x =
     let g = x.given outside (no_wires part outside) (all_outside part outside) in
     record { wires = g.wires; there = g.there; operand = x.operand; free = λ made. subst (λ l. list_all (wire_flat made) l ≡ true) (sym x.apart.added) (x.apart.free refl made) }
 
--- ---- one operand more behind wires
+-- ---- one operand more after wires
 pub over_next : {P : Type 0} {part : P} {outside : List (Operand (Name P))} {ws new : List (BlockWireTree (Name P))} {a o : Operand (Name P)} {f : Env (Name P) → ℕ} {w : ℕ} → IsOver part outside ws a → Gives part ws new (a ∷ []) always f w o → IsOver part outside new o
 over_next {part = part} {outside = outside} {ws = ws} {a = a} x y =
     let g = y.given outside x.wires (all_each (IsAvailable (behind part outside ws)) (a ∷ []) (x.there, tt)) in

@@ -18,10 +18,11 @@ use Rattle.block_core.specs.Blocks.{BlockWireTree, Whole}
 use Rattle.block_core.specs.Parts.{Solve, Goes}
 use Rattle.block_core.specs.Order.{RightReads, IsBefore, InOrder}
 use Rattle.block_core.specs.Formed.{names_scope, name_width, block_memories, block_wires_typed, IsThere}
+use Rattle.block_core.proofs.list_laws_laws.BoolLaws.{and_is}
 use Rattle.overlay_net.specs.cell_core.Cells.{bits_from}
 use Rattle.overlay_net.specs.hazard_core.Commits.{word_count}
 use Rattle.frame_net.specs.SourcesNets.{held}
-use Rattle.frame_net.proofs.FormLaws.{and_is, wire_is}
+use Rattle.frame_net.proofs.FormLaws.{wire_is}
 use Rattle.hash_net.specs.array_net.Words.{word_width}
 use Rattle.hash_net.specs.array_net.WordTrees.{word_shown}
 use Rattle.hash_net.proofs.array_net_laws.WordLaws.{width_some, width_most}
@@ -36,7 +37,7 @@ use Rattle.overlay_net.proofs.cell_nets_laws.OperandBlocks.WiringLaws.{behind_de
 use Rattle.commit_net.specs.ChangeNet.Pointed.{wires_from, pointed_operands, IsOver, IsPointedWords}
 use Rattle.commit_net.proofs.ChangeNet.PointedLaws.{all_both}
 
--- ---- wires behind others
+-- ---- wires after others
 typed_both : {N : Type 0} (s : Scope N) (xs ys : List (BlockWireTree N)) → block_wires_typed s xs ≡ true → block_wires_typed s ys ≡ true → block_wires_typed s (xs ++ ys) ≡ true
 typed_both s [] ys e g = g
 typed_both s (x ∷ xs) ys e g = let q = and_parts (same x.width (right_width s x.right) && nat_le x.width 64) (block_wires_typed s xs) e in and_is _ _ q.0 (typed_both s xs ys q.1 g)

@@ -1,12 +1,12 @@
 -- Whether the key of a change comes or goes, step by step.
 use Rattle.std.specs.Prelude.{if◌then◌else◌}
-use Rattle.std.proofs.Common.{◌≡◌, ◌∙◌, ℕ, Bool, true, false, ◌&&◌, ◌||◌, List, [], ◌∷◌, refl, ap, arith}
+use Rattle.std.proofs.Common.{◌∙◌, ℕ, ◌&&◌, ◌||◌, List, [], ◌∷◌, ap, arith}
 use Rattle.block_core.specs.declared.name.Name.{Name}
 use Rattle.block_core.specs.Blocks.{BlockWireTree}
 use Rattle.overlay_net.specs.cell_core.Cells.{bit, on, bits_from}
 use Rattle.overlay_net.specs.cell_core.Sites.{ProgramView, site_at}
 use Rattle.overlay_net.specs.hazard_core.Tables.{TableState}
-use Rattle.overlay_net.specs.hazard_core.Held.{Held, is_delete}
+use Rattle.overlay_net.specs.hazard_core.StageValues.{StageValues, is_delete}
 use Rattle.overlay_net.specs.hazard_core.Commits.{makes_entry}
 use Rattle.overlay_net.specs.cell_nets.declared.operand.Operand.{Operand}
 use Rattle.overlay_net.specs.cell_nets.declared.operand.Operand.TheVariants.{Known}
@@ -14,22 +14,19 @@ use Rattle.overlay_net.specs.cell_nets.Operands.{number_in, IsAvailable}
 use Rattle.overlay_net.specs.cell_nets.Wires.{always, Gives}
 use Rattle.overlay_net.specs.cell_nets.StepNets.Standing.{Stands}
 use Rattle.overlay_net.proofs.cell_nets_laws.StepNets.ChainLaws.{starts, next}
-use Rattle.overlay_net.proofs.cell_nets_laws.StepNets.StepLaws.{all_each, on_bit, bit_bits}
+use Rattle.overlay_net.proofs.cell_nets_laws.StepNets.StepLaws.{all_each, on_bit}
+use Rattle.overlay_net.proofs.cell_core_laws.BitLaws.{or_chosen}
 use Rattle.commit_net.specs.declared.choosing.CommitNets.{CommitNets}
 use Rattle.commit_net.specs.Choosing.{all_read, IsChosen, Commits}
 use Rattle.commit_net.specs.ChangeNet.Changes.{ShowsPresence}
 use Rattle.commit_net.proofs.ChangeNet.ChainLemmas.{first_of, tail, stands_as, next_each}
-
-pub or_chosen : (s t : Bool) (x : ℕ) → x ≡ bit t → bits_from (if s then 1 else x) 0 1 ≡ bit (s || t)
-or_chosen true t x e = refl
-or_chosen false t x e = ap (λ n. bits_from n 0 1) e ∙ bit_bits t
 
 -- an operation that commits
 record Operation : Type 0 where
   p : ProgramView
   t : TableState
   taken : List ℕ
-  h : Held
+  h : StageValues
   j : ℕ
 
 no_operation : Operation
@@ -43,7 +40,7 @@ no_operation = record {
 
 module _ {P : Type 0} (part : P) (ns : List (CommitNets (Name P))) (c : Operand (Name P)) where
   pub presence_stands :
-      {old one two three new : List (BlockWireTree (Name P))} (i e m o : Operand (Name P)) → ((p : ProgramView) (t : TableState) (taken : List ℕ) (h : Held) (j : ℕ) → Gives part old one (all_read ns) (λ v. Commits v p t taken h j ns) (λ v. bit (makes_entry p t h j)) 1 i)
+      {old one two three new : List (BlockWireTree (Name P))} (i e m o : Operand (Name P)) → ((p : ProgramView) (t : TableState) (taken : List ℕ) (h : StageValues) (j : ℕ) → Gives part old one (all_read ns) (λ v. Commits v p t taken h j ns) (λ v. bit (makes_entry p t h j)) 1 i)
       → ((p : ProgramView) (j : ℕ) → Gives part one two (all_read ns) (λ v. IsChosen v p j ns) (λ v. bit (is_delete (site_at p.sites j).act)) 1 e) → Gives part two three (e ∷ Known 1 ∷ i ∷ []) always (λ v. bits_from (if on (number_in v e) then 1 else number_in v i) 0 1) 1 m
       → Gives part three new (c ∷ m ∷ []) always (λ v. bit (on (number_in v c) && on (number_in v m))) 1 o → Stands part old new (c ∷ all_read ns) always (o ∷ []) (λ v. ShowsPresence v ns c o)
   presence_stands {old = old} i e m o gi ge gm go =

@@ -7,8 +7,8 @@ use Rattle.std.proofs.lemmas.List.{take-append-le, take-append-drop, take_all, l
 use Rattle.std.proofs.lemmas.List.Elements.{All-take, All-drop}
 use Rattle.byteorder.specs.Endian.{little_from, little_bytes}
 use Rattle.byteorder.specs.Numbers.{little_from-cons, little_from-take, length-bytes_low_first}
-use Rattle.net_core.specs.beat_core.Words.{low_bytes}
-use Rattle.net_core.proofs.beat_core_laws.WordLaws.{low_bytes-zero, low_bytes-suc, written_bytes}
+use Rattle.beat_core.specs.Words.{low_bytes}
+use Rattle.beat_core.proofs.WordLaws.{low_bytes-zero, low_bytes-suc, written_bytes}
 use Rattle.overlay_net.specs.cell_core.Sites.{spelled, bytes_of}
 use Rattle.overlay_net.specs.hazard_core.Commits.{word_count, word_at}
 
@@ -41,7 +41,7 @@ module _ (x b : ℕ) (xs bs : List ℕ) where
   shifted : (w : ℕ) → word_at all (suc w) ≡ word_at (drop 8 all) w
   shifted w = let z : 8 * suc w ≡ 8 + 8 * w = omega arith in ap (λ k. little_from 0 8 (take 8 (drop k all))) z ∙ ap (λ l. little_from 0 8 (take 8 l)) (sym (drop-drop (8 * w) 8 all))
 
-  -- the first word, and those behind it
+  -- the first word, and those after it
   word_more : All (λ y. y < 256) all → x ≡ word_at all 0 → (8 < length all → bytes_of (length (drop 8 all)) xs ≡ drop 8 all) → bytes_of (length all) (x ∷ xs) ≡ all
   word_more h first rest = by_order (cases_lt 8 (length all))
     where

@@ -24,8 +24,8 @@ use Rattle.overlay_net.specs.cell_nets.declared.operand.Operand.{Operand}
 use Rattle.overlay_net.specs.cell_nets.declared.operand.Operand.TheVariants.{Net}
 use Rattle.overlay_net.specs.cell_nets.Operands.{HasWidth, AreFit}
 use Rattle.overlay_net.specs.cell_nets.Wires.{always, Gives}
-use Rattle.overlay_net.proofs.cell_nets_laws.StepNets.StepLaws.{small_bits}
 use Rattle.overlay_net.proofs.cell_nets_laws.OperandBlocks.WiringLaws.{no_wires, all_outside}
+use Rattle.overlay_net.proofs.cell_core_laws.BitLaws.{small_bits}
 use Rattle.commit_net.specs.ChangeNet.Pointed.{IsPointedWords}
 use Rattle.commit_net.specs.ChangeNet.Written.{key_count_as, key_count, written_outside, IsWritten}
 

@@ -25,7 +25,7 @@ use Rattle.commit_net.specs.Laws.{ArrayStores}
 use Rattle.commit_net.specs.declared.map_block.form.MapForm.{MapForm}
 use Rattle.commit_net.specs.declared.map_block.parts.MapParts.{MapParts}
 use Rattle.commit_net.specs.declared.map_block.parts.ControlNets.{ControlNets}
-use Rattle.commit_net.specs.MapBlock.Forms.{IsSuited}
+use Rattle.commit_net.specs.MapBlock.Forms.{FormFits}
 use Rattle.commit_net.specs.MapBlock.Parts.{MapTrees, with_slot_net}
 use Rattle.commit_net.specs.MapBlock.Stored.{StoresAs, StoresMap, IsFirst_as, first_value_as, host_may_as, host_word_as}
 use Rattle.commit_net.specs.MapBlock.Block.{IsOwnPart, AreFormed, DoesMap, IsMapBlock}
@@ -49,7 +49,7 @@ module _ {P : Type 0} (f : MapForm) (ps : MapParts P) (c : ControlNets (Name P))
   abbrev nets : MapNets (Name P)
   nets = with_slot_net c bs.slot
 
-  module _ (kind : d.kind ≡ Array) (suited : IsSuited f) (find : IsSlotPart ps.finder f.bits ns bs.slot bs.finds) (fetch : IsFetch ps.fetcher own f.bits 0 d.value 0 count bs.slot bs.fetches) (ask : IsArrayCommit ps.asker d ns (fetched_words ps.fetcher count) values bs.asks)
+  module _ (kind : d.kind ≡ Array) (form_fits : FormFits f) (find : IsSlotPart ps.finder f.bits ns bs.slot bs.finds) (fetch : IsFetch ps.fetcher own f.bits 0 d.value 0 count bs.slot bs.fetches) (ask : IsArrayCommit ps.asker d ns (fetched_words ps.fetcher count) values bs.asks)
       (block : IsArray own f.number d f.bits nets values bs.stores) (stores_law : ArrayStores P) where
     stored : IsOwnPart f bs.stores
     stored = record {
@@ -66,7 +66,7 @@ module _ {P : Type 0} (f : MapForm) (ps : MapParts P) (c : ControlNets (Name P))
         (λ w own_there asker_there given control at. block.reads w own_there control.0 (ask.there w asker_there given))
         (record { within = block.within; wires_spelled = block.wires_spelled; spelled = block.spelled; free = block.free }) block.goes
         (λ w here. subst (λ k. name_width w port_list (host_word_as k own) ≡ 64) (sym kind) (ap (λ (b : BlockTree (Name P)). get_or (block_wires b) 3 0) here ∙ ap (λ l. get_or l 3 0) block.wires))
-        (array_may f ps c bs kind suited) stored
+        (array_may f ps c bs kind form_fits) stored
 
     to_map : (slots : List Slot) (s : Stored) → StoresArray d f.bits slots s → StoresMap d f.bits slots s
     to_map slots s h = subst (λ k. StoresAs k d f.bits slots s) (sym kind) h
@@ -80,20 +80,20 @@ module _ {P : Type 0} (f : MapForm) (ps : MapParts P) (c : ControlNets (Name P))
       stays = λ v s solve none silent. block.stays v s solve.3 none silent;
       commits = λ v s p t taken h j solve sees stores on is.
           to_map _ (done v bs.stores.statement s)
-          (stores_law ps.finder ps.fetcher ps.asker own f.number d f.bits ns nets values bs.finds bs.fetches bs.asks bs.stores kind suited.room find fetch ask block v s p t taken h j solve.0 solve.1 solve.2 solve.3 sees.memories (of_map _ s stores) on is);
+          (stores_law ps.finder ps.fetcher ps.asker own f.number d f.bits ns nets values bs.finds bs.fetches bs.asks bs.stores kind form_fits.room find fetch ask block v s p t taken h j solve.0 solve.1 solve.2 solve.3 sees.memories (of_map _ s stores) on is);
       finds = λ v p t taken h j fit solve on small. find.shows v p t taken h j fit solve.0 on small;
-      written = λ v s t a number calm solve sees m stores host none on is_calm.
+      written = λ v s t a number idle solve sees m stores host none on is_idle.
           let slots = table_at t f.number in
           let array = of_map slots s stores in
-          to_map _ (done v bs.stores.statement s) (subst (λ l. StoresArray d f.bits l (done v bs.stores.statement s)) (table_is f t a m array.count suited.limits.cap_some calm number) (block.written v s slots a number calm solve.3 array host none on));
-      allows = λ v s t a number calm solve sees m stores host is_calm.
+          to_map _ (done v bs.stores.statement s) (subst (λ l. StoresArray d f.bits l (done v bs.stores.statement s)) (table_is f t a m array.count form_fits.limits.cap_some idle number) (block.written v s slots a number idle solve.3 array host none on));
+      allows = λ v s t a number idle solve sees m stores host is_idle.
           let slots = table_at t f.number in
           let array = of_map slots s stores in
-          ap (λ k. value v (host_may_as k f own c.calm)) kind ∙ block.allows v s slots a number calm array host ∙ ap bit (may_is f t a m array.count suited.limits.cap_some calm);
+          ap (λ k. value v (host_may_as k f own c.idle)) kind ∙ block.allows v s slots a number idle array host ∙ ap bit (may_is f t a m array.count form_fits.limits.cap_some idle);
       shows = λ v s t a number solve sees m stores host.
           let slots = table_at t f.number in
           let array = of_map slots s stores in
-          ap (λ (k : MapKind). v.net (host_word_as k own)) kind ∙ block.shows v s slots a number solve.3 array host sees.memories ∙ ap (word 64) (shown_is f t a m array.count suited.limits.cap_some);
+          ap (λ (k : MapKind). v.net (host_word_as k own)) kind ∙ block.shows v s slots a number solve.3 array host sees.memories ∙ ap (word 64) (shown_is f t a m array.count form_fits.limits.cap_some);
       loads = λ v s slots index n j sees stores at less there. ap (λ k. value v (word_shown own (first_value_as k d) d.value j index)) kind ∙ block.loads v s slots index n j (of_map slots s stores) sees.memories at less there;
       counts = λ v s slots is sees stores. let both : Hash ≡ Array = sym is ∙ kind in cc;
     }

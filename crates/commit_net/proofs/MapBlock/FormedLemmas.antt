@@ -39,7 +39,7 @@ later_too w before p q x (name.Wire r i) (inl h) = absurd (omega (arith, h.1))
 later_too w before p q x (name.Wire r i) (inr h) = inr (inr h.0, h.1)
 
 control_too : {P : Type 0} (w : Whole P) (before : List P) (p q x : P) (c : ControlNets (Name P)) → OfControl (IsBefore w before p 0) c → OfControl (IsBefore w (x ∷ before) q 0) c
-control_too w before p q x c h = (later_too w before p q x c.commits h.0, later_too w before p q x c.writes h.1, later_too w before p q x c.calm h.2)
+control_too w before p q x c h = (later_too w before p q x c.commits h.0, later_too w before p q x c.writes h.1, later_too w before p q x c.idle h.2)
 
 -- a part of wires alone
 pub wiring_text : {P : Type 0} (p : P) (outside : List (Operand (Name P))) (b : BlockTree (Name P)) → IsWiring p outside b → IsText b
@@ -125,7 +125,7 @@ module _ {P : Type 0} (f : MapForm) (ps : MapParts P) (c : ControlNets (Name P))
       (ordered :
       (w : Whole P) (before : List P) → Among ps.own w.parts → w.block ps.asker ≡ bs.asks → Among ps.asker before → ((n : Name P) → IsNetOf outside n → IsBefore w before ps.own 0 n) → OfControl (IsBefore w before ps.own 0) c → IsBefore w before ps.own 0 bs.slot → InOrder w before ps.own 0 bs.stores.wires)
       (reads : (w : Whole P) → Among ps.own w.parts → Among ps.asker w.parts → ((n : Name P) → IsNetOf outside n → IsThere w n) → OfControl (IsThere w) c → IsThere w bs.slot → StatementReads (IsThere w) bs.stores.statement) (text : IsText bs.stores)
-      (goes : (v : Env (Name P)) → Goes v bs.stores.wires) (shown : (w : Whole P) → w.block ps.own ≡ bs.stores → name_width w port_list (host_word f ps.own) ≡ 64) (may : IsMayTree ps c bs (host_may f ps.own c.calm)) (stored : IsOwnPart f bs.stores) where
+      (goes : (v : Env (Name P)) → Goes v bs.stores.wires) (shown : (w : Whole P) → w.block ps.own ≡ bs.stores → name_width w port_list (host_word f ps.own) ≡ 64) (may : IsMayTree ps c bs (host_may f ps.own c.idle)) (stored : IsOwnPart f bs.stores) where
     abbrev finder : P
     finder = ps.finder
 

@@ -28,7 +28,7 @@ use Rattle.commit_net.specs.Laws.{HashStores}
 use Rattle.commit_net.specs.declared.map_block.form.MapForm.{MapForm}
 use Rattle.commit_net.specs.declared.map_block.parts.MapParts.{MapParts}
 use Rattle.commit_net.specs.declared.map_block.parts.ControlNets.{ControlNets}
-use Rattle.commit_net.specs.MapBlock.Forms.{IsSuited}
+use Rattle.commit_net.specs.MapBlock.Forms.{FormFits}
 use Rattle.commit_net.specs.MapBlock.Parts.{MapTrees, with_slot_net}
 use Rattle.commit_net.specs.MapBlock.Stored.{StoresAs, StoresMap, IsFirst_as, SeesStored, first_value_as, host_may_as, host_word_as}
 use Rattle.commit_net.specs.MapBlock.Block.{IsOwnPart, AreFormed, DoesMap, IsMapBlock}
@@ -47,8 +47,8 @@ value_memory bits d k l =
     ∙ ap (λ i. (bits, word_width d.value i)) y
 
 -- nets of which some are known
-pub as_given : {N : Type 0} (nets : HashNets N) (m : MapNets N) (calm : N) → nets.map ≡ m → nets.calm ≡ calm → nets ≡ record { map = m; calm = calm; inserts = nets.inserts; deletes = nets.deletes }
-as_given nets m calm e g = λ i. record { map = e i; calm = g i; inserts = nets.inserts; deletes = nets.deletes }
+pub as_given : {N : Type 0} (nets : HashNets N) (m : MapNets N) (idle : N) → nets.map ≡ m → nets.idle ≡ idle → nets ≡ record { map = m; idle = idle; inserts = nets.inserts; deletes = nets.deletes }
+as_given nets m idle e g = λ i. record { map = e i; idle = g i; inserts = nets.inserts; deletes = nets.deletes }
 
 module _ {P : Type 0} (f : MapForm) (ps : MapParts P) (c : ControlNets (Name P)) (ns : List (CommitNets (Name P))) (bs : MapTrees (Name P)) (inserts deletes : Name P) (keys : List (Name P)) (values : List (WordNets (Name P))) where
   abbrev d : MapDecl
@@ -61,9 +61,9 @@ module _ {P : Type 0} (f : MapForm) (ps : MapParts P) (c : ControlNets (Name P))
   count = word_count f.decl.value
 
   abbrev pub nets : HashNets (Name P)
-  nets = record { map = with_slot_net c bs.slot; calm = c.calm; inserts = inserts; deletes = deletes }
+  nets = record { map = with_slot_net c bs.slot; idle = c.idle; inserts = inserts; deletes = deletes }
 
-  module _ (kind : d.kind ≡ Hash) (suited : IsSuited f) (find : IsSlotPart ps.finder f.bits ns bs.slot bs.finds) (fetch : IsFetch ps.fetcher own f.bits (value_first d) d.value 0 count bs.slot bs.fetches) (ask : IsHashCommit ps.asker d f.bits ns (fetched_words ps.fetcher count) nets keys values bs.asks)
+  module _ (kind : d.kind ≡ Hash) (form_fits : FormFits f) (find : IsSlotPart ps.finder f.bits ns bs.slot bs.finds) (fetch : IsFetch ps.fetcher own f.bits (value_first d) d.value 0 count bs.slot bs.fetches) (ask : IsHashCommit ps.asker d f.bits ns (fetched_words ps.fetcher count) nets keys values bs.asks)
       (block : IsHash own f.number d f.bits nets keys values bs.stores) (stores_law : HashStores P) where
     stored : IsOwnPart f bs.stores
     stored = record {
@@ -80,7 +80,7 @@ module _ {P : Type 0} (f : MapForm) (ps : MapParts P) (c : ControlNets (Name P))
         (λ w own_there asker_there given control at. let x = ask.there w asker_there given in block.reads w own_there (control.0, at, control.1, control.2, x.0.0, x.0.1) x.1 x.2)
         (record { within = block.within; wires_spelled = block.wires_spelled; spelled = block.spelled; free = block.free }) block.goes
         (λ w here. subst (λ k. name_width w port_list (host_word_as k own) ≡ 64) (sym kind) (ap (λ (b : BlockTree (Name P)). get_or (block_wires b) 7 0) here ∙ ap (λ l. get_or l 7 0) block.wires))
-        (hash_may f ps c bs kind suited block.memories) stored
+        (hash_may f ps c bs kind form_fits block.memories) stored
 
     to_map : (slots : List Slot) (s : Stored) → StoresHash d f.bits slots s → StoresMap d f.bits slots s
     to_map slots s h = subst (λ k. StoresAs k d f.bits slots s) (sym kind) h
@@ -98,21 +98,21 @@ module _ {P : Type 0} (f : MapForm) (ps : MapParts P) (c : ControlNets (Name P))
       commits = λ v s p t taken h j solve sees stores on is.
           let hash = of_map _ s stores in
           to_map _ (done v bs.stores.statement s)
-          (stores_law ps.finder ps.fetcher ps.asker own f.number d f.bits ns nets keys values bs.finds bs.fetches bs.asks bs.stores suited.room find fetch ask block v s p t taken h j solve.0 solve.1 solve.2 solve.3 (sees_own v s _ sees hash) hash is);
+          (stores_law ps.finder ps.fetcher ps.asker own f.number d f.bits ns nets keys values bs.finds bs.fetches bs.asks bs.stores form_fits.room find fetch ask block v s p t taken h j solve.0 solve.1 solve.2 solve.3 (sees_own v s _ sees hash) hash is);
       finds = λ v p t taken h j fit solve on small. find.shows v p t taken h j fit solve.0 on small;
-      written = λ v s t a number calm solve sees m stores host none on is_calm.
+      written = λ v s t a number idle solve sees m stores host none on is_idle.
           let slots = table_at t f.number in
           let hash = of_map slots s stores in
           to_map _ (done v bs.stores.statement s)
-          (subst (λ l. StoresHash d f.bits l (done v bs.stores.statement s)) (table_is f t a m hash.count suited.limits.cap_some calm number) (block.written v s slots a number calm solve.3 (sees_own v s slots sees hash) hash host none on is_calm));
-      allows = λ v s t a number calm solve sees m stores host is_calm.
+          (subst (λ l. StoresHash d f.bits l (done v bs.stores.statement s)) (table_is f t a m hash.count form_fits.limits.cap_some idle number) (block.written v s slots a number idle solve.3 (sees_own v s slots sees hash) hash host none on is_idle));
+      allows = λ v s t a number idle solve sees m stores host is_idle.
           let slots = table_at t f.number in
           let hash = of_map slots s stores in
-          ap (λ k. value v (host_may_as k f own c.calm)) kind ∙ block.allows v s slots a number calm solve.3 (sees_own v s slots sees hash) hash host is_calm ∙ ap bit (may_is f t a m hash.count suited.limits.cap_some calm);
+          ap (λ k. value v (host_may_as k f own c.idle)) kind ∙ block.allows v s slots a number idle solve.3 (sees_own v s slots sees hash) hash host is_idle ∙ ap bit (may_is f t a m hash.count form_fits.limits.cap_some idle);
       shows = λ v s t a number solve sees m stores host.
           let slots = table_at t f.number in
           let hash = of_map slots s stores in
-          ap (λ (k : MapKind). v.net (host_word_as k own)) kind ∙ block.shows v s slots a number solve.3 (sees_own v s slots sees hash) hash host ∙ ap (word 64) (shown_is f t a m hash.count suited.limits.cap_some);
+          ap (λ (k : MapKind). v.net (host_word_as k own)) kind ∙ block.shows v s slots a number solve.3 (sees_own v s slots sees hash) hash host ∙ ap (word 64) (shown_is f t a m hash.count form_fits.limits.cap_some);
       loads = λ v s slots index n j sees stores at less there.
           let hash = of_map slots s stores in
           ap (λ k. value v (word_shown own (first_value_as k d) d.value j index)) kind ∙ block.loads v s slots index n j (sees_own v s slots sees hash) hash at less there;

@@ -15,8 +15,8 @@ use Rattle.hash_net.specs.array_net.Hosts.{named_word, written_table}
 use Rattle.commit_net.specs.declared.map_block.form.MapForm.{MapForm}
 use Rattle.commit_net.specs.MapBlock.Stored.{IsMapOf, lets_write, after_write, may_here, shown_here}
 
-no_word : (calm : Bool) (s : Slot) → may_write calm s Nothing ≡ false
-no_word calm s = refl
+no_word : (idle : Bool) (s : Slot) → may_write idle s Nothing ≡ false
+no_word idle s = refl
 
 module _ (f : MapForm) (t : TableState) (a : Access) (m : IsMapOf t f) (count : length (table_at t f.number) ≡ f.decl.cap) (some : 0 < f.decl.cap) where
   abbrev slots : List Slot
@@ -51,8 +51,8 @@ module _ (f : MapForm) (t : TableState) (a : Access) (m : IsMapOf t f) (count : 
     slot_same : here ≡ slot_at (table_at t a.map) a.index
     slot_same = ap (λ k. slot_at (table_at t k) a.index) (sym same)
 
-    lets_same : (calm : Bool) → may_write calm here named ≡ lets_write calm t a
-    lets_same calm = ap (λ (w : Word). may_write calm here w) word_same ∙ ap (λ (s : Slot). may_write calm s (word_in t a)) slot_same
+    lets_same : (idle : Bool) → may_write idle here named ≡ lets_write idle t a
+    lets_same idle = ap (λ (w : Word). may_write idle here w) word_same ∙ ap (λ (s : Slot). may_write idle s (word_in t a)) slot_same
 
     written_same : (number : ℕ) → slice_set slots a.index (written_word here named number) ≡ table_at (host_written t a number) f.number
     unfolding host_written
@@ -75,24 +75,24 @@ module _ (f : MapForm) (t : TableState) (a : Access) (m : IsMapOf t f) (count : 
     kept number = get_or-set_other t.tables a.map f.number (slice_set (table_at t a.map) a.index (written_word (slot_at (table_at t a.map) a.index) (word_in t a) number)) [] apart
 
   -- ---- what it may, what it leaves and what it reads
-  pub may_is : (calm : Bool) → may_write calm here named ≡ may_here f calm t a
-  may_is calm = by (a.map == f.number) refl
+  pub may_is : (idle : Bool) → may_write idle here named ≡ may_here f idle t a
+  may_is idle = by (a.map == f.number) refl
     where
-      by : (c : Bool) → (a.map == f.number) ≡ c → may_write calm here named ≡ may_here f calm t a
-      by true e = lets_same e calm ∙ sym (ap (λ b. b && lets_write calm t a) e)
-      by false e = ap (λ (w : Word). may_write calm here w) (unnamed e) ∙ no_word calm here ∙ sym (ap (λ b. b && lets_write calm t a) e)
+      by : (c : Bool) → (a.map == f.number) ≡ c → may_write idle here named ≡ may_here f idle t a
+      by true e = lets_same e idle ∙ sym (ap (λ b. b && lets_write idle t a) e)
+      by false e = ap (λ (w : Word). may_write idle here w) (unnamed e) ∙ no_word idle here ∙ sym (ap (λ b. b && lets_write idle t a) e)
 
-  pub table_is : (calm : Bool) (number : ℕ) → written_table calm named slots a.index number ≡ table_at (after_write calm t a number) f.number
-  table_is calm number = by (a.map == f.number) (lets_write calm t a) refl refl
+  pub table_is : (idle : Bool) (number : ℕ) → written_table idle named slots a.index number ≡ table_at (after_write idle t a number) f.number
+  table_is idle number = by (a.map == f.number) (lets_write idle t a) refl refl
     where
       new : Bool → List Slot
       new b = table_at (if b then host_written t a number else t) f.number
 
-      by : (c l : Bool) → (a.map == f.number) ≡ c → lets_write calm t a ≡ l → written_table calm named slots a.index number ≡ new (lets_write calm t a)
-      by true true e g = ap (λ b. if b then slice_set slots a.index (written_word here named number) else slots) (lets_same e calm ∙ g) ∙ written_same e number ∙ sym (ap new g)
-      by true false e g = ap (λ b. if b then slice_set slots a.index (written_word here named number) else slots) (lets_same e calm ∙ g) ∙ sym (ap new g)
-      by false true e g = ap (λ (w : Word). written_table calm w slots a.index number) (unnamed e) ∙ sym (kept e number) ∙ sym (ap new g)
-      by false false e g = ap (λ (w : Word). written_table calm w slots a.index number) (unnamed e) ∙ sym (ap new g)
+      by : (c l : Bool) → (a.map == f.number) ≡ c → lets_write idle t a ≡ l → written_table idle named slots a.index number ≡ new (lets_write idle t a)
+      by true true e g = ap (λ b. if b then slice_set slots a.index (written_word here named number) else slots) (lets_same e idle ∙ g) ∙ written_same e number ∙ sym (ap new g)
+      by true false e g = ap (λ b. if b then slice_set slots a.index (written_word here named number) else slots) (lets_same e idle ∙ g) ∙ sym (ap new g)
+      by false true e g = ap (λ (w : Word). written_table idle w slots a.index number) (unnamed e) ∙ sym (kept e number) ∙ sym (ap new g)
+      by false false e g = ap (λ (w : Word). written_table idle w slots a.index number) (unnamed e) ∙ sym (ap new g)
 
   pub shown_is : shown_word here named ≡ shown_here f t a
   shown_is = by (a.map == f.number) refl

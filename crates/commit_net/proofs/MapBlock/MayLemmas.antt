@@ -24,7 +24,7 @@ use Rattle.hash_net.specs.HashNets.{value_first, hash_memories, has_word as hash
 use Rattle.commit_net.specs.declared.map_block.form.MapForm.{MapForm}
 use Rattle.commit_net.specs.declared.map_block.parts.MapParts.{MapParts}
 use Rattle.commit_net.specs.declared.map_block.parts.ControlNets.{ControlNets}
-use Rattle.commit_net.specs.MapBlock.Forms.{IsSuited}
+use Rattle.commit_net.specs.MapBlock.Forms.{FormFits}
 use Rattle.commit_net.specs.MapBlock.Parts.{MapTrees}
 use Rattle.commit_net.specs.MapBlock.Stored.{host_may_as, host_may}
 use Rattle.commit_net.specs.MapBlock.Block.{IsMayTree}
@@ -34,17 +34,17 @@ module _ {P : Type 0} (f : MapForm) (ps : MapParts P) (c : ControlNets (Name P))
   d = f.decl
 
   -- ---- widths in a design
-  module _ (w : Whole P) (suited : IsSuited f) where
+  module _ (w : Whole P) (form_fits : FormFits f) where
     abbrev s : Scope (Name P)
     s = names_scope w port_list
 
     few_slots : d.cap - 1 < 2 ^ 16
     few_slots =
-        let n : 2 ^ f.bits ≤ 2 ^ 16 = pow-le-pow_right {n = 2} (omega arith) {i = f.bits} {j = 16} suited.most in
-        omega (arith, n, suited.room, suited.limits.cap_some)
+        let n : 2 ^ f.bits ≤ 2 ^ 16 = pow-le-pow_right {n = 2} (omega arith) {i = f.bits} {j = 16} form_fits.most in
+        omega (arith, n, form_fits.room, form_fits.limits.cap_some)
 
     slot_width : width_of s (names_slot f.number d.cap) ≡ 1
-    slot_width = let m : f.number < 2 ^ 4 = omega (arith, suited.number) in rw (lt-ltb f.number (2 ^ 4) m, lt-ltb (d.cap - 1) (2 ^ 16) few_slots) refl
+    slot_width = let m : f.number < 2 ^ 4 = omega (arith, form_fits.number) in rw (lt-ltb f.number (2 ^ 4) m, lt-ltb (d.cap - 1) (2 ^ 16) few_slots) refl
 
     below_width : (n : ℕ) → n < 16 → width_of s (TBinary Less (port {P = P} HOST_WORD) (constant 4 n)) ≡ 1
     below_width n l = let m : n < 2 ^ 4 = omega (arith, l) in rw (lt-ltb n (2 ^ 4) m) refl
@@ -54,34 +54,34 @@ module _ {P : Type 0} (f : MapForm) (ps : MapParts P) (c : ControlNets (Name P))
 
     used_width : get_or (block_memories (w.block ps.own)) 0 (0, 0) ≡ (f.bits, 1) → width_of s (held ps.own 0 (host_index f.bits)) ≡ 1
     used_width e =
-        (λ i. memory_word_width (select_is 16 f.bits (omega arith) suited.some suited.most i) (e i).0 (e i).1) ∙ ap (λ t. if t then 1 else 0) (same_is f.bits f.bits suited.some refl)
+        (λ i. memory_word_width (select_is 16 f.bits (omega arith) form_fits.some form_fits.most i) (e i).0 (e i).1) ∙ ap (λ t. if t then 1 else 0) (same_is f.bits f.bits form_fits.some refl)
 
-  few_words : IsSuited f → value_first d + word_count d.value < 16
-  few_words suited = let k = suited.limits.key_short in let v = suited.limits.value_short in omega arith
+  few_words : FormFits f → value_first d + word_count d.value < 16
+  few_words form_fits = let k = form_fits.limits.key_short in let v = form_fits.limits.value_short in omega arith
 
-  array_tree : IsSuited f → IsMayTree ps c bs (array_has_word f.number d)
-  array_tree suited = record {
-    typed = λ w is one. let l = few_words suited in λ j. op_width And (slot_width w suited j) (below_width w suited (word_count d.value) (omega (arith, l)) j);
-    reads = λ w before p at there calm. (((tt, tt), (tt, tt)), (tt, tt));
+  array_tree : FormFits f → IsMayTree ps c bs (array_has_word f.number d)
+  array_tree form_fits = record {
+    typed = λ w is one. let l = few_words form_fits in λ j. op_width And (slot_width w form_fits j) (below_width w form_fits (word_count d.value) (omega (arith, l)) j);
+    reads = λ w before p at there idle. (((tt, tt), (tt, tt)), (tt, tt));
     low = omega arith;
     apart = refl;
     flat = λ made. refl;
   }
 
-  hash_tree : IsSuited f → block_memories bs.stores ≡ hash_memories f.bits d → IsMayTree ps c bs (hash_has_word ps.own f.number f.bits d c.calm)
-  hash_tree suited memories = record {
+  hash_tree : FormFits f → block_memories bs.stores ≡ hash_memories f.bits d → IsMayTree ps c bs (hash_has_word ps.own f.number f.bits d c.idle)
+  hash_tree form_fits memories = record {
     typed = λ w is one.
-        let l = few_words suited in
+        let l = few_words form_fits in
         let here : get_or (block_memories (w.block ps.own)) 0 (0, 0) ≡ (f.bits, 1) = ap (λ (b : BlockTree (Name P)). get_or (block_memories b) 0 (0, 0)) is.blocks.3 ∙ ap (λ ms. get_or ms 0 (0, 0)) memories in
-        λ j. op_width And (op_width And (slot_width w suited j) (below_width w suited (value_first d + word_count d.value) l j)) (op_width Or (one j) (op_width And (behind_width w suited (value_first d) (omega (arith, l)) j) (used_width w suited here j)));
-    reads = λ w before p at there calm. ((((tt, tt), (tt, tt)), (tt, tt)), (calm, ((tt, tt), (there, tt))));
+        λ j. op_width And (op_width And (slot_width w form_fits j) (below_width w form_fits (value_first d + word_count d.value) l j)) (op_width Or (one j) (op_width And (behind_width w form_fits (value_first d) (omega (arith, l)) j) (used_width w form_fits here j)));
+    reads = λ w before p at there idle. ((((tt, tt), (tt, tt)), (tt, tt)), (idle, ((tt, tt), (there, tt))));
     low = omega arith;
     apart = refl;
     flat = λ made. refl;
   }
 
-  pub array_may : d.kind ≡ Array → IsSuited f → IsMayTree ps c bs (host_may f ps.own c.calm)
-  array_may kind suited = subst (λ k. IsMayTree ps c bs (host_may_as k f ps.own c.calm)) (sym kind) (array_tree suited)
+  pub array_may : d.kind ≡ Array → FormFits f → IsMayTree ps c bs (host_may f ps.own c.idle)
+  array_may kind form_fits = subst (λ k. IsMayTree ps c bs (host_may_as k f ps.own c.idle)) (sym kind) (array_tree form_fits)
 
-  pub hash_may : d.kind ≡ Hash → IsSuited f → block_memories bs.stores ≡ hash_memories f.bits d → IsMayTree ps c bs (host_may f ps.own c.calm)
-  hash_may kind suited memories = subst (λ k. IsMayTree ps c bs (host_may_as k f ps.own c.calm)) (sym kind) (hash_tree suited memories)
+  pub hash_may : d.kind ≡ Hash → FormFits f → block_memories bs.stores ≡ hash_memories f.bits d → IsMayTree ps c bs (host_may f ps.own c.idle)
+  hash_may kind form_fits memories = subst (λ k. IsMayTree ps c bs (host_may_as k f ps.own c.idle)) (sym kind) (hash_tree form_fits memories)

@@ -19,7 +19,7 @@ use Rattle.overlay_net.specs.cell_core.Formed.{FitsMap}
 use Rattle.overlay_net.specs.hazard_core.declared.slot.Slot.{Slot}
 use Rattle.overlay_net.specs.hazard_core.declared.access.Access.{Access}
 use Rattle.overlay_net.specs.hazard_core.Tables.{TableState, decl_of, table_at, slot_at, has_key}
-use Rattle.overlay_net.specs.hazard_core.Held.{Held, is_delete}
+use Rattle.overlay_net.specs.hazard_core.StageValues.{StageValues, is_delete}
 use Rattle.overlay_net.specs.hazard_core.Commits.{word_count, word_at as byte_word, makes_entry, written_slot, change_by, host_change}
 use Rattle.overlay_net.specs.hazard_core.Changes.{IsRightCommit}
 use Rattle.hash_net.specs.array_net.Hosts.{SeesHost}
@@ -66,7 +66,7 @@ ShowKeys_as Array v ns commits slot keys outs = outs ≡ slot ∷ []
 abbrev pub ShowKeys : {N : Type 0} → Env N → MapDecl → List (CommitNets N) → Operand N → Operand N → List N → List (Operand N) → Type 0
 ShowKeys v d ns commits slot keys outs = ShowKeys_as d.kind v ns commits slot keys outs
 
--- behind more wires stand such operands
+-- after more wires stand such operands
 pub record AreKeys {P : Type 0} (part : P) (old new : List (BlockWireTree (Name P))) (ns : List (CommitNets (Name P))) (commits : Operand (Name P)) (keys : List (Name P)) (outs : List (Operand (Name P))) : Type 0 where
   pub count : length outs ≡ length keys
   pub operands : All IsOperand outs
@@ -76,7 +76,7 @@ pub record AreKeys {P : Type 0} (part : P) (old new : List (BlockWireTree (Name 
 abbrev pub ShowsPresence : {N : Type 0} → Env N → List (CommitNets N) → Operand N → Operand N → Type 0
 ShowsPresence v ns commits o =
     (on (number_in v commits) ≡ false → number_in v o ≡ 0)
-    × ((p : ProgramView) (t : TableState) (taken : List ℕ) (h : Held) (j : ℕ) → Commits v p t taken h j ns → on (number_in v commits) ≡ true → number_in v o ≡ bit (is_delete (site_at p.sites j).act || makes_entry p t h j))
+    × ((p : ProgramView) (t : TableState) (taken : List ℕ) (h : StageValues) (j : ℕ) → Commits v p t taken h j ns → on (number_in v commits) ≡ true → number_in v o ≡ bit (is_delete (site_at p.sites j).act || makes_entry p t h j))
 
 -- ---- a clock
 -- nets show the words of the key in a slot; of an array this is the slot's number
@@ -88,7 +88,7 @@ abbrev pub ShowsKey : {N : Type 0} → Env N → MapDecl → List N → ℕ → 
 ShowsKey v d keys n s = ShowsKey_as d.kind v d keys n s
 
 -- The operation of a packet at site j commits, on a map of this declaration, and nets show the slot that it writes and the key there.
-pub record IsCommitting {P : Type 0} (v : Env (Name P)) (p : ProgramView) (t : TableState) (taken : List ℕ) (h : Held) (j : ℕ) (d : MapDecl) (bits : ℕ) (ns : List (CommitNets (Name P))) (commits slot : Name P) (keys : List (Name P)) : Type 0 where
+pub record IsCommitting {P : Type 0} (v : Env (Name P)) (p : ProgramView) (t : TableState) (taken : List ℕ) (h : StageValues) (j : ℕ) (d : MapDecl) (bits : ℕ) (ns : List (CommitNets (Name P))) (commits slot : Name P) (keys : List (Name P)) : Type 0 where
   pub operation : Commits v p t taken h j ns
   pub acts : v.net commits ≡ net_bit true
   pub in_slot : v.net slot ≡ word bits (written_slot p t taken h j)
@@ -130,7 +130,7 @@ pub record IsChange {P : Type 0} (part : P) (number : ℕ) (d : MapDecl) (bits :
   pub wiring : IsWiring part (change_outside bits commits host slot keys ns) b
   pub offers : Offers part (change_outside bits commits host slot keys ns) b (change_given at key presence any by_host)
   pub nets : (c : ChangeNets (Name P)) → StandsFor at key presence c → IsChangeNets d.key c
-  pub committed : (v : Env (Name P)) (p : ProgramView) (t : TableState) (taken : List ℕ) (h : Held) (j : ℕ) (c : ChangeNets (Name P)) → AreFit v (change_outside bits commits host slot keys ns) → Solve v part 0 b.wires → IsCommitting v p t taken h j d bits ns commits slot keys
+  pub committed : (v : Env (Name P)) (p : ProgramView) (t : TableState) (taken : List ℕ) (h : StageValues) (j : ℕ) (c : ChangeNets (Name P)) → AreFit v (change_outside bits commits host slot keys ns) → Solve v part 0 b.wires → IsCommitting v p t taken h j d bits ns commits slot keys
       → StandsFor at key presence c → ShowsChange v d.key (change_by p t taken h j) c
   pub written : (v : Env (Name P)) (t : TableState) (a : Access) (c : ChangeNets (Name P)) → AreFit v (change_outside bits commits host slot keys ns) → Solve v part 0 b.wires → IsNaming v t a d bits commits slot keys → StandsFor at key presence c → ShowsChange v d.key (host_change t a) c
   pub says_any : (v : Env (Name P)) (a : Access) (n : ℕ) (c h : Bool) → AreFit v (change_outside bits commits host slot keys ns) → Solve v part 0 b.wires → SeesHost v a n → v.net commits ≡ net_bit c → v.net host ≡ net_bit h → v.net any ≡ net_bit (c || (h && (a.map == number)))

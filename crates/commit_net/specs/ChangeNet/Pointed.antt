@@ -26,7 +26,7 @@ use Rattle.overlay_net.specs.cell_nets.Wires.{behind, AreWires}
 abbrev pub wires_from : {P : Type 0} → P → ℕ → ℕ → List (Name P)
 wires_from part at count = map_list (λ i. name.Wire part (at + i)) (range_with_len 0 count)
 
--- The wires of a part, over what comes from outside, none of them a product, and an operand that is there behind them.
+-- The wires of a part, over what comes from outside, none of them a product, and an operand that is there after them.
 pub record IsOver {P : Type 0} (part : P) (outside : List (Operand (Name P))) (ws : List (BlockWireTree (Name P))) (a : Operand (Name P)) : Type 0 where
   pub wires : AreWires part outside ws
   pub there : IsAvailable (behind part outside ws) a
@@ -41,7 +41,7 @@ abbrev pub pointed_operands : {N : Type 0} → ℕ → N → List N → List (Op
 pointed_operands bits slot words = Net slot bits ∷ word_operands words
 
 -- The block: wires alone. It is well typed, in order and spelled where the other part has the memories of the words and what comes from outside is declared
--- and stands before it, and what it gives is declared and stands before later parts. Behind the wires that it is over, the net of the slot shows so many bits
+-- and stands before it, and what it gives is declared and stands before later parts. After the wires that it is over, the net of the slot shows so many bits
 -- of the operand, from one on, and the nets of the words so many words, from one on, of a byte string of the slot of that number.
 pub record IsPointedWords {P : Type 0} (part of : P) (outside : List (Operand (Name P))) (ws : List (BlockWireTree (Name P))) (a : Operand (Name P)) (shift bits first bytes from count : ℕ) (slot : Name P) (words : List (Name P)) (b : BlockTree (Name P)) : Type 0 where
   pub registers : b.registers ≡ []

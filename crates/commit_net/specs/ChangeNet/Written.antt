@@ -37,7 +37,7 @@ key_count d = key_count_as d.kind d
 abbrev pub written_outside : {P : Type 0} → ℕ → Name P → Name P → List (Operand (Name P))
 written_outside bits commits slot = Net commits 1 ∷ Net slot bits ∷ Net (name.Port HOST_INDEX) 16 ∷ []
 
--- The block: behind a choice between the slot of a commit and the host's index the net of the slot that is written, and of a hash nets that show the words
+-- The block: after a choice between the slot of a commit and the host's index the net of the slot that is written, and of a hash nets that show the words
 -- of the key in that slot of the table that the other part stores, from its second memory on.
 pub record IsWritten {P : Type 0} (part of : P) (d : MapDecl) (bits : ℕ) (commits slot out : Name P) (words : List (Name P)) (b : BlockTree (Name P)) : Type 0 where
   pub over : List (BlockWireTree (Name P))

@@ -18,7 +18,7 @@ use Rattle.overlay_net.specs.cell_core.Sites.{ProgramView}
 use Rattle.overlay_net.specs.hazard_core.declared.slot.Slot.{Slot}
 use Rattle.overlay_net.specs.hazard_core.declared.access.Access.{Access}
 use Rattle.overlay_net.specs.hazard_core.Tables.{TableState, table_at, slot_at, used_count}
-use Rattle.overlay_net.specs.hazard_core.Held.{Held, writes}
+use Rattle.overlay_net.specs.hazard_core.StageValues.{StageValues, writes}
 use Rattle.overlay_net.specs.hazard_core.Commits.{word_count, word_at as byte_word, written_slot, committed}
 use Rattle.hash_net.specs.array_net.Words.{word_width}
 use Rattle.hash_net.specs.array_net.WordTrees.{word_shown}
@@ -40,13 +40,13 @@ use Rattle.commit_net.specs.MapBlock.Stored.{StoresMap, IsFirst, SeesStored, fir
 
 -- The tree that says whether the host may write the word that it names: of one bit, over ports, the map's memories and whether no packet is inside.
 pub record IsMayTree {P : Type 0} (ps : MapParts P) (c : ControlNets (Name P)) (bs : MapTrees (Name P)) (t : Tree (Name P)) : Type 0 where
-  pub typed : (w : Whole P) → AreParts w ps bs → name_width w port_list c.calm ≡ 1 → width_of (names_scope w port_list) t ≡ 1
-  pub reads : (w : Whole P) (before : List P) (p : P) (at : ℕ) → Among ps.own w.parts → IsBefore w before p at c.calm → Reads (IsBefore w before p at) t
+  pub typed : (w : Whole P) → AreParts w ps bs → name_width w port_list c.idle ≡ 1 → width_of (names_scope w port_list) t ≡ 1
+  pub reads : (w : Whole P) (before : List P) (p : P) (at : ℕ) → Among ps.own w.parts → IsBefore w before p at c.idle → Reads (IsBefore w before p at) t
   pub low : depth t ≤ 5
   pub apart : prefixes_apart t ≡ true
   pub flat : (made : Name P → Bool) → is_flat made t ≡ true
 
--- What the last part stores, which parts behind may read: words of values, in memories from one on; and of a hash its table, and how many slots are used.
+-- What the last part stores, which parts after may read: words of values, in memories from one on; and of a hash its table, and how many slots are used.
 pub record IsOwnPart {N : Type 0} (f : MapForm) (b : BlockTree N) : Type 0 where
   pub values : (j : ℕ) → j < word_count f.decl.value → get_or (block_memories b) (first_value f.decl + j) (0, 0) ≡ (f.bits, word_width f.decl.value j)
   pub counter : f.decl.kind ≡ Hash → block_registers b ≡ (f.bits + 1) ∷ []
@@ -69,8 +69,8 @@ pub record AreFormed {P : Type 0} (f : MapForm) (ps : MapParts P) (c : ControlNe
   pub own : IsOwnPart f bs.stores
   -- the width of what the host reads
   pub shown : (w : Whole P) → AreParts w ps bs → name_width w port_list (host_word f ps.own) ≡ 64
-  pub may : IsMayTree ps c bs (host_may f ps.own c.calm)
-  -- the slot that is written, which parts behind may read
+  pub may : IsMayTree ps c bs (host_may f ps.own c.idle)
+  -- the slot that is written, which parts after may read
   pub slot_width : (w : Whole P) → AreParts w ps bs → AreDeclared (names_scope w port_list) (all_read ns) → name_width w port_list bs.slot ≡ f.bits
   pub slot_before : (w : Whole P) (earlier : List P) (later : P) → AreParts w ps bs → Among ps.finder earlier → ((n : Name P) → IsNetOf (all_read ns) n → IsBefore w earlier later 0 n) → IsBefore w earlier later 0 bs.slot
   pub slot_there : (w : Whole P) → AreParts w ps bs → ((n : Name P) → IsNetOf (all_read ns) n → IsThere w n) → IsThere w bs.slot
@@ -80,14 +80,14 @@ pub record AreFormed {P : Type 0} (f : MapForm) (ps : MapParts P) (c : ControlNe
 pub record DoesMap {P : Type 0} (f : MapForm) (ps : MapParts P) (c : ControlNets (Name P)) (ns : List (CommitNets (Name P))) (bs : MapTrees (Name P)) : Type 0 where
   pub first : (slots : List Slot) → IsFirst f.decl slots → StoresMap f.decl f.bits slots (first_of bs.stores)
   pub stays : (v : Env (Name P)) (s : Stored) → SolveAll v ps bs → v.net c.commits ≡ bit false → v.net c.writes ≡ bit false → done v bs.stores.statement s ≡ s
-  pub commits : (v : Env (Name P)) (s : Stored) (p : ProgramView) (t : TableState) (taken : List ℕ) (h : Held) (j : ℕ) → SolveAll v ps bs → SeesStored ps.own v s → StoresMap f.decl f.bits (table_of p t j) s → writes p t.decls h j ≡ true
+  pub commits : (v : Env (Name P)) (s : Stored) (p : ProgramView) (t : TableState) (taken : List ℕ) (h : StageValues) (j : ℕ) → SolveAll v ps bs → SeesStored ps.own v s → StoresMap f.decl f.bits (table_of p t j) s → writes p t.decls h j ≡ true
       → IsCommit v p t taken h j f.decl ns (with_slot_net c bs.slot) → StoresMap f.decl f.bits (table_of p (committed p t taken h j) j) (done v bs.stores.statement s)
-  pub finds : (v : Env (Name P)) (p : ProgramView) (t : TableState) (taken : List ℕ) (h : Held) (j : ℕ) → AreFit v (all_read ns) → SolveAll v ps bs → Commits v p t taken h j ns → written_slot p t taken h j < 2 ^ f.bits
+  pub finds : (v : Env (Name P)) (p : ProgramView) (t : TableState) (taken : List ℕ) (h : StageValues) (j : ℕ) → AreFit v (all_read ns) → SolveAll v ps bs → Commits v p t taken h j ns → written_slot p t taken h j < 2 ^ f.bits
       → v.net bs.slot ≡ word f.bits (written_slot p t taken h j)
-  pub written : (v : Env (Name P)) (s : Stored) (t : TableState) (a : Access) (number : ℕ) (calm : Bool) → SolveAll v ps bs → SeesStored ps.own v s → IsMapOf t f → StoresMap f.decl f.bits (table_at t f.number) s → SeesHost v a number
-      → v.net c.commits ≡ bit false → v.net c.writes ≡ bit true → v.net c.calm ≡ bit calm → StoresMap f.decl f.bits (table_at (after_write calm t a number) f.number) (done v bs.stores.statement s)
-  pub allows : (v : Env (Name P)) (s : Stored) (t : TableState) (a : Access) (number : ℕ) (calm : Bool) → SolveAll v ps bs → SeesStored ps.own v s → IsMapOf t f → StoresMap f.decl f.bits (table_at t f.number) s → SeesHost v a number
-      → v.net c.calm ≡ bit calm → value v (host_may f ps.own c.calm) ≡ bit (may_here f calm t a)
+  pub written : (v : Env (Name P)) (s : Stored) (t : TableState) (a : Access) (number : ℕ) (idle : Bool) → SolveAll v ps bs → SeesStored ps.own v s → IsMapOf t f → StoresMap f.decl f.bits (table_at t f.number) s → SeesHost v a number
+      → v.net c.commits ≡ bit false → v.net c.writes ≡ bit true → v.net c.idle ≡ bit idle → StoresMap f.decl f.bits (table_at (after_write idle t a number) f.number) (done v bs.stores.statement s)
+  pub allows : (v : Env (Name P)) (s : Stored) (t : TableState) (a : Access) (number : ℕ) (idle : Bool) → SolveAll v ps bs → SeesStored ps.own v s → IsMapOf t f → StoresMap f.decl f.bits (table_at t f.number) s → SeesHost v a number
+      → v.net c.idle ≡ bit idle → value v (host_may f ps.own c.idle) ≡ bit (may_here f idle t a)
   pub shows : (v : Env (Name P)) (s : Stored) (t : TableState) (a : Access) (number : ℕ) → SolveAll v ps bs → SeesStored ps.own v s → IsMapOf t f → StoresMap f.decl f.bits (table_at t f.number) s → SeesHost v a number
       → v.net (host_word f ps.own) ≡ word 64 (shown_here f t a)
   pub loads : (v : Env (Name P)) (s : Stored) (slots : List Slot) (index : Tree (Name P)) (n j : ℕ) → SeesStored ps.own v s → StoresMap f.decl f.bits slots s → (value v index).value ≡ n → n < f.decl.cap → j < word_count f.decl.value

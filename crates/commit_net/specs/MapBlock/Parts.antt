@@ -60,7 +60,7 @@ pub record IsIdle {N : Type 0} (b : BlockTree N) : Type 0 where
 -- ---- the nets of control
 -- this holds of each of them
 abbrev pub OfControl : {N : Type 0} → (N → Type 0) → ControlNets N → Type 0
-OfControl q c = q c.commits × q c.writes × q c.calm
+OfControl q c = q c.commits × q c.writes × q c.idle
 
 -- each has one bit
 abbrev pub HaveOneBit : {P : Type 0} → Whole P → ControlNets (Name P) → Type 0

@@ -52,11 +52,11 @@ first_value d = first_value_as d.kind d
 
 -- whether the host may write the word that it names
 abbrev pub host_may_as : {P : Type 0} → MapKind → MapForm → P → Name P → Tree (Name P)
-host_may_as Hash f own calm = hash_may own f.number f.bits f.decl calm
-host_may_as Array f own calm = array_may f.number f.decl
+host_may_as Hash f own idle = hash_may own f.number f.bits f.decl idle
+host_may_as Array f own idle = array_may f.number f.decl
 
 abbrev pub host_may : {P : Type 0} → MapForm → P → Name P → Tree (Name P)
-host_may f own calm = host_may_as f.decl.kind f own calm
+host_may f own idle = host_may_as f.decl.kind f own idle
 
 -- the wire of the word that the host names
 abbrev pub host_word_as : {P : Type 0} → MapKind → P → Name P
@@ -73,15 +73,15 @@ pub record IsMapOf (t : TableState) (f : MapForm) : Type 0 where
   pub declared : decl_of t.decls f.number ≡ f.decl
 
 abbrev pub lets_write : Bool → TableState → Access → Bool
-lets_write calm t a = may_write calm (slot_at (table_at t a.map) a.index) (word_in t a)
+lets_write idle t a = may_write idle (slot_at (table_at t a.map) a.index) (word_in t a)
 
 -- the tables after a write of the host, which changes what it may
 abbrev pub after_write : Bool → TableState → Access → ℕ → TableState
-after_write calm t a n = if lets_write calm t a then host_written t a n else t
+after_write idle t a n = if lets_write idle t a then host_written t a n else t
 
 -- what is for the host of the map that it names
 abbrev pub may_here : MapForm → Bool → TableState → Access → Bool
-may_here f calm t a = a.map == f.number && lets_write calm t a
+may_here f idle t a = a.map == f.number && lets_write idle t a
 
 abbrev pub shown_here : MapForm → TableState → Access → ℕ
 shown_here f t a = if a.map == f.number then shown_to_host t a else 0

@@ -46,7 +46,7 @@ fn word_wire<P: Part>(
     Ok(wire(64, there))
 }
 
-// Adds a wire behind others, and says what it is called. Of 2^32 wires a part has no room for more, as where memory is out.
+// Adds a wire after others, and says what it is called. Of 2^32 wires a part has no room for more, as where memory is out.
 fn push<P: Part>(
     wires: &mut Vec<BlockWire<Name<P>>>,
     part: P,
@@ -89,8 +89,8 @@ fn add_words<P: Part>(
     Ok(words)
 }
 
-/// The part that has these wires, and behind them one with so many bits of an operand, from one on, as the number of a slot, and so many words, from
-/// one on, of a byte string of that slot. The first words of such strings are in a memory of another part, and the next ones in the memories behind it.
+/// The part that has these wires, and after them one with so many bits of an operand, from one on, as the number of a slot, and so many words, from
+/// one on, of a byte string of that slot. The first words of such strings are in a memory of another part, and the next ones in the memories after it.
 ///
 /// The operand is a number, a net from outside, or one of the wires. The number of a pointer to a slot has the number of the slot above its two low bits.
 pub fn pointed_words<P: Part>(

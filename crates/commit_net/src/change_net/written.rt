@@ -26,7 +26,7 @@ pub fn key_count(decl: &MapDecl) -> u32
     }
 }
 
-/// The part that gives the slot that a clock writes in a map: where an operation commits the one that this writes, else the host's index; and behind it the
+/// The part that gives the slot that a clock writes in a map: where an operation commits the one that this writes, else the host's index; and after it the
 /// words of the key in that slot, of a hash, whose memories are another part's.
 pub fn written<P: Part>(
     alloc: Global,

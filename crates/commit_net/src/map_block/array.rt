@@ -5,7 +5,7 @@ ghost use Rattle.overlay_net.specs.xdp_maps.Contents.{IsWithinLimits};
 ghost use Rattle.overlay_net.specs.xdp_maps.declared.decl.MapKind.TheVariants.{Array};
 ghost use Rattle.commit_net.specs.Choosing.{HasOperands};
 ghost use Rattle.commit_net.specs.Words.{IsFitting};
-ghost use Rattle.commit_net.specs.MapBlock.Forms.{IsSuited};
+ghost use Rattle.commit_net.specs.MapBlock.Forms.{FormFits};
 ghost use Rattle.commit_net.specs.MapBlock.Parts.{trees_of};
 ghost use Rattle.commit_net.specs.MapBlock.Stored.{host_word, first_value};
 ghost use Rattle.commit_net.specs.MapBlock.Block.{IsMapBlock};
@@ -33,13 +33,13 @@ impl Model for ArrayBlock {
     ghost use Rattle.std.specs.Prelude.{◌≡◌};
     ghost use Rattle.overlay_net.specs.xdp_maps.declared.decl.MapKind.TheVariants.{Array};
     ghost use Rattle.commit_net.specs.declared.map_block.form.MapForm.{MapForm};
-    ghost use Rattle.commit_net.specs.MapBlock.Forms.{IsSuited};
+    ghost use Rattle.commit_net.specs.MapBlock.Forms.{FormFits};
 
     ghost Value = { MapForm };
 
     ghost view = { λ b. b.form };
 
-    ghost invariant = { λ b. (b.form.decl.kind ≡ Array) × IsSuited b.form };
+    ghost invariant = { λ b. (b.form.decl.kind ≡ Array) × FormFits b.form };
 }
 
 impl ArrayBlock {
@@ -66,7 +66,7 @@ fn blocks<P: Part>(
     sites: &[CommitNets<'_, Name<P>>],
 ) -> Result<MapBlocks<Name<P>>, AllocError>
     requires kind { form.now.decl.kind ≡ Array }
-    requires suited { IsSuited form.now }
+    requires form_fits { FormFits form.now }
     requires operands { All HasOperands sites.now }
     requires fitting { All (IsFitting form.now.decl) sites.now }
     ensures { IfOk result (λ r. IsMapBlock form.now parts control sites.now (trees_of r)) }
@@ -131,7 +131,7 @@ impl MapBlock for ArrayBlock {
         &self,
         alloc: Global,
         own: P,
-        _calm: Name<P>,
+        _idle: Name<P>,
     ) -> Result<Expr<Name<P>>, AllocError> {
         has_word(alloc, self.form.number, &self.form.decl)
     }

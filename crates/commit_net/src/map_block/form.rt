@@ -2,7 +2,7 @@
 
 ghost use Rattle.std.specs.Prelude.{ℕ, ◌≡◌, ◌≤◌, ◌<◌, ◌^◌};
 ghost use Rattle.overlay_net.specs.xdp_maps.Contents.{IsWithinLimits};
-ghost use Rattle.commit_net.specs.MapBlock.Forms.{IsSuited};
+ghost use Rattle.commit_net.specs.MapBlock.Forms.{FormFits};
 
 use overlay_net::cell_nets::cell_core::xdp_state::xdp_maps::decl::MapDecl;
 
@@ -35,7 +35,7 @@ pub fn form_of(number: u8, decl: &MapDecl) -> MapForm
     requires limits { IsWithinLimits decl.now }
     ensures number { result.number ≡ number }
     ensures decl { result.decl ≡ decl.now }
-    ensures suited { IsSuited result }
+    ensures form_fits { FormFits result }
 {
     MapForm {
         number,

@@ -6,7 +6,7 @@ ghost use Rattle.overlay_net.specs.hazard_core.Commits.{word_count};
 ghost use Rattle.commit_net.specs.Choosing.{HasOperands};
 ghost use Rattle.commit_net.specs.Fetching.{IsFetch, fetched_words};
 ghost use Rattle.commit_net.specs.Wholes.{IsSlotPart};
-ghost use Rattle.commit_net.specs.MapBlock.Forms.{IsSuited};
+ghost use Rattle.commit_net.specs.MapBlock.Forms.{FormFits};
 
 use crate::choosing::CommitNets;
 use crate::fetch::{fetch, fetched_words};
@@ -35,7 +35,7 @@ pub(crate) fn find_words<P: Part>(
     parts: MapParts<P>,
     sites: &[CommitNets<'_, Name<P>>],
 ) -> Result<Found<Name<P>>, AllocError>
-    requires suited { IsSuited form.now }
+    requires form_fits { FormFits form.now }
     requires few { first ≤ 15 }
     requires operands { All HasOperands sites.now }
     ensures finds { IfOk result (λ r. IsSlotPart parts.finder form.now.bits sites.now r.slot (block_of r.finds)) }

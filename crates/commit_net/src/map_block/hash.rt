@@ -5,7 +5,7 @@ ghost use Rattle.overlay_net.specs.xdp_maps.Contents.{IsWithinLimits};
 ghost use Rattle.overlay_net.specs.xdp_maps.declared.decl.MapKind.TheVariants.{Hash};
 ghost use Rattle.commit_net.specs.Choosing.{HasOperands};
 ghost use Rattle.commit_net.specs.Words.{IsFitting};
-ghost use Rattle.commit_net.specs.MapBlock.Forms.{IsSuited};
+ghost use Rattle.commit_net.specs.MapBlock.Forms.{FormFits};
 ghost use Rattle.commit_net.specs.MapBlock.Parts.{trees_of};
 ghost use Rattle.commit_net.specs.MapBlock.Stored.{host_word};
 ghost use Rattle.commit_net.specs.MapBlock.Block.{IsMapBlock};
@@ -33,13 +33,13 @@ impl Model for HashBlock {
     ghost use Rattle.std.specs.Prelude.{◌≡◌};
     ghost use Rattle.overlay_net.specs.xdp_maps.declared.decl.MapKind.TheVariants.{Hash};
     ghost use Rattle.commit_net.specs.declared.map_block.form.MapForm.{MapForm};
-    ghost use Rattle.commit_net.specs.MapBlock.Forms.{IsSuited};
+    ghost use Rattle.commit_net.specs.MapBlock.Forms.{FormFits};
 
     ghost Value = { MapForm };
 
     ghost view = { λ b. b.form };
 
-    ghost invariant = { λ b. (b.form.decl.kind ≡ Hash) × IsSuited b.form };
+    ghost invariant = { λ b. (b.form.decl.kind ≡ Hash) × FormFits b.form };
 }
 
 impl HashBlock {
@@ -66,7 +66,7 @@ fn blocks<P: Part>(
     sites: &[CommitNets<'_, Name<P>>],
 ) -> Result<MapBlocks<Name<P>>, AllocError>
     requires kind { form.now.decl.kind ≡ Hash }
-    requires suited { IsSuited form.now }
+    requires form_fits { FormFits form.now }
     requires operands { All HasOperands sites.now }
     requires fitting { All (IsFitting form.now.decl) sites.now }
     ensures { IfOk result (λ r. IsMapBlock form.now parts control sites.now (trees_of r)) }
@@ -83,7 +83,7 @@ fn blocks<P: Part>(
         sites,
         &found.words,
         map,
-        control.calm,
+        control.idle,
     )?;
     let stores = hash(
         alloc,
@@ -133,10 +133,10 @@ impl MapBlock for HashBlock {
         &self,
         alloc: Global,
         own: P,
-        calm: Name<P>,
+        idle: Name<P>,
     ) -> Result<Expr<Name<P>>, AllocError> {
         let form = &self.form;
-        has_word(alloc, own, form.number, form.bits, &form.decl, calm)
+        has_word(alloc, own, form.number, form.bits, &form.decl, idle)
     }
 
     fn host_word<P: Part>(&self, own: P) -> Name<P> {

@@ -5,7 +5,7 @@ ghost use Rattle.net_core.specs.View.{tree_of};
 ghost use Rattle.commit_net.specs.Choosing.{HasOperands};
 ghost use Rattle.commit_net.specs.Words.{IsFitting};
 ghost use Rattle.commit_net.specs.declared.map_block.form.MapForm.{MapForm};
-ghost use Rattle.commit_net.specs.MapBlock.Forms.{IsSuited};
+ghost use Rattle.commit_net.specs.MapBlock.Forms.{FormFits};
 ghost use Rattle.commit_net.specs.MapBlock.Parts.{trees_of, with_slot_net};
 ghost use Rattle.commit_net.specs.MapBlock.Stored.{first_value, host_word, host_may};
 ghost use Rattle.commit_net.specs.MapBlock.Block.{IsMapBlock};
@@ -18,8 +18,8 @@ use hash_net::array_net::MapNets;
 use net_core::tree::Expr;
 use std::alloc::{AllocError, Global};
 
-/// The parts of a map, in their order: one gives the slot that the operation writes that commits, one behind it the words of the value there, one
-/// behind this what the operation asks, and the last has the map's memories.
+/// The parts of a map, in their order: one gives the slot that the operation writes that commits, one after it the words of the value there, one
+/// after this what the operation asks, and the last has the map's memories.
 #[derive(Clone, Copy)]
 pub struct MapParts<P> {
     pub finder: P,
@@ -34,7 +34,7 @@ pub struct MapParts<P> {
 pub struct ControlNets<N> {
     pub commits: N,
     pub writes: N,
-    pub calm: N,
+    pub idle: N,
 }
 
 /// With the net of the slot that is written.
@@ -67,7 +67,7 @@ pub trait MapBlock {
     /// The map.
     fn form(&self) -> &MapForm
         ensures form { result.now ≡ form self.now }
-        ensures suited { IsSuited (form self.now) };
+        ensures form_fits { FormFits (form self.now) };
 
     /// The parts of the map, for the operations on it, which may be none.
     fn build<P: Part>(
@@ -86,9 +86,9 @@ pub trait MapBlock {
         &self,
         alloc: Global,
         own: P,
-        calm: Name<P>,
+        idle: Name<P>,
     ) -> Result<Expr<Name<P>>, AllocError>
-        ensures { IfOk result (λ e. tree_of e ≡ host_may (form self.now) own calm) };
+        ensures { IfOk result (λ e. tree_of e ≡ host_may (form self.now) own idle) };
 
     /// The wire that shows the word that the host names, of 64 bits.
     fn host_word<P: Part>(&self, own: P) -> Name<P>

@@ -2,8 +2,8 @@
 use Rattle.std.specs.Prelude.{◌≡◌, ◌≢◌, ℕ, zero, suc, ◌+◌, ◌-◌, ◌<◌, ◌≤◌, ◌==◌, cond, Bool, true, false}
 use Rattle.std.proofs.Common.{not, refl, sym, ap, ◌∙◌, arith, inl, inr}
 use Rattle.std.proofs.lemmas.Bool.{eqb-true, eqb-false, cases_lt}
-use Rattle.control_net.specs.RingNet.Ring.{slot, lap, IsNear, AreApart}
-use Rattle.control_net.proofs.RingNet.Cases.{by_test}
+use Rattle.block_core.proofs.list_laws_laws.BoolLaws.{by_test}
+use Rattle.control_net.specs.RingNet.Ring.{slot, lap, IsNear, AreDistinct}
 
 pub slot_small : (n k : ℕ) → 0 < n → slot n k < n
 slot_small n zero h = h
@@ -93,7 +93,7 @@ slots_apart n a b h k e =
       | inr r ↦ let x = f.far r in omega (arith, x.0)
     ]
 
-pub apart : AreApart
+pub apart : AreDistinct
 apart = record {
   small = slot_small;
   equal = λ n a b h. (

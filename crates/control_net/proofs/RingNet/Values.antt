@@ -1,27 +1,16 @@
 -- What the nets of slots and laps tell.
-use Rattle.std.specs.Prelude.{◌≡◌, ◌≢◌, ℕ, suc, ◌+◌, ◌-◌, ◌^◌, ◌<◌, ◌≤◌, ◌==◌, nat_lt, cond, Bool, true, false, ◌&&◌, ◌||◌}
+use Rattle.std.specs.Prelude.{◌≡◌, ◌≢◌, ℕ, suc, ◌+◌, ◌-◌, ◌^◌, ◌<◌, ◌≤◌, ◌==◌, nat_lt, cond, Bool, true, false}
 use Rattle.std.proofs.Common.{not, refl, sym, ap, ◌∙◌, arith, inl, inr}
 use Rattle.std.proofs.lemmas.Bool.{eqb-true, eqb-false, eq-eqb, ne_eqb, lt-ltb, le-ltb, cases_eq}
 use Rattle.std.proofs.Math.Nat.{mod-eq_of_lt}
+use Rattle.block_core.proofs.list_laws_laws.BoolLaws.{by_test}
 use Rattle.net_core.specs.declared.tree.Word.{Word}
-use Rattle.net_core.specs.declared.tree.Op.TheVariants.{Add, And, Or, Equal, NotEqual}
+use Rattle.net_core.specs.declared.tree.Op.TheVariants.{Add, Or, Equal, NotEqual}
 use Rattle.net_core.specs.declared.tree.UnaryOp.TheVariants.{Not}
 use Rattle.net_core.specs.Value.{word, bit, apply, apply_unary, conditional}
+use Rattle.net_core.proofs.BitLaws.{not_bit}
 use Rattle.control_net.specs.RingNet.Ring.{slot, lap, IsNear}
-use Rattle.control_net.proofs.RingNet.Cases.{by_test}
 use Rattle.control_net.proofs.RingNet.RingLaws.{slot_small, same_slot, around}
-
-pub or_bits : (a b : Bool) → apply Or (bit a) (bit b) ≡ bit (a || b)
-or_bits true true = refl
-or_bits true false = refl
-or_bits false true = refl
-or_bits false false = refl
-
-pub and_bits : (a b : Bool) → apply And (bit a) (bit b) ≡ bit (a && b)
-and_bits true true = refl
-and_bits true false = refl
-and_bits false true = refl
-and_bits false false = refl
 
 -- ---- two numbers, by the slots that are the same or not, and the laps
 differ_bits : (x k l r : Bool) → (x ≡ true → l ≡ k → r ≡ false) → (x ≡ true → l ≡ not k → r ≡ true) → (x ≡ false → r ≡ true) → apply Or (bit (cond x false true)) (apply NotEqual (bit l) (bit k)) ≡ bit r
@@ -77,10 +66,6 @@ at_last n s h = elim (cases_eq (s + 1) n) [
   | inl e ↦ eq-eqb s (n - 1) (omega arith) ∙ sym (eq-eqb (s + 1) n e)
   | inr o ↦ let o' : s + 1 ≢ n = o in ne_eqb s (n - 1) (λ e. o (omega arith)) ∙ sym (ne_eqb (s + 1) n o)
 ]
-
-pub not_bit : (b : Bool) → apply_unary Not (bit b) ≡ bit (not b)
-not_bit true = refl
-not_bit false = refl
 
 module _ (n w k : ℕ) (h : 0 < n) where
   pub next_lap : conditional (bit (slot n k == n - 1)) (apply_unary Not (bit (lap n k))) (bit (lap n k)) ≡ bit (lap n (suc k))

@@ -6,8 +6,6 @@ use Rattle.control_net.specs.declared.ring_net.names.Counter.{Counter}
 use Rattle.control_net.specs.declared.ring_net.names.Counter.TheVariants.{Given, Answered, Injected, Gathered}
 use Rattle.control_net.specs.declared.ring_net.names.Register.{Register}
 use Rattle.control_net.specs.declared.ring_net.names.Register.TheVariants.{Lap, Slot, Passed, Holds}
-use Rattle.control_net.specs.declared.ring_net.names.Wire.{Wire}
-use Rattle.control_net.specs.declared.ring_net.names.Wire.TheVariants.{Ready, Over, Ends, Injects, Exits, Shown, Taken, Gone}
 
 abbrev pub counter_number : Counter → ℕ
 counter_number Given = 0
@@ -21,18 +19,5 @@ register_number (Slot c) = 2 * counter_number c + 1
 register_number Passed = 8
 register_number (Holds k) = 9 + k
 
-abbrev pub wire_number : Wire → ℕ
-wire_number Ready = 0
-wire_number Over = 1
-wire_number Ends = 2
-wire_number Injects = 3
-wire_number Exits = 4
-wire_number Shown = 5
-wire_number Taken = 6
-wire_number Gone = 7
-
 abbrev pub register_name : {P : Type 0} → P → Register → Name P
 register_name p r = name.Register p (register_number r)
-
-abbrev pub wire_name : {P : Type 0} → P → Wire → Name P
-wire_name p w = name.Wire p (wire_number w)

@@ -20,7 +20,7 @@ pub record IsNear (n a b : ℕ) : Type 0 where
 
 -- Slot and lap tell numbers apart that are near each other: they are the same exactly where the numbers are, and the slots are the
 -- same and the laps differ exactly where a whole ring lies between. Frames that are less than a ring apart stand in different slots.
-pub record AreApart : Type 0 where
+pub record AreDistinct : Type 0 where
   pub small : (n k : ℕ) → 0 < n → slot n k < n
   pub equal : (n a b : ℕ) → IsNear n a b → ((slot n a ≡ slot n b) × (lap n a ≡ lap n b)) ↔ (a ≡ b)
   pub full : (n a b : ℕ) → IsNear n a b → ((slot n a ≡ slot n b) × (lap n a ≢ lap n b)) ↔ (a + n ≡ b)

@@ -1,4 +1,4 @@
-//! The nets of control, and those that it reads of other parts.
+//! The counters of frames, and the registers of control.
 
 ghost use Rattle.std.specs.Prelude.{◌≡◌, ◌<◌, ◌^◌};
 ghost use Rattle.control_net.specs.RingNet.Names as names;
@@ -29,36 +29,6 @@ pub enum Register {
     Passed,
     /// Whether a place holds a packet.
     Holds(u32),
-}
-
-/// The wires of control, each of one bit.
-#[derive(Clone, Copy, PartialEq, Eq, Debug)]
-pub enum Wire {
-    /// A beat may come.
-    Ready,
-    /// A beat goes over inwards.
-    Over,
-    /// The last beat of a frame goes over inwards.
-    Ends,
-    /// A frame's packet enters place 0.
-    Injects,
-    /// A packet leaves the last place.
-    Exits,
-    /// A beat of an answer is shown.
-    Shown,
-    /// A beat goes over outwards.
-    Taken,
-    /// The last beat of an answer goes over outwards.
-    Gone,
-}
-
-/// The nets of other parts that control reads, each of one bit.
-#[derive(Clone, Copy, PartialEq, Eq, Debug)]
-pub struct ControlNets<P> {
-    /// Whether some beats of a frame have come, but not its last one.
-    pub partial: Name<P>,
-    /// Whether the beat that is shown is the last one of its answer.
-    pub last: Name<P>,
 }
 
 /// The number of a counter.
@@ -92,21 +62,4 @@ pub fn register_name<P: Copy>(part: P, register: Register) -> Name<P>
     ensures { result ≡ names.register_name part register }
 {
     Name::Register(part, register_number(register))
-}
-
-/// The name of a wire, where the part is control.
-pub fn wire_name<P: Copy>(part: P, wire: Wire) -> Name<P>
-    ensures { result ≡ names.wire_name part wire }
-{
-    let number = match wire {
-        Wire::Ready => 0,
-        Wire::Over => 1,
-        Wire::Ends => 2,
-        Wire::Injects => 3,
-        Wire::Exits => 4,
-        Wire::Shown => 5,
-        Wire::Taken => 6,
-        Wire::Gone => 7,
-    };
-    Name::Wire(part, number)
 }

@@ -1,4 +1,4 @@
-//! What is asked behind the items of a design: its names, the ports that every design has, an assign for each output.
+//! What is asked after the items of a design: its names, the ports that every design has, an assign for each output.
 
 ghost use Rattle.std.specs.Prelude.{◌≡◌, ◌+◌, ◌==◌, ◌<◌, [], true, if◌then◌else◌, length, map, take, string_bytes};
 ghost use Rattle.std.proofs.Common.{get_or};
@@ -125,7 +125,7 @@ fn port_names_match(design: &Design) -> bool
     names_match(&names[..PORT_COUNT])
 }
 
-/// The first rule that is broken behind the items.
+/// The first rule that is broken after the items.
 pub fn broken_behind(design: &Design) -> Option<Why>
     ensures { result ≡ first_broken (formed.last_rules (netlist_of design.now)) }
 {

@@ -67,7 +67,7 @@ fn always_fault(design: &Design) -> Option<NetError>
     None
 }
 
-/// What is wrong behind the items, at their number.
+/// What is wrong after the items, at their number.
 fn last_fault(design: &Design) -> Option<NetError>
     ensures { result ≡ fault_at (formed.items_of (netlist_of design.now)) (first_broken (formed.last_rules (netlist_of design.now))) }
 {

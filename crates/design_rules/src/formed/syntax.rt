@@ -140,7 +140,7 @@ fn stmts_nest(stmts: &Stmts<Net>, most: u8) -> bool
     true
 }
 
-/// Whether a statement ends with an `if` that would take an `else` behind it.
+/// Whether a statement ends with an `if` that would take an `else` after it.
 fn ends_open(stmt: &Stmt<Net>) -> bool
     ensures { result ≡ syntax.ends_open (statement_of stmt.now) }
 {

@@ -1,4 +1,4 @@
--- Between nodes, behind a node: what its edges and ends are to do where the run stands there, and nothing where it does not.
+-- Between nodes, after a node: what its edges and ends are to do where the run stands there, and nothing where it does not.
 use Rattle.std.proofs.Common.{◌≡◌, ◌≢◌, ℕ, ◌+◌, ◌<◌, ◌≤◌, ◌==◌, Bool, true, false, if◌then◌else◌, List, ◌++◌, length, get_or, refl, ◌∙◌, ap, subst, arith}
 use Rattle.std.specs.Prelude.{All, slice_index}
 use Rattle.std.proofs.lemmas.Bool.Decides.{nat_tests}
@@ -10,11 +10,11 @@ use Rattle.xdp_machine.specs.Step.{step}
 use Rattle.kind_core.specs.declared.kind.Kinds.{Kinds}
 use Rattle.cell_core.specs.Cells.{CellView, on, bit}
 use Rattle.cell_core.specs.Sites.{SiteView, after}
-use Rattle.operator_cells.specs.declared.held_cells.held.Held.{Held}
+use Rattle.operator_cells.specs.declared.held_cells.machine_cells.RegisterCells.{RegisterCells}
 use Rattle.operator_cells.specs.declared.held_cells.way.Way.{Way}
 use Rattle.operator_cells.specs.declared.held_cells.way.Exit.{Exit}
 use Rattle.operator_cells.specs.HeldCells.Paths.{GraphView, Stage, At, Over, Nowhere, stepped, visit, maps_in}
-use Rattle.operator_cells.specs.HeldCells.Held.{PointerView, AreInside}
+use Rattle.operator_cells.specs.HeldCells.RegisterCells.{PointerView, AreInside}
 use Rattle.operator_cells.specs.HeldCells.Carrying.{IsKnown}
 use Rattle.operator_cells.specs.HeldCells.Steps.{Leads, Closes, IsGood, IsHere, AreMade}
 use Rattle.edge_cells.specs.Meeting.{Extends}
@@ -22,7 +22,7 @@ use Rattle.edge_cells.proofs.ExtendingLaws.{holds_later}
 use Rattle.edge_cells.proofs.NodeCells.Following.{after_off}
 
 -- what is known of a machine is known among more pointers
-pub known_more : (decls : List MapDecl) (packet : PacketIn) (n : ℕ) (v : ℕ → ℕ) (ps qs : List PointerView) (node : ℕ) (k : Kinds) (h : Held) (m : Machine) → Extends ps qs → AreInside decls n ps h k
+pub known_more : (decls : List MapDecl) (packet : PacketIn) (n : ℕ) (v : ℕ → ℕ) (ps qs : List PointerView) (node : ℕ) (k : Kinds) (h : RegisterCells) (m : Machine) → Extends ps qs → AreInside decls n ps h k
     → IsKnown decls packet v ps node k h m → IsKnown decls packet v qs node k h m
 known_more decls packet n v ps qs node k h m more inside known = record {
   world = known.world;
@@ -86,12 +86,12 @@ good_stepped g packet v ps qs k ways more exits more_exits m t old new = record 
 }
 
 -- what is asked of what a node adds, in one run of its cells
-pub record IsTurn (g : GraphView) (packet : PacketIn) (maps : MapState) (v : ℕ → ℕ) (ps qs : List PointerView) (k guard : ℕ) (h : Held) (sites more_sites : List SiteView) (more : List Way) (more_exits : List Exit) (s : Stage) : Type 0 where
+pub record IsTurn (g : GraphView) (packet : PacketIn) (maps : MapState) (v : ℕ → ℕ) (ps qs : List PointerView) (k guard : ℕ) (h : RegisterCells) (sites more_sites : List SiteView) (more : List Way) (more_exits : List Exit) (s : Stage) : Type 0 where
   pub offs : v guard ≡ 0 → AreOff v more more_exits
   pub goes : (m : Machine) → s ≡ At k m → v guard ≡ 1 → IsGood g packet v qs (k + 1) more more_exits (stepped g k m (step g.code m))
       × (after v maps (sites ++ more_sites) ≡ maps_in maps (stepped g k m (step g.code m)))
 
-pub good_behind : (g : GraphView) (packet : PacketIn) (maps : MapState) (v : ℕ → ℕ) (ps qs : List PointerView) (k guard : ℕ) (h : Held) (cells : List CellView) (sites more_sites : List SiteView) (ways more : List Way) (exits more_exits : List Exit) (s : Stage)
+pub good_behind : (g : GraphView) (packet : PacketIn) (maps : MapState) (v : ℕ → ℕ) (ps qs : List PointerView) (k guard : ℕ) (h : RegisterCells) (cells : List CellView) (sites more_sites : List SiteView) (ways more : List Way) (exits more_exits : List Exit) (s : Stage)
     → Extends ps qs → AreMade g cells ps ways exits → All (λ r. (r.node ≡ k) × (r.guard ≡ guard)) more_sites → after v maps sites ≡ maps_in maps s → IsHere g packet v ps k guard h s
     → IsTurn g packet maps v ps qs k guard h sites more_sites more more_exits s → IsGood g packet v ps k ways exits s
     → IsGood g packet v qs (k + 1) (ways ++ more) (exits ++ more_exits) (visit g k s) × (after v maps (sites ++ more_sites) ≡ maps_in maps (visit g k s))

@@ -11,7 +11,7 @@ use Rattle.kind_core.specs.Soundness.{target}
 use Rattle.cell_core.specs.Cells.{on}
 use Rattle.operator_cells.specs.declared.held_cells.way.Way.{Way}
 use Rattle.operator_cells.specs.HeldCells.Paths.{GraphView, Stage, At, Over, Nowhere, node_at, stepped}
-use Rattle.operator_cells.specs.HeldCells.Held.{PointerView}
+use Rattle.operator_cells.specs.HeldCells.RegisterCells.{PointerView}
 use Rattle.operator_cells.specs.HeldCells.Carrying.{IsKnown}
 use Rattle.operator_cells.specs.HeldCells.Steps.{Closes, IsGood}
 use Rattle.edge_cells.specs.NodeCells.Ends.{IsNode, IsEdge}

@@ -28,10 +28,10 @@ use Rattle.kind_core.specs.Soundness.{StepsAreSound, GoesOn}
 use Rattle.cell_core.specs.Cells.{CellView, on}
 use Rattle.cell_core.specs.Sites.{SiteView, after}
 use Rattle.operator_cells.proofs.MakingLaws.{grown_none, reads_none}
-use Rattle.operator_cells.specs.declared.held_cells.held.Held.{Held}
+use Rattle.operator_cells.specs.declared.held_cells.machine_cells.RegisterCells.{RegisterCells}
 use Rattle.operator_cells.specs.declared.held_cells.way.Exit.{Exit as End}
 use Rattle.operator_cells.specs.HeldCells.Paths.{GraphView, Stage, At, Over, Nowhere, node_at, stepped, maps_in}
-use Rattle.operator_cells.specs.HeldCells.Held.{PointerView, Counts, AreInside, IsThere}
+use Rattle.operator_cells.specs.HeldCells.RegisterCells.{PointerView, Counts, AreInside, IsThere}
 use Rattle.operator_cells.specs.HeldCells.Carrying.{IsKnown}
 use Rattle.operator_cells.specs.HeldCells.Steps.{ReadsOwn, Closes, IsGood}
 use Rattle.edge_cells.specs.Meeting as kind
@@ -71,7 +71,7 @@ there_of decls n ps Unknown c h = h
 abbrev IsEnding : GraphView → Machine → Type 0
 IsEnding g m = (verdict : ℕ) × (step g.code m ≡ Ends verdict) × (exits (number_in (register m.registers 0)) ≡ Ends verdict)
 
-ending : StepsAreSound → (g : GraphView) (packet : PacketIn) (v : ℕ → ℕ) (ps : List PointerView) (k : ℕ) (i : Insn) (ks : Kinds) (h : Held) (m : Machine) → i.op ≡ Exit → IsNode g k i ks
+ending : StepsAreSound → (g : GraphView) (packet : PacketIn) (v : ℕ → ℕ) (ps : List PointerView) (k : ℕ) (i : Insn) (ks : Kinds) (h : RegisterCells) (m : Machine) → i.op ≡ Exit → IsNode g k i ks
     → IsKnown g.decls packet v ps k ks h m → m.place ≡ (node_at g.nodes k).place → IsEnding g m
 ending sound g packet v ps k i ks h m op is known place =
     let ends = subst (λ (o : Op). GoesOn g.code known.world ks m i o) op
@@ -79,12 +79,12 @@ ending sound g packet v ps k i ks h m op is known place =
     (ends.0, ends.1, sym (step_is g k i ks m is place ∙ ap (outcome g.code m i) op) ∙ ends.1)
 
 -- what is asked of the end of a node
-pub record IsEndOf (x : End) (guard : ℕ) (ks : Kinds) (h : Held) : Type 0 where
+pub record IsEndOf (x : End) (guard : ℕ) (ks : Kinds) (h : RegisterCells) : Type 0 where
   pub guard_is : x.guard ≡ guard
   pub verdict_is : x.verdict ≡ kind.number_in (kinds.register ks 0)
   pub held_is : x.held ≡ h
 
-pub end_added : StepsAreSound → EndsAreLeft → (g : GraphView) (i : Insn) (k guard : ℕ) (ks : Kinds) (h : Held) (cells : List CellView) (ps : List PointerView) (sites : List SiteView) (x : End)
+pub end_added : StepsAreSound → EndsAreLeft → (g : GraphView) (i : Insn) (k guard : ℕ) (ks : Kinds) (h : RegisterCells) (cells : List CellView) (ps : List PointerView) (sites : List SiteView) (x : End)
     → i.op ≡ Exit → IsNode g k i ks → IsEndOf x guard ks h → guard < length cells → AreInside g.decls (length cells) ps h ks → IsAdded g i k guard ks h cells cells ps ps sites [] [] (x ∷ [])
 end_added sound left g i k guard ks h cells ps sites x op is has there inside = record {
   grows = reads_none (ReadsOwn sites (sites ++ [])) cells cells grown_none;
@@ -96,12 +96,12 @@ end_added sound left g i k guard ks h cells ps sites x op is has there inside = 
     each_way = All-nil _;
     each_exit = All-cons (ExitMade cells) x [] (
       subst (λ (n : ℕ). n < length cells) (sym has.guard_is) there,
-      subst (λ (j : Held). j.target < length cells) (sym has.held_is) inside.target,
+      subst (λ (j : RegisterCells). j.target < length cells) (sym has.held_is) inside.target,
       subst (λ (n : Number). IsThere (length cells) n (slice_index x.held.registers 0)) (sym has.verdict_is)
-          (subst (λ (j : Held). IsThere (length cells) (kind.number_in (kinds.register ks 0)) (slice_index j.registers 0)) (sym has.held_is)
+          (subst (λ (j : RegisterCells). IsThere (length cells) (kind.number_in (kinds.register ks 0)) (slice_index j.registers 0)) (sym has.held_is)
           (there_of g.decls (length cells) ps (kind.number_in (kinds.register ks 0)) (slice_index h.registers 0)
           (subst (λ (a : Kind). Counts g.decls (length cells) ps a (slice_index h.registers 0)) number (inside.registers 0 (omega arith))))),
-      subst (λ (j : Held). (i : ℕ) → i < 256 → slice_index j.window i < length cells) (sym has.held_is) inside.window,
+      subst (λ (j : RegisterCells). (i : ℕ) → i < 256 → slice_index j.window i < length cells) (sym has.held_is) inside.window,
     ) (All-nil (ExitMade cells));
   };
   offs = λ packet v run zero. record { edges = All-nil _; ends = All-cons (λ (y : End). v y.guard ≡ 0) x [] (ap v has.guard_is ∙ zero) (All-nil (λ (y : End). v y.guard ≡ 0)) };
@@ -126,7 +126,7 @@ end_added sound left g i k guard ks h cells ps sites x op is has there inside = 
       each = All-nil _;
       some = λ n b is. let bad : Over (leaves code m) ≡ At n b = sym at ∙ is in absurd (cc bad);
       ends = All-cons (Closes packet v t) x [] (λ is_on.
-          (leaves code m, at, left g.decls packet v ps k ks x m code (subst (λ (j : Held). IsKnown g.decls packet v ps k ks j m) (sym has.held_is) known) (number ∙ ap Num (sym has.verdict_is)) ends)) (All-nil _);
+          (leaves code m, at, left g.decls packet v ps k ks x m code (subst (λ (j : RegisterCells). IsKnown g.decls packet v ps k ks j m) (sym has.held_is) known) (number ∙ ap Num (sym has.verdict_is)) ends)) (All-nil _);
       ended = λ e is. (x, (0, omega arith, refl), ap on (ap v has.guard_is ∙ one));
       somewhere = λ is. let bad : Over (leaves code m) ≡ Nowhere = sym at ∙ is in absurd (cc bad);
     }

@@ -14,7 +14,7 @@ use Rattle.kind_core.specs.declared.number.Number.{Number}
 use Rattle.kind_core.specs.declared.kind.Kind.{Kind}
 use Rattle.kind_core.specs.declared.kind.Kind.TheVariants.{Unset, Num, Packet, End, Stack, Ctx, MapRef, Maybe, Entry, Stale, Mixed}
 use Rattle.kind_core.specs.declared.kind.Kinds.{Kinds}
-use Rattle.kind_core.specs.declared.why.Why.{Why}
+use Rattle.xdp_state.specs.declared.refusal.Why.{Why}
 use Rattle.kind_core.specs.Kinds.{register, value_bytes, is_hash}
 use Rattle.kind_core.specs.Tests.{◌>>=◌, Test, readable, read_if, within, aligned, number_in}
 use Rattle.kind_core.specs.Access.{loaded_plain, loaded_signed, stored, stored_at, to_slot, underlying, changed_at, comparand, compares}
@@ -41,7 +41,7 @@ record Fills (j : Kinds) : Type 0 where
 kept : {k : Kinds} → AreFilled k → Fills k
 kept h = record { each = h }
 
--- the kinds behind what a test finds
+-- the kinds after what a test finds
 bind_fills : {A : Type 0} (node : ℕ) (is_ref : Bool) (k : Kinds) (r : Result A Why) (f : A → _) → AreFilled k → ((a : A) → r ≡ Ok a → Fills (changed_if node is_ref false k (f a))) → Fills (changed_if node is_ref false k (r >>= f))
 bind_fills node is_ref k (Ok a) f h all = all a refl
 bind_fills node is_ref k (Err w) f h all = kept h

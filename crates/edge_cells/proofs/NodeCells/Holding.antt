@@ -23,9 +23,9 @@ use Rattle.kind_core.specs.Kinds.{register}
 use Rattle.kind_core.specs.Effects.{operand}
 use Rattle.kind_core.specs.Edges.{agrees, decided, transferred}
 use Rattle.cell_core.specs.Cells.{CellView, IsRun, on, bit}
-use Rattle.operator_cells.specs.declared.held_cells.held.Held.{Held}
+use Rattle.operator_cells.specs.declared.held_cells.machine_cells.RegisterCells.{RegisterCells}
 use Rattle.operator_cells.specs.declared.held_cells.way.Way.{Way}
-use Rattle.operator_cells.specs.HeldCells.Held.{PointerView, pointer_at, key_of, entry_or_null}
+use Rattle.operator_cells.specs.HeldCells.RegisterCells.{PointerView, pointer_at, key_of, entry_or_null}
 use Rattle.operator_cells.specs.HeldCells.Rows.{kind_at, number_at}
 use Rattle.operator_cells.specs.HeldCells.Pointing.{Pointing, pointing_as, pointing_at, HoldsPointer, AnswerAlike, WasHeld, CameAlong, EdgesPoint, LeavePoints}
 use Rattle.edge_cells.specs.Testing.{is_equality, null_holds, Tests}
@@ -44,17 +44,17 @@ along_held a b c x (entry q n p) e =
     inr (n, p, ap (λ (z : Pointing). Some (record { map = z.map; node = Some n; pointer = z.pointer })) one, ap (λ (z : Pointing). z.node) (sym one))
 
 -- what the lookups of these nodes answered was found
-abbrev AreFound : (ℕ → Type 0) → (ℕ → ℕ) → List PointerView → Kinds → Held → Type 0
+abbrev AreFound : (ℕ → Type 0) → (ℕ → ℕ) → List PointerView → Kinds → RegisterCells → Type 0
 AreFound Enter v ps k h = (n : ℕ) → Enter n → (y : Pointing) → HoldsPointer k h y → y.node ≡ Some n → on (v (pointer_at ps y.pointer).found) ≡ true
 
-was_held : {Enter : ℕ → Type 0} (v : ℕ → ℕ) (ps : List PointerView) (k j : Kinds) (h : Held) → IsEdge Enter k j → AreFound Enter v ps k h → (x : Pointing) → HoldsPointer j h x → WasHeld v ps k h x
+was_held : {Enter : ℕ → Type 0} (v : ℕ → ℕ) (ps : List PointerView) (k j : Kinds) (h : RegisterCells) → IsEdge Enter k j → AreFound Enter v ps k h → (x : Pointing) → HoldsPointer j h x → WasHeld v ps k h x
 was_held {Enter} v ps k j h e found x holds = by (along_held (kind_at k holds.0) (kind_at j holds.0) (number_at h holds.0) x (along_at k j holds.0 e) holds.1)
   where
     by : (pointing_at k h holds.0 ≡ Some x) ⊎ ((n : ℕ) × Enter n × (pointing_at k h holds.0 ≡ Some (record { map = x.map; node = Some n; pointer = x.pointer })) × (x.node ≡ None)) → WasHeld v ps k h x
     by (inl is) = inl (holds.0, is)
     by (inr was) = inr (was.0, (holds.0, was.2), was.3, found was.0 was.1 (record { map = x.map; node = Some was.0; pointer = x.pointer }) (holds.0, was.2) refl)
 
-came_along : {Enter : ℕ → Type 0} (k j : Kinds) (h : Held) → IsEdge Enter k j → (x : Pointing) → HoldsPointer j h x → CameAlong k h x
+came_along : {Enter : ℕ → Type 0} (k j : Kinds) (h : RegisterCells) → IsEdge Enter k j → (x : Pointing) → HoldsPointer j h x → CameAlong k h x
 came_along {Enter} k j h e x holds = by (along_held (kind_at k holds.0) (kind_at j holds.0) (number_at h holds.0) x (along_at k j holds.0 e) holds.1)
   where
     by : (pointing_at k h holds.0 ≡ Some x) ⊎ ((n : ℕ) × Enter n × (pointing_at k h holds.0 ≡ Some (record { map = x.map; node = Some n; pointer = x.pointer })) × (x.node ≡ None)) → CameAlong k h x
@@ -93,15 +93,15 @@ right_found {ps} {c} {r} {m} {p} {q} {condition = condition} packet v taken test
     null_found c taken found (v condition) e f
     (tests.value [] packet v (is.Number 0) (entry_or_null [] v r (pointer_at ps q)) (null_holds c found) run refl refl (null_compared c found r (key_of [] v r (pointer_at ps q)) e).1) h
 
-register_held : (k : Kinds) (h : Held) (r q n : ℕ) → r ≤ 10 → register k r ≡ Maybe q n → HoldsPointer k h (record { map = q; node = Some n; pointer = slice_index h.registers r })
+register_held : (k : Kinds) (h : RegisterCells) (r q n : ℕ) → r ≤ 10 → register k r ≡ Maybe q n → HoldsPointer k h (record { map = q; node = Some n; pointer = slice_index h.registers r })
 register_held k h r q n l e = (r, rw (lt-ltb r 11 (omega (arith, l))) (ap (λ (a : Kind). pointing_as a (slice_index h.registers r)) e))
 
-operand_is_held : (k : Kinds) (h : Held) (i : Insn) (s : Src) (q n : ℕ) → i.src ≤ 10 → operand k i s ≡ Maybe q n → HoldsPointer k h (record { map = q; node = Some n; pointer = operand_held h i s })
+operand_is_held : (k : Kinds) (h : RegisterCells) (i : Insn) (s : Src) (q n : ℕ) → i.src ≤ 10 → operand k i s ≡ Maybe q n → HoldsPointer k h (record { map = q; node = Some n; pointer = operand_held h i s })
 operand_is_held k h i K q n l e = absurd (cc)
 operand_is_held k h i X q n l e = register_held k h i.src q n l e
 
 -- where the condition goes along the edge
-answers_found : (ps : List PointerView) (k : Kinds) (h : Held) (i : Insn) (w : Width) (c : JumpCode) (s : Src) (old new : List CellView) (condition : ℕ) (packet : PacketIn) (v : ℕ → ℕ) (taken : Bool) → i.dst ≤ 10 → i.src ≤ 10
+answers_found : (ps : List PointerView) (k : Kinds) (h : RegisterCells) (i : Insn) (w : Width) (c : JumpCode) (s : Src) (old new : List CellView) (condition : ℕ) (packet : PacketIn) (v : ℕ → ℕ) (taken : Bool) → i.dst ≤ 10 → i.src ≤ 10
     → TestsJump ps k h i w c s old new condition → IsRun packet new v → agrees taken (on (v condition)) ≡ true → AnswerAlike v ps k h → AreFound (Enters taken w c (register k i.dst) (operand k i s)) v ps k h
 answers_found ps k h i w c s old new condition packet v taken dst src tests run goes_on alike n enters y holds is_n = by enters.sides
   where
@@ -119,14 +119,14 @@ answers_found ps k h i w c s old new condition packet v taken dst src tests run 
 -- ---- edges
 
 -- An edge has a bit; where it is on so is the guard, the edge leads there, and what it holds was held.
-record PointsTo (v : ℕ → ℕ) (ps : List PointerView) (k : Kinds) (h : Held) (guard to : ℕ) (e : Way) : Type 0 where
+record PointsTo (v : ℕ → ℕ) (ps : List PointerView) (k : Kinds) (h : RegisterCells) (guard to : ℕ) (e : Way) : Type 0 where
   bits : v e.bit < 2
   guarded : on (v e.bit) ≡ true → on (v guard) ≡ true
   leads : on (v e.bit) ≡ true → e.to ≡ to
   held : AnswerAlike v ps k h → on (v e.bit) ≡ true → (x : Pointing) → HoldsPointer e.kinds e.held x → WasHeld v ps k h x
   along : (x : Pointing) → HoldsPointer e.kinds e.held x → CameAlong k h x
 
-edges_point : {v : ℕ → ℕ} {ps : List PointerView} {k : Kinds} {h : Held} {guard to : ℕ} {more : List Way} → All (PointsTo v ps k h guard to) more → EdgesPoint v ps k h guard more
+edges_point : {v : ℕ → ℕ} {ps : List PointerView} {k : Kinds} {h : RegisterCells} {guard to : ℕ} {more : List Way} → All (PointsTo v ps k h guard to) more → EdgesPoint v ps k h guard more
 edges_point {v} {ps} {k} {h} {guard} {to} {more} all = record {
   bits = λ i d l. (all i d l).bits;
   guarded = λ i d l. (all i d l).guarded;
@@ -140,7 +140,7 @@ bit_of true true e = (omega (arith, e), λ is_on. (refl, refl))
 bit_of true false e = (omega (arith, e), λ is_on. let off : on _ ≡ false = ap on e in absurd (cc))
 bit_of false b e = (omega (arith, e), λ is_on. let off : on _ ≡ false = ap on e in absurd (cc))
 
-branch_points : {decls : List MapDecl} {old new : List CellView} {node : ℕ} {k : Kinds} {h : Held} {guard : ℕ} {i : Insn} {condition : Option ℕ} {taken : Bool} {to : ℕ} {e : Way}
+branch_points : {decls : List MapDecl} {old new : List CellView} {node : ℕ} {k : Kinds} {h : RegisterCells} {guard : ℕ} {i : Insn} {condition : Option ℕ} {taken : Bool} {to : ℕ} {e : Way}
     (ps : List PointerView) (packet : PacketIn) (v : ℕ → ℕ) (there : ℕ)
     → IsBranch decls old new node k h guard i condition taken to e → IsRun packet new v → v guard < 2 → IsBit v condition → (goes v condition taken ≡ true → to ≡ there)
     → (AnswerAlike v ps k h → goes v condition taken ≡ true → (x : Pointing) → HoldsPointer (transferred decls k i node false taken) h x → WasHeld v ps k h x)
@@ -156,10 +156,10 @@ branch_points {decls} {node = node} {k = k} {h = h} {guard = guard} {i = i} {con
     }
   where
     edge : (x : Pointing) → HoldsPointer e.kinds e.held x → HoldsPointer (transferred decls k i node false taken) h x
-    edge x holds = subst (λ (j : Kinds). HoldsPointer j h x) branch.kinds_are (subst (λ (g : Held). HoldsPointer e.kinds g x) branch.held_is holds)
+    edge x holds = subst (λ (j : Kinds). HoldsPointer j h x) branch.kinds_are (subst (λ (g : RegisterCells). HoldsPointer e.kinds g x) branch.held_is holds)
 
 -- one edge, on which all was held
-one_points : {decls : List MapDecl} {old new : List CellView} {node : ℕ} {k : Kinds} {h : Held} {guard : ℕ} {i : Insn} {taken : Bool} {to : ℕ} {ways2 : List Way} {e : Way} (ps : List PointerView) (ways : List Way)
+one_points : {decls : List MapDecl} {old new : List CellView} {node : ℕ} {k : Kinds} {h : RegisterCells} {guard : ℕ} {i : Insn} {taken : Bool} {to : ℕ} {ways2 : List Way} {e : Way} (ps : List PointerView) (ways : List Way)
     → IsBranch decls old new node k h guard i None taken to e → ways2 ≡ ways ++ e ∷ [] → ((v : ℕ → ℕ) (x : Pointing) → HoldsPointer (transferred decls k i node false taken) h x → WasHeld v ps k h x)
     → ((x : Pointing) → HoldsPointer (transferred decls k i node false taken) h x → CameAlong k h x) → LeavePoints new ps k h guard ways ways2
 one_points {k = k} {h = h} {guard = guard} {to = to} {e = e} ps ways branch pushed held along = (
@@ -169,14 +169,14 @@ one_points {k = k} {h = h} {guard = guard} {to = to} {e = e} ps ways branch push
       (All-cons (PointsTo v ps k h guard to) e [] (branch_points ps packet v to branch run small tt (λ on. refl) (λ alike on. held v) along) (All-nil (PointsTo v ps k h guard to))),
 )
 
-pub decided_points : {decls : List MapDecl} {old new : List CellView} {node : ℕ} {k : Kinds} {h : Held} {guard : ℕ} {i : Insn} {w : Width} {c : JumpCode} {s : Src} {taken : Bool} {to : ℕ}
+pub decided_points : {decls : List MapDecl} {old new : List CellView} {node : ℕ} {k : Kinds} {h : RegisterCells} {guard : ℕ} {i : Insn} {w : Width} {c : JumpCode} {s : Src} {taken : Bool} {to : ℕ}
     {ways2 : List Way} {e : Way} (ps : List PointerView) (ways : List Way)
     → i.op ≡ Jump w c s → decided k i ≡ Some taken → IsBranch decls old new node k h guard i None taken to e → ways2 ≡ ways ++ e ∷ [] → LeavePoints new ps k h guard ways ways2
 decided_points {decls} {node = node} {k = k} {h = h} {i = i} {w = w} {c = c} {s = s} {taken = taken} ps ways op is branch pushed =
     one_points ps ways branch pushed (λ v. was_held v ps k (transferred decls k i node false taken) h (edge_of decls k i node w c s taken op) (λ n enters. absurd (none_enters k i w c s taken taken n op is enters)))
     (came_along k (transferred decls k i node false taken) h (edge_of decls k i node w c s taken op))
 
-pub always_points : {decls : List MapDecl} {old new : List CellView} {node : ℕ} {k : Kinds} {h : Held} {guard : ℕ} {i : Insn} {w : Width} {to : ℕ} {ways2 : List Way} {e : Way} (ps : List PointerView) (ways : List Way)
+pub always_points : {decls : List MapDecl} {old new : List CellView} {node : ℕ} {k : Kinds} {h : RegisterCells} {guard : ℕ} {i : Insn} {w : Width} {to : ℕ} {ways2 : List Way} {e : Way} (ps : List PointerView) (ways : List Way)
     → i.op ≡ Ja w → IsBranch decls old new node k h guard i None true to e → ways2 ≡ ways ++ e ∷ [] → LeavePoints new ps k h guard ways ways2
 always_points {decls} {node = node} {k = k} {h = h} {i = i} {w = w} ps ways op branch pushed =
     one_points ps ways branch pushed (λ v x holds. inl (held x holds)) (λ x holds. (x.node, held x holds))
@@ -185,7 +185,7 @@ always_points {decls} {node = node} {k = k} {h = h} {i = i} {w = w} ps ways op b
     held x holds = subst (λ (j : Kinds). HoldsPointer j h x) (single_edge decls k i node w true op) holds
 
 -- two edges, by a condition
-pub both_points : {decls : List MapDecl} {old mid mid2 new : List CellView} {node : ℕ} {k : Kinds} {h : Held} {guard : ℕ} {i : Insn} {w : Width} {code : JumpCode} {s : Src} {next jump c : ℕ}
+pub both_points : {decls : List MapDecl} {old mid mid2 new : List CellView} {node : ℕ} {k : Kinds} {h : RegisterCells} {guard : ℕ} {i : Insn} {w : Width} {code : JumpCode} {s : Src} {next jump c : ℕ}
     {ways2 : List Way} {e f : Way} (ps : List PointerView) (ways : List Way)
     → i.op ≡ Jump w code s → i.dst ≤ 10 → i.src ≤ 10 → TestsJump ps k h i w code s old mid c → IsBranch decls mid mid2 node k h guard i (Some c) false next e → IsBranch decls mid2 new node k h guard i (Some c) true jump f
     → ways2 ≡ ways ++ e ∷ f ∷ [] → LeavePoints new ps k h guard ways ways2

@@ -27,10 +27,10 @@ use Rattle.cell_core.specs.Cells.{CellView, IsRun, on, bit}
 use Rattle.cell_core.specs.Sites.{SiteView, after}
 use Rattle.operator_cells.specs.Making.{Grows}
 use Rattle.operator_cells.proofs.MakingLaws.{grown, grown_none, reads_none}
-use Rattle.operator_cells.specs.declared.held_cells.held.Held.{Held}
+use Rattle.operator_cells.specs.declared.held_cells.machine_cells.RegisterCells.{RegisterCells}
 use Rattle.operator_cells.specs.declared.held_cells.way.Way.{Way}
 use Rattle.operator_cells.specs.HeldCells.Paths.{GraphView, At, node_at, stepped, maps_in}
-use Rattle.operator_cells.specs.HeldCells.Held.{PointerView, AreInside}
+use Rattle.operator_cells.specs.HeldCells.RegisterCells.{PointerView, AreInside}
 use Rattle.operator_cells.specs.HeldCells.Carrying.{IsKnown}
 use Rattle.operator_cells.specs.HeldCells.Steps.{ReadsOwn, IsGood, DoAs}
 use Rattle.edge_cells.specs.Leaving.{IsBranch, TestsJump, JumpsAreTested, EdgesAreInside, EdgesAreKnown, SingleEdgesAreKnown}
@@ -51,18 +51,18 @@ pub record Laws : Type 0 where
 -- ---- the step of a jump
 
 -- A machine takes one of the edges, one that is present, and what is known goes along it.
-pub record IsTaken (g : GraphView) (packet : PacketIn) (v : ℕ → ℕ) (ps : List PointerView) (k : ℕ) (i : Insn) (kinds : Kinds) (h : Held) (m : Machine) (taken : Bool) : Type 0 where
+pub record IsTaken (g : GraphView) (packet : PacketIn) (v : ℕ → ℕ) (ps : List PointerView) (k : ℕ) (i : Insn) (kinds : Kinds) (h : RegisterCells) (m : Machine) (taken : Bool) : Type 0 where
   pub goes : step.step g.code m ≡ goes_to g.code.insns (target m.place i i.op taken) m
   pub known : (to place : ℕ) → k ≤ to → IsKnown g.decls packet v ps to (transferred g.decls kinds i k false taken) h (at_place m place)
 
 -- of a conditional jump also by its condition
-pub record IsTested (g : GraphView) (packet : PacketIn) (v : ℕ → ℕ) (ps : List PointerView) (k : ℕ) (i : Insn) (kinds : Kinds) (h : Held) (m : Machine) (w : Width) (c : JumpCode) (s : Src) : Type 0 where
+pub record IsTested (g : GraphView) (packet : PacketIn) (v : ℕ → ℕ) (ps : List PointerView) (k : ℕ) (i : Insn) (kinds : Kinds) (h : RegisterCells) (m : Machine) (w : Width) (c : JumpCode) (s : Src) : Type 0 where
   pub taken : Bool
   pub holds : compared w c (machine.register m.registers i.dst) (step.operand m.registers i s) ≡ Some taken
   pub present : IsPresent kinds i taken
   pub is : IsTaken g packet v ps k i kinds h m taken
 
-pub tested : Laws → (g : GraphView) (packet : PacketIn) (v : ℕ → ℕ) (ps : List PointerView) (k : ℕ) (i : Insn) (kinds : Kinds) (h : Held) (m : Machine) (w : Width) (c : JumpCode) (s : Src)
+pub tested : Laws → (g : GraphView) (packet : PacketIn) (v : ℕ → ℕ) (ps : List PointerView) (k : ℕ) (i : Insn) (kinds : Kinds) (h : RegisterCells) (m : Machine) (w : Width) (c : JumpCode) (s : Src)
     → i.op ≡ Jump w c s → IsNode g k i kinds → IsKnown g.decls packet v ps k kinds h m → m.place ≡ (node_at g.nodes k).place → IsTested g packet v ps k i kinds h m w c s
 tested laws g packet v ps k i kinds h m w c s op is known place =
     by (effect_of m.maps.decls kinds i) (ap (λ (ds : List MapDecl). verdict (effect_of ds kinds i)) known.decls_are ∙ is.allowed) (laws.conditions known.world kinds m i w c s known.stands op)
@@ -81,7 +81,7 @@ tested laws g packet v ps k i kinds h m w c s op is known place =
     }
 
 -- a jump without a condition takes its only edge
-pub always : Laws → (g : GraphView) (packet : PacketIn) (v : ℕ → ℕ) (ps : List PointerView) (k : ℕ) (i : Insn) (kinds : Kinds) (h : Held) (m : Machine) (w : Width)
+pub always : Laws → (g : GraphView) (packet : PacketIn) (v : ℕ → ℕ) (ps : List PointerView) (k : ℕ) (i : Insn) (kinds : Kinds) (h : RegisterCells) (m : Machine) (w : Width)
     → i.op ≡ Ja w → IsNode g k i kinds → IsKnown g.decls packet v ps k kinds h m → m.place ≡ (node_at g.nodes k).place → IsTaken g packet v ps k i kinds h m true
 always laws g packet v ps k i kinds h m w op is known place = record {
   goes = step_is g k i kinds m is place ∙ ap (λ (o : Op). step.outcome g.code m i o) op ∙ leads w ∙ ap (λ (o : Op). goes_to g.code.insns (target m.place i o true) m) (sym op);
@@ -95,7 +95,7 @@ always laws g packet v ps k i kinds h m w op is known place = record {
 -- ---- one edge
 
 -- what is asked of a node with one edge
-pub record HasOne (g : GraphView) (i : Insn) (k guard : ℕ) (kinds : Kinds) (h : Held) (old new : List CellView) (ps : List PointerView) (taken : Bool) (to : ℕ) (e : Way) : Type 0 where
+pub record HasOne (g : GraphView) (i : Insn) (k guard : ℕ) (kinds : Kinds) (h : RegisterCells) (old new : List CellView) (ps : List PointerView) (taken : Bool) (to : ℕ) (e : Way) : Type 0 where
   pub edge : IsEdge g k i taken to
   pub branch : IsBranch g.decls old new k kinds h guard i None taken to e
   pub inside : AreInside g.decls (length old) ps h (transferred g.decls kinds i k false taken)
@@ -103,7 +103,7 @@ pub record HasOne (g : GraphView) (i : Insn) (k guard : ℕ) (kinds : Kinds) (h 
   pub plain : (m : Machine) → operation_as m i i.op ≡ None
 
 -- an edge names cells that are there
-way_inside : (g : GraphView) (i : Insn) (k guard : ℕ) (kinds : Kinds) (h : Held) (old mid mid2 new : List CellView) (ps : List PointerView) (condition : Option ℕ) (taken : Bool) (to : ℕ) (e : Way)
+way_inside : (g : GraphView) (i : Insn) (k guard : ℕ) (kinds : Kinds) (h : RegisterCells) (old mid mid2 new : List CellView) (ps : List PointerView) (condition : Option ℕ) (taken : Bool) (to : ℕ) (e : Way)
     → IsBranch g.decls mid mid2 k kinds h guard i condition taken to e → Grows old mid → Grows mid2 new → AreInside g.decls (length old) ps h (transferred g.decls kinds i k false taken)
     → (e.bit < length new) × AreInside g.decls (length new) ps e.held e.kinds
 way_inside g i k guard kinds h old mid mid2 new ps condition taken to e branch before behind inside = (
@@ -112,13 +112,13 @@ way_inside g i k guard kinds h old mid mid2 new ps condition taken to e branch b
 )
 
 -- an edge that is taken leads there, and what is known goes along it
-way_known : (g : GraphView) (packet : PacketIn) (v : ℕ → ℕ) (i : Insn) (k guard : ℕ) (kinds : Kinds) (h : Held) (old new : List CellView) (ps : List PointerView) (condition : Option ℕ) (taken : Bool) (to place : ℕ) (m : Machine) (e : Way)
+way_known : (g : GraphView) (packet : PacketIn) (v : ℕ → ℕ) (i : Insn) (k guard : ℕ) (kinds : Kinds) (h : RegisterCells) (old new : List CellView) (ps : List PointerView) (condition : Option ℕ) (taken : Bool) (to place : ℕ) (m : Machine) (e : Way)
     → IsBranch g.decls old new k kinds h guard i condition taken to e → k < to → IsTaken g packet v ps k i kinds h m taken
     → (e.to ≡ to) × IsKnown g.decls packet v ps to e.kinds e.held (at_place m place)
 way_known g packet v i k guard kinds h old new ps condition taken to place m e branch up takes =
     (branch.leads, rw (branch.held_is, branch.kinds_are) (takes.known to place (omega (arith, up))))
 
-pub one_added : (g : GraphView) (i : Insn) (k guard : ℕ) (kinds : Kinds) (h : Held) (old new : List CellView) (ps : List PointerView) (sites : List SiteView) (taken : Bool) (to : ℕ) (e : Way)
+pub one_added : (g : GraphView) (i : Insn) (k guard : ℕ) (kinds : Kinds) (h : RegisterCells) (old new : List CellView) (ps : List PointerView) (sites : List SiteView) (taken : Bool) (to : ℕ) (e : Way)
     → HasOne g i k guard kinds h old new ps taken to e → IsAdded g i k guard kinds h old new ps ps sites [] (e ∷ []) []
 one_added g i k guard kinds h old new ps sites taken to e has = record {
   grows = reads_none (ReadsOwn sites (sites ++ [])) old new has.branch.branches.grows;
@@ -150,7 +150,7 @@ one_added g i k guard kinds h old new ps sites taken to e has = record {
 -- ---- two edges
 
 -- what is asked of a node with an undecided jump
-pub record HasBoth (g : GraphView) (i : Insn) (k guard : ℕ) (kinds : Kinds) (h : Held) (old mid mid2 new : List CellView) (ps : List PointerView) (w : Width) (code : JumpCode) (s : Src) (c next jump : ℕ) (e f : Way) : Type 0 where
+pub record HasBoth (g : GraphView) (i : Insn) (k guard : ℕ) (kinds : Kinds) (h : RegisterCells) (old mid mid2 new : List CellView) (ps : List PointerView) (w : Width) (code : JumpCode) (s : Src) (c next jump : ℕ) (e f : Way) : Type 0 where
   pub op : i.op ≡ Jump w code s
   pub dst : i.dst ≤ 10
   pub src : i.src ≤ 10
@@ -161,7 +161,7 @@ pub record HasBoth (g : GraphView) (i : Insn) (k guard : ℕ) (kinds : Kinds) (h
   pub jump_is : IsEdge g k i true jump
   pub inside : AreInside g.decls (length old) ps h kinds
 
-pub both_added : Laws → (g : GraphView) (i : Insn) (k guard : ℕ) (kinds : Kinds) (h : Held) (old mid mid2 new : List CellView) (ps : List PointerView) (sites : List SiteView) (w : Width) (code : JumpCode) (s : Src) (c next jump : ℕ) (e f : Way)
+pub both_added : Laws → (g : GraphView) (i : Insn) (k guard : ℕ) (kinds : Kinds) (h : RegisterCells) (old mid mid2 new : List CellView) (ps : List PointerView) (sites : List SiteView) (w : Width) (code : JumpCode) (s : Src) (c next jump : ℕ) (e f : Way)
     → IsNode g k i kinds → HasBoth g i k guard kinds h old mid mid2 new ps w code s c next jump e f → IsAdded g i k guard kinds h old new ps ps sites [] (e ∷ f ∷ []) []
 both_added laws g i k guard kinds h old mid mid2 new ps sites w code s c next jump e f is has = record {
   grows = reads_none (ReadsOwn sites (sites ++ [])) old new (grown has.tests.grows (grown has.along.branches.grows has.aside.branches.grows));

@@ -14,13 +14,13 @@ use Rattle.operator_cells.specs.Rising.{Rises}
 use Rattle.operator_cells.proofs.RisingLaws.{Stand, stand_none, stand_more}
 use Rattle.operator_cells.specs.row_rules.PlaceRows.Spans.{one, span_row}
 use Rattle.operator_cells.specs.row_rules.PlaceRows.Reading.{right_of}
-use Rattle.operator_cells.specs.declared.held_cells.held.Held.{Held}
+use Rattle.operator_cells.specs.declared.held_cells.machine_cells.RegisterCells.{RegisterCells}
 use Rattle.operator_cells.specs.declared.held_cells.way.Way.{Way}
 use Rattle.operator_cells.specs.HeldCells.Rows.{undecided_row, leaving_row, LeaveTo}
 use Rattle.operator_cells.proofs.HeldCells.RowLaws.{grows_by}
 
 -- one edge
-pub one_leaves : {old new : List CellView} {ways ways2 : List Way} {h : Held} {f last : (ℕ → ℕ) → ℕ} (e : Way) → Rises old new e.bit f → e.held ≡ h → ways2 ≡ ways ++ e ∷ [] → ((row : ℕ → ℕ) → f row ≤ last row)
+pub one_leaves : {old new : List CellView} {ways ways2 : List Way} {h : RegisterCells} {f last : (ℕ → ℕ) → ℕ} (e : Way) → Rises old new e.bit f → e.held ≡ h → ways2 ≡ ways ++ e ∷ [] → ((row : ℕ → ℕ) → f row ≤ last row)
     → LeaveTo old new ways ways2 h last
 one_leaves {h = h} {last = last} e r held pushed below = record {
   grows = grows_by r.grows below;
@@ -31,7 +31,7 @@ one_leaves {h = h} {last = last} e r held pushed below = record {
 }
 
 -- two, by a condition
-pub two_leave : {old mid mid2 new : List CellView} {ways ways2 : List Way} {h : Held} {c : ℕ} {test last : (ℕ → ℕ) → ℕ} (guard : ℕ) (e f : Way) → Rises old mid c test → Rises mid mid2 e.bit (λ row. max (row guard) (row c))
+pub two_leave : {old mid mid2 new : List CellView} {ways ways2 : List Way} {h : RegisterCells} {c : ℕ} {test last : (ℕ → ℕ) → ℕ} (guard : ℕ) (e f : Way) → Rises old mid c test → Rises mid mid2 e.bit (λ row. max (row guard) (row c))
     → Rises mid2 new f.bit (λ row. max (row guard) (row c)) → e.held ≡ h → f.held ≡ h → ways2 ≡ ways ++ e ∷ f ∷ [] → ((row : ℕ → ℕ) → max (row guard) (test row) ≤ last row) → LeaveTo old new ways ways2 h last
 two_leave {old = old} {new = new} {h = h} {c = c} {test = test} {last = last} guard e f tests along aside held held2 pushed below = record {
   grows = stood.grows;

@@ -22,10 +22,10 @@ use Rattle.cell_core.specs.Cells.{CellView}
 use Rattle.cell_core.specs.Cells.{on as on_bit}
 use Rattle.cell_core.specs.Sites.{SiteView, after}
 use Rattle.operator_cells.specs.Making.{GrowsWith}
-use Rattle.operator_cells.specs.declared.held_cells.held.Held.{Held}
+use Rattle.operator_cells.specs.declared.held_cells.machine_cells.RegisterCells.{RegisterCells}
 use Rattle.operator_cells.specs.declared.held_cells.way.Way.{Way}
 use Rattle.operator_cells.specs.HeldCells.Paths.{GraphView, At, node_at, stepped, maps_in}
-use Rattle.operator_cells.specs.HeldCells.Held.{PointerView, AreHeld}
+use Rattle.operator_cells.specs.HeldCells.RegisterCells.{PointerView, AreHeld}
 use Rattle.operator_cells.specs.HeldCells.Carrying.{IsKnown}
 use Rattle.operator_cells.specs.HeldCells.Operating.{Operates}
 use Rattle.operator_cells.specs.HeldCells.Steps.{AreRead, ReadsOwn}
@@ -68,7 +68,7 @@ pub record IsOn (g : GraphView) (packet : PacketIn) (v : ℕ → ℕ) (k to : �
 described_at : (w : World) (k : Kinds) (m n : Machine) (place : ℕ) → at_place m place ≡ at_place n place → DescribesMachine w k m → DescribesMachine w k (at_place n place)
 described_at w k m n place same d = subst (DescribesMachine w k) same (record { registers = d.registers; slots = d.slots; checked = d.checked; frame = d.frame })
 
-held_at : (decls : List MapDecl) (packet : PacketIn) (v : ℕ → ℕ) (ps : List PointerView) (h : Held) (k : Kinds) (m : Machine) (place : ℕ) → AreHeld decls packet v ps h k m → AreHeld decls packet v ps h k (at_place m place)
+held_at : (decls : List MapDecl) (packet : PacketIn) (v : ℕ → ℕ) (ps : List PointerView) (h : RegisterCells) (k : Kinds) (m : Machine) (place : ℕ) → AreHeld decls packet v ps h k m → AreHeld decls packet v ps h k (at_place m place)
 held_at decls packet v ps h k m place a = record {
   registers = a.registers;
   slots = a.slots;
@@ -104,7 +104,7 @@ stands_later later w k m node l s = record {
   values = s.values;
 }
 
-on_from : Laws → (g : GraphView) (packet : PacketIn) (v : ℕ → ℕ) (ps : List PointerView) (k to : ℕ) (i : Insn) (kinds : Kinds) (h : Held) (is_ref : Bool) (m : Machine) → IsNode g k i kinds → leads_on i.op ≡ true
+on_from : Laws → (g : GraphView) (packet : PacketIn) (v : ℕ → ℕ) (ps : List PointerView) (k to : ℕ) (i : Insn) (kinds : Kinds) (h : RegisterCells) (is_ref : Bool) (m : Machine) → IsNode g k i kinds → leads_on i.op ≡ true
     → is_ref ≡ is_reference g k → IsEdge g k i false to → IsKnown g.decls packet v ps k kinds h m → m.place ≡ (node_at g.nodes k).place → IsOn g packet v k to i kinds is_ref m
 on_from laws g packet v ps k to i kinds h is_ref m is leads ref edge known place =
     let w : World = at_node known.world k in
@@ -128,8 +128,8 @@ on_from laws g packet v ps k to i kinds h is_ref m is leads ref edge known place
       described = described_at l.world (transferred g.decls kinds i k is_ref false) l.after n.0 (node_at g.nodes to).place n.2 (subst (λ (j : Kinds). DescribesMachine l.world j l.after) kinds_are l.described);
     }
 
--- what is known behind it
-known_on : Laws → (g : GraphView) (packet : PacketIn) (v : ℕ → ℕ) (ps qs : List PointerView) (k to : ℕ) (i : Insn) (kinds : Kinds) (h next : Held) (is_ref : Bool) (m : Machine) → IsNode g k i kinds → IsSized kinds
+-- what is known after it
+known_on : Laws → (g : GraphView) (packet : PacketIn) (v : ℕ → ℕ) (ps qs : List PointerView) (k to : ℕ) (i : Insn) (kinds : Kinds) (h next : RegisterCells) (is_ref : Bool) (m : Machine) → IsNode g k i kinds → IsSized kinds
     → IsEdge g k i false to → AreFilled (transferred g.decls kinds i k is_ref false) → IsKnown g.decls packet v ps k kinds h m → (on : IsOn g packet v k to i kinds is_ref m)
     → AreHeld g.decls packet v qs next (transferred g.decls kinds i k is_ref false) on.next
     → IsKnown g.decls packet v qs to (transferred g.decls kinds i k is_ref false) next (at_place on.next (node_at g.nodes to).place)
@@ -154,13 +154,13 @@ known_on laws g packet v ps qs k to i kinds h next is_ref m is sized edge filled
     }
 
 -- the edge that is pushed
-pub record IsWay (decls : List MapDecl) (k : ℕ) (kinds : Kinds) (i : Insn) (is_ref : Bool) (guard : ℕ) (next : Held) (to : ℕ) (e : Way) : Type 0 where
+pub record IsWay (decls : List MapDecl) (k : ℕ) (kinds : Kinds) (i : Insn) (is_ref : Bool) (guard : ℕ) (next : RegisterCells) (to : ℕ) (e : Way) : Type 0 where
   pub leads : e.to ≡ to
   pub bit_is : e.bit ≡ guard
   pub kinds_are : e.kinds ≡ transferred decls kinds i k is_ref false
   pub held_is : e.held ≡ next
 
-pub on_added : Laws → (g : GraphView) (i : Insn) (k guard : ℕ) (kinds : Kinds) (is_ref : Bool) (h next : Held) (old new : List CellView) (ps qs : List PointerView) (sites sites2 : List SiteView) (to : ℕ) (e : Way)
+pub on_added : Laws → (g : GraphView) (i : Insn) (k guard : ℕ) (kinds : Kinds) (is_ref : Bool) (h next : RegisterCells) (old new : List CellView) (ps qs : List PointerView) (sites sites2 : List SiteView) (to : ℕ) (e : Way)
     → IsNode g k i kinds → IsSized kinds → leads_on i.op ≡ true → is_ref ≡ is_reference g k → IsEdge g k i false to → guard < length old → (AreFilled kinds → AreFilled (transferred g.decls kinds i k is_ref false))
     → IsWay g.decls k kinds i is_ref guard next to e → (o : Operates g.decls i k guard is_ref false kinds h next old new ps qs sites sites2)
     → IsAdded g i k guard kinds h old new ps qs sites o.more (e ∷ []) []

@@ -1,5 +1,5 @@
 -- The cells of an instruction that does nothing to a map operate with no site.
-use Rattle.std.proofs.Common.{◌≡◌, ℕ, ℤ, pos, ◌⊎◌, inl, inr, Bool, true, false, if◌then◌else◌, Some, None, Ok, Err, List, [], refl, sym, ◌∙◌, subst}
+use Rattle.std.proofs.Common.{◌≡◌, ℕ, ℤ, pos, ◌⊎◌, inl, inr, Bool, true, false, if◌then◌else◌, Some, None, List, [], refl, sym, ◌∙◌, subst}
 use Rattle.std.specs.Prelude.{◌||◌}
 use Rattle.std.specs.Int.{w64, cast_unsigned}
 use Rattle.std.specs.Ordering.{int_eq}
@@ -20,14 +20,14 @@ use Rattle.xdp_machine.specs.Step as step
 use Rattle.kind_core.specs.declared.kind.Kind.{Kind}
 use Rattle.kind_core.specs.declared.kind.Kind.TheVariants.{Packet, Stack, Ctx, Entry}
 use Rattle.kind_core.specs.declared.kind.Kinds.{Kinds}
-use Rattle.kind_core.specs.declared.why.Why.{Why}
+use Rattle.xdp_state.specs.declared.refusal.Why.{Why}
 use Rattle.kind_core.specs.Kinds.{register}
-use Rattle.kind_core.specs.Tests.{◌>>=◌, Test, passed}
+use Rattle.kind_core.specs.Tests.{◌>>=◌, passed}
 use Rattle.kind_core.specs.Describes.{World, Describes, DescribesMachine}
 use Rattle.kind_core.specs.Access.{loaded, loaded_plain, loaded_signed, stored}
 use Rattle.kind_core.specs.Calls.{helper_of, called}
-use Rattle.kind_core.specs.Profile.{profiled}
-use Rattle.kind_core.specs.Effects.{effect_of, effect_as, verdict, immediate}
+use Rattle.kind_core.specs.Effects.{effect_as, verdict, immediate}
+use Rattle.kind_core.proofs.AllowedLaws.{not_allowed, allowed_as}
 use Rattle.operator_cells.proofs.MakingLaws.{reads_none}
 use Rattle.operator_cells.specs.HeldCells.Steps.{ReadsOwn}
 use Rattle.edge_cells.specs.NodeCells.Carrying.{is_entry, is_map_helper, touches_map, CarriesOperate}
@@ -40,9 +40,6 @@ IsWay (Stack o) = Unit {0}
 IsWay (Entry q o) = Unit {0}
 IsWay Ctx = Unit {0}
 IsWay x = ⊥
-
-not_allowed : (P : Type 0) (y : Why) → verdict (Err y) ≡ passed → P
-not_allowed P y e = absurd (cc e)
 
 load_way : (decls : List MapDecl) (k : Kinds) (x : Kind) (offset : ℤ) (size : Size) (f : Kind → _) → verdict (loaded_plain decls k x offset size >>= f) ≡ passed → IsWay x
 unfolding loaded_plain loaded
@@ -111,14 +108,6 @@ stays_as decls w refs k m n i (Atomic size) d t v e = absurd (cc t)
 stays_as decls w refs k m n i (Abs size) d t v e = absurd (cc e)
 stays_as decls w refs k m n i (Ind size) d t v e = absurd (cc e)
 stays_as decls w refs k m n i op d t v e = record { maps = registers_keep m n (step.alu m.registers i op) e; none = refl }
-
-behind_test : (decls : List MapDecl) (k : Kinds) (i : Insn) (t : Test) → verdict (t >>= λ _. effect_as decls k i i.op) ≡ passed → verdict (effect_as decls k i i.op) ≡ passed
-behind_test decls k i (Ok u) e = e
-behind_test decls k i (Err y) e = not_allowed _ y e
-
-allowed_as : (decls : List MapDecl) (k : Kinds) (i : Insn) → verdict (effect_of decls k i) ≡ passed → verdict (effect_as decls k i i.op) ≡ passed
-unfolding effect_of
-allowed_as decls k i e = behind_test decls k i (profiled i k) e
 
 pub carries_operate : CarriesOperate
 carries_operate decls ps i node guard is_ref taken k h next old new sites plain allowed c = record {

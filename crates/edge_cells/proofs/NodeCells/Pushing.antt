@@ -1,5 +1,5 @@
 -- What the code of nodes does, by the edges and ends that it pushes.
-use Rattle.std.proofs.Common.{◌≡◌, ℕ, ◌⊎◌, inl, inr, Bool, true, false, Option, Some, None, Result, Ok, Err, IfOk, List, [], ◌∷◌, ◌++◌, length, append_assoc, sym, ◌∙◌, ap, subst}
+use Rattle.std.proofs.Common.{◌≡◌, ℕ, ◌⊎◌, inl, inr, Bool, true, false, Option, Some, None, List, [], ◌∷◌, ◌++◌, length, append_assoc, sym, ◌∙◌, ap, subst}
 use Rattle.std.proofs.lemmas.List.{append-nil}
 use Rattle.xdp_machine.specs.bpf_isa.Spelling.{IsInsn}
 use Rattle.xdp_machine.specs.bpf_isa.declared.operation.Width.{Width}
@@ -15,11 +15,11 @@ use Rattle.kind_core.specs.Edges.{decided, transferred}
 use Rattle.kind_core.specs.Soundness.{StepsAreSound}
 use Rattle.kind_core.proofs.TransferLaws.{IsSized}
 use Rattle.cell_core.specs.Cells.{CellView}
-use Rattle.operator_cells.specs.declared.held_cells.held.Held.{Held}
+use Rattle.operator_cells.specs.declared.held_cells.machine_cells.RegisterCells.{RegisterCells}
 use Rattle.operator_cells.specs.declared.held_cells.way.Way.{Way}
 use Rattle.operator_cells.specs.declared.held_cells.way.Exit.{Exit}
 use Rattle.operator_cells.specs.HeldCells.Paths.{GraphView, node_at}
-use Rattle.operator_cells.specs.HeldCells.Held.{PointerView, AreInside}
+use Rattle.operator_cells.specs.HeldCells.RegisterCells.{PointerView, AreInside}
 use Rattle.operator_cells.specs.HeldCells.Carrying.{IsKnown}
 use Rattle.edge_cells.specs.declared.joining.Here.{Here}
 use Rattle.edge_cells.specs.Leaving.{IsBranch, TestsJump, EndsAreLeft}
@@ -35,10 +35,6 @@ use Rattle.edge_cells.proofs.NodeCells.Onward as onward
 
 pub two_pushed : {A : Type 0} (old mid new : List A) (e f : A) → mid ≡ old ++ e ∷ [] → new ≡ mid ++ f ∷ [] → new ≡ old ++ e ∷ f ∷ []
 two_pushed old mid new e f one two = two ∙ ap (λ xs. xs ++ f ∷ []) one ∙ append_assoc old (e ∷ []) (f ∷ [])
-
-pub if_ok : {A B : Type 0} (r : Result A B) (P Q : A → Type 0) → ((a : A) → P a → Q a) → IfOk r P → IfOk r Q
-if_ok (Ok a) P Q f h = f a h
-if_ok (Err b) P Q f h = tt
 
 pub both_steps : Laws → (decls : List MapDecl) (node : ℕ) (k : Kinds) (here : Here) (i : Insn) (w : Width) (code : JumpCode) (s : Src) (next jump c : ℕ) (old mid mid2 new : List CellView) (ps : List PointerView) (ways ways2 : List Way) (e f : Way)
     → IsInsn i → i.op ≡ Jump w code s → AreInside decls (length old) ps here.held k → TestsJump ps k here.held i w code s old mid c
@@ -94,7 +90,7 @@ always_steps laws decls node k here i w to old new ps ways ways2 e op inside bra
     (λ g is packet v m known place. always laws g packet v ps node i k here.held m w op is known place)
     (λ m. ap (operation_as m i) op)
 
-pub on_steps : onward.Laws → (decls : List MapDecl) (node : ℕ) (k : Kinds) (i : Insn) (is_ref : Bool) (guard : ℕ) (next : Held) (to : ℕ) (ways ways2 : List Way) (e : Way) → IsSized k → IsWay decls node k i is_ref guard next to e
+pub on_steps : onward.Laws → (decls : List MapDecl) (node : ℕ) (k : Kinds) (i : Insn) (is_ref : Bool) (guard : ℕ) (next : RegisterCells) (to : ℕ) (ways ways2 : List Way) (e : Way) → IsSized k → IsWay decls node k i is_ref guard next to e
     → ways2 ≡ ways ++ e ∷ [] → StepsOn decls node k i is_ref guard next to ways ways2
 on_steps laws decls node k i is_ref guard next to ways ways2 e sized way pushed g here old new ps qs sites sites2 exits d is leads ref edge there o made =
     steps_of g i node guard k here old new ps qs sites o.more sites2 ways (e ∷ []) ways2 exits [] exits o.sites_are pushed (sym (append-nil exits)) is made

@@ -10,28 +10,23 @@ use Rattle.xdp_machine.specs.Values.{◌>>=◌}
 use Rattle.xdp_machine.specs.Step.{step}
 use Rattle.xdp_machine.specs.Touched.{operation_as, operation_at}
 use Rattle.xdp_machine.specs.bpf_isa.Text.{insn_at}
-use Rattle.kind_core.specs.declared.number.Number.{Number}
-use Rattle.kind_core.specs.declared.number.Number.TheVariants.{Known, Unknown}
 use Rattle.kind_core.specs.declared.kind.Kinds.{Kinds}
 use Rattle.cell_core.specs.Cells.{CellView, IsRun, bit}
 use Rattle.cell_core.specs.Sites.{SiteView, after}
 use Rattle.cell_core.specs.Formed.{FitsMap, IsBelow}
 use Rattle.operator_cells.specs.Making.{GrowsWith}
-use Rattle.operator_cells.specs.declared.held_cells.held.Held.{Held}
+use Rattle.operator_cells.specs.declared.held_cells.machine_cells.RegisterCells.{RegisterCells}
 use Rattle.operator_cells.specs.declared.held_cells.way.Way.{Way}
 use Rattle.operator_cells.specs.declared.held_cells.way.Exit.{Exit}
 use Rattle.operator_cells.specs.HeldCells.Paths.{GraphView, Stage, At, node_at, stepped, maps_in}
-use Rattle.operator_cells.specs.HeldCells.Held.{PointerView, AreInside, IsThere}
+use Rattle.operator_cells.specs.HeldCells.RegisterCells.{PointerView, AreInside, IsThere}
 use Rattle.operator_cells.specs.HeldCells.Carrying.{IsKnown}
 use Rattle.operator_cells.specs.HeldCells.Steps.{IsGood, IsHere, AreMade, AreRead, ReadsOwn, DoAs, Steps}
+use Rattle.operator_cells.proofs.HeldCells.PointerLaws.{there_later}
 use Rattle.edge_cells.specs.Meeting.{Extends}
 use Rattle.edge_cells.proofs.ExtendingLaws.{inside_later}
 use Rattle.edge_cells.specs.NodeCells.Ends.{IsNode}
 use Rattle.edge_cells.proofs.NodeCells.Behind.{AreOff, good_behind}
-
-there_later : (n m : ℕ) (x : Number) (c : ℕ) → n ≤ m → IsThere n x c → IsThere m x c
-there_later n m (Known a) c l h = tt
-there_later n m Unknown c l h = omega (arith, l, h)
 
 -- what is asked of an edge that is made, and of an end
 abbrev pub WayMade : GraphView → List CellView → List PointerView → Way → Type 0
@@ -53,7 +48,7 @@ made_more g old new ps qs ways more exits more_exits longer extends made also = 
 
 -- What a node adds, and what is asked of it: in every run of the cells the edges and ends are off where the guard is, and where the run stands
 -- at the node they do what the step does.
-pub record IsAdded (g : GraphView) (i : Insn) (k guard : ℕ) (kinds : Kinds) (h : Held) (old new : List CellView) (ps qs : List PointerView) (sites more_sites : List SiteView) (more : List Way) (more_exits : List Exit) : Type 0 where
+pub record IsAdded (g : GraphView) (i : Insn) (k guard : ℕ) (kinds : Kinds) (h : RegisterCells) (old new : List CellView) (ps qs : List PointerView) (sites more_sites : List SiteView) (more : List Way) (more_exits : List Exit) : Type 0 where
   pub grows : GrowsWith (ReadsOwn sites (sites ++ more_sites)) old new
   pub extends : Extends ps qs
   pub own : All (λ r. (r.node ≡ k) × (r.guard ≡ guard)) more_sites
@@ -73,7 +68,7 @@ at_own k = grind (arith, nat_tests)
 operation_is : (g : GraphView) (k : ℕ) (i : Insn) (kinds : Kinds) (m : Machine) → IsNode g k i kinds → m.place ≡ (node_at g.nodes k).place → operation_at g.code m ≡ operation_as m i i.op
 operation_is g k i kinds m is place = ap (λ (o : Option Insn). o >>= λ j. operation_as m j j.op) (ap (insn_at g.code.insns) place ∙ is.insn)
 
-steps_added : (g : GraphView) (i : Insn) (k guard : ℕ) (kinds : Kinds) (h : Held) (old new : List CellView) (ps qs : List PointerView) (sites more_sites : List SiteView) (ways more : List Way) (exits more_exits : List Exit)
+steps_added : (g : GraphView) (i : Insn) (k guard : ℕ) (kinds : Kinds) (h : RegisterCells) (old new : List CellView) (ps qs : List PointerView) (sites more_sites : List SiteView) (ways more : List Way) (exits more_exits : List Exit)
     → IsNode g k i kinds → AreMade g old ps ways exits → IsAdded g i k guard kinds h old new ps qs sites more_sites more more_exits
     → Steps g k guard h old new ps qs sites (sites ++ more_sites) ways (ways ++ more) exits (exits ++ more_exits)
 steps_added g i k guard kinds h old new ps qs sites more_sites ways more exits more_exits is made added = record {
@@ -108,7 +103,7 @@ steps_added g i k guard kinds h old new ps qs sites more_sites ways more exits m
         (subst (λ (j : Kinds). IsKnown g.decls packet v ps k j h m) is.kinds_are (here.known m at)) (here.placed m at)
 
 -- the same where lists are known to be these
-pub steps_of : (g : GraphView) (i : Insn) (k guard : ℕ) (kinds : Kinds) (h : Held) (old new : List CellView) (ps qs : List PointerView) (sites more_sites sites2 : List SiteView) (ways more ways2 : List Way) (exits more_exits exits2 : List Exit)
+pub steps_of : (g : GraphView) (i : Insn) (k guard : ℕ) (kinds : Kinds) (h : RegisterCells) (old new : List CellView) (ps qs : List PointerView) (sites more_sites sites2 : List SiteView) (ways more ways2 : List Way) (exits more_exits exits2 : List Exit)
     → sites2 ≡ sites ++ more_sites → ways2 ≡ ways ++ more → exits2 ≡ exits ++ more_exits
     → IsNode g k i kinds → AreMade g old ps ways exits → IsAdded g i k guard kinds h old new ps qs sites more_sites more more_exits
     → Steps g k guard h old new ps qs sites sites2 ways ways2 exits exits2

@@ -13,8 +13,8 @@ use Rattle.kind_core.specs.Tests.{passed}
 use Rattle.kind_core.specs.Effects.{effect_of, verdict}
 use Rattle.cell_core.specs.Cells.{CellView}
 use Rattle.cell_core.specs.Sites.{SiteView}
-use Rattle.operator_cells.specs.declared.held_cells.held.Held.{Held}
-use Rattle.operator_cells.specs.HeldCells.Held.{PointerView}
+use Rattle.operator_cells.specs.declared.held_cells.machine_cells.RegisterCells.{RegisterCells}
+use Rattle.operator_cells.specs.HeldCells.RegisterCells.{PointerView}
 use Rattle.operator_cells.specs.HeldCells.Carrying.{Carries}
 use Rattle.operator_cells.specs.HeldCells.Operating.{Operates}
 
@@ -40,6 +40,6 @@ touches_map k i op = false
 -- The cells of an allowed instruction that does nothing to a map operate with no site and no pointer more.
 abbrev pub CarriesOperate : Type 0
 CarriesOperate =
-    (decls : List MapDecl) (ps : List PointerView) (i : Insn) (node guard : ℕ) (is_ref taken : Bool) (k : Kinds) (h next : Held) (old new : List CellView) (sites : List SiteView)
+    (decls : List MapDecl) (ps : List PointerView) (i : Insn) (node guard : ℕ) (is_ref taken : Bool) (k : Kinds) (h next : RegisterCells) (old new : List CellView) (sites : List SiteView)
     → touches_map k i i.op ≡ false → verdict (effect_of decls k i) ≡ passed → Carries decls ps i node is_ref taken k h next old new
     → Operates decls i node guard is_ref taken k h next old new ps ps sites sites

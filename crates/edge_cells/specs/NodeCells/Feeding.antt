@@ -8,7 +8,7 @@ use Rattle.kind_core.specs.Edges.{transferred}
 use Rattle.operator_cells.specs.declared.held_cells.way.Way.{Way}
 use Rattle.operator_cells.specs.HeldCells.Paths.{EdgeView, GraphView, node_at}
 
--- what is known on an edge, behind the instruction of the node that it leaves
+-- what is known on an edge, after the instruction of the node that it leaves
 abbrev pub known_behind : GraphView → EdgeView → Option Insn → Kinds
 known_behind g x (Some i) = transferred g.decls (node_at g.nodes x.from).kinds i x.from (list_any (λ r. r == (node_at g.nodes x.from).place) g.code.refs) x.taken
 known_behind g x None = (node_at g.nodes x.from).kinds

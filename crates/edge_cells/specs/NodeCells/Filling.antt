@@ -11,7 +11,7 @@ use Rattle.kind_core.specs.Edges.{transferred}
 use Rattle.edge_cells.specs.Widening.{AreFilled}
 use Rattle.edge_cells.specs.NodeCells.Ends.{leads_on}
 
--- Where no slot is unset before an instruction that leads on none is behind it.
+-- Where no slot is unset before an instruction that leads on none is after it.
 abbrev pub EdgesAreFilled : Type 0
 EdgesAreFilled = (decls : List MapDecl) (k : Kinds) (i : Insn) (node : ℕ) (is_ref : Bool) → leads_on i.op ≡ true → AreFilled k → AreFilled (transferred decls k i node is_ref false)
 

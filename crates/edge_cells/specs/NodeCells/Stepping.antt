@@ -6,11 +6,11 @@ use Rattle.xdp_machine.specs.xdp_maps.declared.decl.MapDecl.{MapDecl}
 use Rattle.kind_core.specs.declared.kind.Kinds.{Kinds}
 use Rattle.cell_core.specs.Cells.{CellView}
 use Rattle.cell_core.specs.Sites.{SiteView}
-use Rattle.operator_cells.specs.declared.held_cells.held.Held.{Held}
+use Rattle.operator_cells.specs.declared.held_cells.machine_cells.RegisterCells.{RegisterCells}
 use Rattle.operator_cells.specs.declared.held_cells.way.Way.{Way}
 use Rattle.operator_cells.specs.declared.held_cells.way.Exit.{Exit as End}
 use Rattle.operator_cells.specs.HeldCells.Paths.{GraphView}
-use Rattle.operator_cells.specs.HeldCells.Held.{PointerView, AreInside}
+use Rattle.operator_cells.specs.HeldCells.RegisterCells.{PointerView, AreInside}
 use Rattle.operator_cells.specs.HeldCells.Operating.{Operates}
 use Rattle.operator_cells.specs.HeldCells.Steps.{AreMade, Steps}
 use Rattle.edge_cells.specs.declared.joining.Here.{Here}
@@ -29,9 +29,9 @@ EdgeSteps decls node k here i taken to old new ps ways ways2 =
     → Steps g node here.guard here.held old new ps ps sites sites ways ways2 exits exits
 
 -- of a node with an instruction that leads on, whose cells operate as they should
-abbrev pub StepsOn : List MapDecl → ℕ → Kinds → Insn → Bool → ℕ → Held → ℕ → List Way → List Way → Type 0
+abbrev pub StepsOn : List MapDecl → ℕ → Kinds → Insn → Bool → ℕ → RegisterCells → ℕ → List Way → List Way → Type 0
 StepsOn decls node k i is_ref guard next to ways ways2 =
-    (g : GraphView) (here : Held) (old new : List CellView) (ps qs : List PointerView) (sites sites2 : List SiteView) (exits : List End) → g.decls ≡ decls → IsNode g node i k → leads_on i.op ≡ true
+    (g : GraphView) (here : RegisterCells) (old new : List CellView) (ps qs : List PointerView) (sites sites2 : List SiteView) (exits : List End) → g.decls ≡ decls → IsNode g node i k → leads_on i.op ≡ true
     → is_ref ≡ is_reference g node → IsEdge g node i false to → guard < length old → Operates g.decls i node guard is_ref false k here next old new ps qs sites sites2 → AreMade g old ps ways exits
     → Steps g node guard here old new ps qs sites sites2 ways ways2 exits exits
 

@@ -3,7 +3,7 @@
 ghost use Rattle.edge_cells.specs.NodeCells.Carrying.{CarriesOperate};
 ghost use Rattle.edge_cells.specs.NodeCells.Filling.{EdgesAreFilled, JumpsAreFilled};
 
-/// Where no slot is unset before an instruction that leads on none is behind it.
+/// Where no slot is unset before an instruction that leads on none is after it.
 pub fn edges_are_filled()
     ensures { EdgesAreFilled }
 {}

@@ -11,7 +11,7 @@ ghost use Rattle.edge_cells.specs.NodeCells.Stepping.{StepsOn};
 
 use kind_core::laws::{later_describes, steps_are_sound};
 use kind_core::{Kind, Kinds, transfer};
-use operator_cells::held_cells::held::Held;
+use operator_cells::held_cells::machine_cells::RegisterCells;
 use operator_cells::held_cells::way::Way;
 use std::alloc::AllocError;
 use xdp_machine::bpf_isa::Insn;
@@ -27,8 +27,8 @@ fn are_whole(kinds: &Kinds)
     let _slots: &[Kind] = &kinds.slots;
 }
 
-/// A node whose instruction leads on to this node, behind the cells of the instruction: its edge is on where the guard is, with what is held
-/// behind the instruction. `is_ref` tells whether the place is a reference to a map.
+/// A node whose instruction leads on to this node, after the cells of the instruction: its edge is on where the guard is, with what is held
+/// after the instruction. `is_ref` tells whether the place is a reference to a map.
 pub fn step_on(
     decls: &[MapDecl],
     node: u32,
@@ -36,7 +36,7 @@ pub fn step_on(
     insn: &Insn,
     is_ref: bool,
     guard: u32,
-    held: &Held,
+    held: &RegisterCells,
     to: u32,
     ways: &mut Vec<Way>,
 ) -> Result<(), AllocError>

@@ -19,13 +19,13 @@ use Rattle.predicate_core.specs.Buildable.{HasBits, IsBuildable}
 use Rattle.row_plan.specs.Plan.{Plan, IsPlan}
 use Rattle.pipe_design.specs.overlay_net.ValueNet.Words as value
 use Rattle.pipe_runs.specs.pipe_core.Machine.{Build}
-use Rattle.pipe_runs.specs.pipe_core.Pipeable.{IsSuited}
+use Rattle.pipe_runs.specs.pipe_core.Pipeable.{IsPipelinable}
 use Rattle.pipe_design.specs.stage_net.Staged.{IsReadCell}
 use Rattle.pipe_runs.specs.pipe_net.Layout.{IsBy, HasAnswer}
 use Rattle.pipe_design.specs.stage_net.SiteTable.Constants.{AreEarly, number_as}
 use Rattle.pipe_runs.specs.pipe_net.PipePlaces.Entries.{AccessesLead}
 use Rattle.pipe_design.specs.pipe_parts.PipeDraft.Program.{IsForPipe, build_of}
-use Rattle.ehdl_build.specs.ProgramPlan.Suited.{ProgramsAreSuited}
+use Rattle.ehdl_build.specs.ProgramPlan.Pipelinable.{ProgramsArePipelinable}
 use Rattle.ehdl_build.specs.ProgramPlan.ReadCells.{AreReadCells, ReadCellsAreFirst, AccessesAreAligned}
 use Rattle.ehdl_build.specs.ProgramPlan.Leading.{PointersLead}
 use Rattle.ehdl_build.specs.PipePrograms.Prepared.{ProgramsArePrepared}
@@ -43,7 +43,7 @@ early_number row n from width (Constant m) ins (inl z) r = inr (omega (arith, ap
 early_number row n from width (Constant m) ins (inr e) r = inl (omega (arith, r, ap (greatest row) e))
 early_number row n from width op ins alone r = inr refl
 
-module _ (g : GraphView) (p : ProgramView) (plan : Plan) (law : IsLaw g p) (buildable : IsBuildable p) (planned : IsPlan p plan) (suited : IsSuited g.decls (build_of p plan)) where
+module _ (g : GraphView) (p : ProgramView) (plan : Plan) (law : IsLaw g p) (buildable : IsBuildable p) (planned : IsPlan p plan) (pipelinable : IsPipelinable g.decls (build_of p plan)) where
   abbrev b : Build
   b = build_of p plan
 
@@ -74,11 +74,11 @@ module _ (g : GraphView) (p : ProgramView) (plan : Plan) (law : IsLaw g p) (buil
   -- ---- the reads
   read_cell : AreReadCells p → (c j : ℕ) → c < length p.cells → site_in (cell_at p.cells c).op ≡ Some j → IsReadCell p (slice_index plan.rows) c j
   read_cell cells c j lt e = record {
-    site = suited.rows.reads.sites c j lt e;
-    below = suited.rows.reads.below c j lt e;
-    together = λ d ld ed. suited.rows.reads.together d c j ld lt ed e;
-    finds = λ is. suited.rows.reads.finds c j lt is;
-    answers = λ is. suited.rows.reads.answers c j lt is;
+    site = pipelinable.rows.reads.sites c j lt e;
+    below = pipelinable.rows.reads.below c j lt e;
+    together = λ d ld ed. pipelinable.rows.reads.together d c j ld lt ed e;
+    finds = λ is. pipelinable.rows.reads.finds c j lt is;
+    answers = λ is. pipelinable.rows.reads.answers c j lt is;
     found = λ is. sym (cells.found c j lt is).cell;
     answer = λ is. sym (cells.answer c j lt is).cell;
     width = λ is. (cells.found c j lt is).width;
@@ -91,12 +91,12 @@ module _ (g : GraphView) (p : ProgramView) (plan : Plan) (law : IsLaw g p) (buil
     formed = law.computes.formed;
     planned = planned;
     rows = row_within;
-    commit = suited.rows.commit;
+    commit = pipelinable.rows.commit;
     answer = has_answer;
     changed = λ x there. (byte_of x there).0;
     maps = maps;
     limits = limits;
-    fits = suited.fits;
+    fits = pipelinable.fits;
     aligned = λ j lt. aligned_word (site_at p.sites j).act (aligned j lt);
     reads = read_cell cells;
   }
@@ -104,10 +104,10 @@ module _ (g : GraphView) (p : ProgramView) (plan : Plan) (law : IsLaw g p) (buil
 pub accesses_lead : PointersLead → (g : GraphView) (p : ProgramView) (plan : Plan) → IsLaw g p → IsPlan p plan → AccessesLead (build_of p plan)
 accesses_lead leads g p plan law planned t packet r h own fit founds j known access low = leads g p plan (plan.last + 4) law planned t packet r h j known access low (record { own = own; fit = fit; founds = founds })
 
-pub programs_are_prepared : ProgramsAreSuited → ReadCellsAreFirst → AccessesAreAligned → PointersLead → ProgramsArePrepared
-programs_are_prepared suited cells aligned leads g p plan law buildable planned few nodes maps limits = record {
-  ready = for_pipe g p plan law buildable planned (suited g p plan (plan.last + 4) law buildable planned) (cells g p law) (aligned g p law) few maps limits;
-  early = early g p plan law buildable planned (suited g p plan (plan.last + 4) law buildable planned);
+pub programs_are_prepared : ProgramsArePipelinable → ReadCellsAreFirst → AccessesAreAligned → PointersLead → ProgramsArePrepared
+programs_are_prepared pipelinable cells aligned leads g p plan law buildable planned few nodes maps limits = record {
+  ready = for_pipe g p plan law buildable planned (pipelinable g p plan (plan.last + 4) law buildable planned) (cells g p law) (aligned g p law) few maps limits;
+  early = early g p plan law buildable planned (pipelinable g p plan (plan.last + 4) law buildable planned);
   few_sites = let count = law.computes.laid.count in let sites = buildable.operations in omega (arith, nodes, count, sites);
   leads = accesses_lead leads g p plan law planned;
 }

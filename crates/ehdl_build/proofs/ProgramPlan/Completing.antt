@@ -3,6 +3,7 @@ use Rattle.std.proofs.Common.{◌≡◌, ℕ, zero, suc, ◌+◌, ◌<◌, ◌�
 use Rattle.std.specs.Prelude.{All, slice_index, nat_lt, ◌==◌, ◌^◌, if◌then◌else◌}
 use Rattle.std.proofs.lemmas.Bool.{eqb-true, eqb-false, lt-ltb, le-ltb, ltb-true}
 use Rattle.std.proofs.lemmas.Nat.{pow_pos}
+use Rattle.beat_core.proofs.list_laws_laws.ListLaws.{map_alike}
 use Rattle.xdp_object.specs.xdp_machine.State.{PacketIn}
 use Rattle.hazard_core.specs.cell_core.declared.operator.Operator.{Operator}
 use Rattle.hazard_core.specs.cell_core.declared.operator.Operator.TheVariants.{Wire, Phi}
@@ -11,16 +12,16 @@ use Rattle.hazard_core.specs.cell_core.Sites.{ProgramView}
 use Rattle.hazard_core.specs.cell_core.Formed.{AreFormed, takes}
 use Rattle.hazard_core.specs.cell_core.Rows.{AreRows, RowsRise}
 use Rattle.hazard_core.specs.cell_core.CellLaws.{SameReads, HaveValues}
+use Rattle.hazard_core.proofs.cell_core_laws.OperatorLaws.{value_of_plain, none_of_plain}
 use Rattle.operator_cells.specs.Following.{picked, Goes, IsFollowed}
 use Rattle.hazard_core.specs.Tables.{TableState}
 use Rattle.hazard_core.specs.declared.pointer.Pointer.{Pointer}
 use Rattle.hazard_core.specs.declared.pointer.Pointer.TheVariants.{Null, InSlot, Pending}
-use Rattle.hazard_core.specs.Held.{Held, held_value, pointer_in}
+use Rattle.hazard_core.specs.StageValues.{StageValues, stage_value, pointer_in}
 use Rattle.hazard_core.specs.Rows.{phi_pointer, cell_pointer}
 use Rattle.pipe_runs.specs.pipe_core.Machine.{Build}
 use Rattle.pipe_runs.specs.pipe_core.Agreement.{IsMade, ReadsFit}
-use Rattle.ehdl_build.proofs.ProgramPlan.Lists.{map_all}
-use Rattle.ehdl_build.proofs.ProgramPlan.Operators.{none_of_plain, number_of_plain, value_of_plain}
+use Rattle.ehdl_build.proofs.ProgramPlan.Operators.{number_of_plain}
 
 -- ---- numbers of pointers
 
@@ -93,18 +94,18 @@ goes_is v u ins op given n e = tt
 -- ---- those of the pointers that a packet holds
 
 -- a value and a number are those of a cell that is held
-record IsHeld (code : Pointer → ℕ) (v u : ℕ → ℕ) (h : Held) (c : ℕ) : Type 0 where
-  value : v c ≡ held_value h c
+record IsHeld (code : Pointer → ℕ) (v u : ℕ → ℕ) (h : StageValues) (c : ℕ) : Type 0 where
+  value : v c ≡ stage_value h c
   goes : u c ≡ code (pointer_in h c)
 
-module _ (code : Pointer → ℕ) (is_code : IsCode code) (v u : ℕ → ℕ) (h : Held) where
+module _ (code : Pointer → ℕ) (is_code : IsCode code) (v u : ℕ → ℕ) (h : StageValues) where
   picked_held : (xs : List ℕ) → All (IsHeld code v u h) xs → picked v u xs ≡ code (phi_pointer h xs)
   picked_held [] held = sym is_code.none
   picked_held (e ∷ []) held = sym is_code.none
   picked_held (e ∷ x ∷ []) held = (held 1 0 (omega arith)).goes
   picked_held (e ∷ x ∷ d ∷ more) held =
       ap (λ n. if on n then u x else picked v u (d ∷ more)) (held 0 0 (omega arith)).value
-      ∙ by (picked_held (d ∷ more) (λ k z l. held (suc (suc k)) z (omega (arith, l)))) (on (held_value h e))
+      ∙ by (picked_held (d ∷ more) (λ k z l. held (suc (suc k)) z (omega (arith, l)))) (on (stage_value h e))
     where
       by : picked v u (d ∷ more) ≡ code (phi_pointer h (d ∷ more)) → (b : Bool) → (if b then u x else picked v u (d ∷ more)) ≡ code (if b then pointer_in h x else phi_pointer h (d ∷ more))
       by rest true = (held 1 0 (omega arith)).goes
@@ -134,18 +135,18 @@ below_is r row n l = ap (λ (b : Bool). if b then n else 0) (lt-ltb row r l)
 not_below : (r row n : ℕ) → r ≤ row → below r row n ≡ 0
 not_below r row n l = ap (λ (b : Bool). if b then n else 0) (le-ltb row r l)
 
-pub record IsCompleted (code : Pointer → ℕ) (b : Build) (packet : PacketIn) (h : Held) (r : ℕ) : Type 0 where
+pub record IsCompleted (code : Pointer → ℕ) (b : Build) (packet : PacketIn) (h : StageValues) (r : ℕ) : Type 0 where
   pub v : ℕ → ℕ
   pub u : ℕ → ℕ
   pub run : IsRun packet b.program.cells v
   pub followed : IsFollowed b.program.cells v u
-  pub value : (c : ℕ) → c < length b.program.cells → b.plan.row c < r → v c ≡ held_value h c
+  pub value : (c : ℕ) → c < length b.program.cells → b.plan.row c < r → v c ≡ stage_value h c
   pub goes : (c : ℕ) → c < length b.program.cells → b.plan.row c < r → u c ≡ code (pointer_in h c)
   -- later reads have no pointers
   pub later : (c : ℕ) → c < length b.program.cells → is_read (cell_at b.program.cells c).op ≡ true → r ≤ b.plan.row c → u c ≡ 0
 
 module _ (have : HaveValues) (rise : RowsRise) (code : Pointer → ℕ) (is_code : IsCode code) (b : Build) (r : ℕ) (formed : AreFormed b.program.cells) (rows : AreRows b.program.cells b.plan.row)
-    (t : TableState) (packet : PacketIn) (h : Held)
+    (t : TableState) (packet : PacketIn) (h : StageValues)
     (own : (c : ℕ) → c < length b.program.cells → b.plan.row c < r → site_in (cell_at b.program.cells c).op ≡ None → IsMade b t packet h c) (fits : ReadsFit b r h) where
   abbrev cells : List CellView
   cells = b.program.cells
@@ -154,12 +155,12 @@ module _ (have : HaveValues) (rise : RowsRise) (code : Pointer → ℕ) (is_code
   ins_at k = (cell_at cells k).ins
 
   abbrev value_given : ℕ → ℕ
-  value_given k = below r (b.plan.row k) (held_value h k)
+  value_given k = below r (b.plan.row k) (stage_value h k)
 
   abbrev given : ℕ → ℕ
   given k = below r (b.plan.row k) (code (pointer_in h k))
 
-  fit : (k : ℕ) → k < length cells → is_read (cell_at cells k).op ≡ true → (t : Bool) → nat_lt (b.plan.row k) r ≡ t → (if t then held_value h k else 0) < 2 ^ (cell_at cells k).width
+  fit : (k : ℕ) → k < length cells → is_read (cell_at cells k).op ≡ true → (t : Bool) → nat_lt (b.plan.row k) r ≡ t → (if t then stage_value h k else 0) < 2 ^ (cell_at cells k).width
   fit k l e true f = fits k l (ltb-true (b.plan.row k) r f) e
   fit k l e false f = pow_pos (cell_at cells k).width
 
@@ -184,7 +185,7 @@ module _ (have : HaveValues) (rise : RowsRise) (code : Pointer → ℕ) (is_code
       let up = rise cells b.plan.row rows k l m d lm in
       record { before = before; there = omega (arith, before, l); row = omega (arith, up, low) }
 
-  value_below : (n k : ℕ) → k < n → k < length cells → b.plan.row k < r → v k ≡ held_value h k
+  value_below : (n k : ℕ) → k < n → k < length cells → b.plan.row k < r → v k ≡ stage_value h k
   value_below zero k lt l low = absurd (omega (arith, lt))
   value_below (suc n) k lt l low =
       by (λ m d lm. let e = inputs k l low m d lm in let before = e.before in value_below n (get_or (ins_at k) m d) (omega (arith, before, lt)) e.there e.row) (is_read (cell_at cells k).op) refl
@@ -192,12 +193,12 @@ module _ (have : HaveValues) (rise : RowsRise) (code : Pointer → ℕ) (is_code
       c : CellView
       c = cell_at cells k
 
-      by : All (λ i. v i ≡ held_value h i) (ins_at k) → (r : Bool) → is_read (cell_at cells k).op ≡ r → v k ≡ held_value h k
-      by same true e = values.2 k l e ∙ below_is r (b.plan.row k) (held_value h k) low
+      by : All (λ i. v i ≡ stage_value h i) (ins_at k) → (r : Bool) → is_read (cell_at cells k).op ≡ r → v k ≡ stage_value h k
+      by same true e = values.2 k l e ∙ below_is r (b.plan.row k) (stage_value h k) low
       by same false e =
           let none = none_of_plain c.op e in
           value_of_plain (is_read c.op) packet v c (v k) e (values.1.each k l)
-          ∙ ap (λ xs. bits_from (number packet c.op xs) c.from c.width) (map_all v (held_value h) c.ins same)
+          ∙ ap (λ xs. bits_from (number packet c.op xs) c.from c.width) (map_alike v (stage_value h) c.ins same)
           ∙ ap (λ n. bits_from n c.from c.width) (sym (number_of_plain b.program b.plan.row (b.plan.row k) t packet h c c.op none)) ∙ sym (own k l low none).value
 
   u_is : (k : ℕ) → k < length cells → u k ≡ gone_at v cells given u k

@@ -20,12 +20,12 @@ use Rattle.hazard_core.specs.declared.pointer.Pointer.{Pointer}
 use Rattle.hazard_core.specs.declared.pointer.Pointer.TheVariants.{Null, InSlot, Pending}
 use Rattle.xdp_object.specs.xdp_maps.declared.decl.MapKind.{MapKind}
 use Rattle.hazard_core.specs.Tables.{TableState, decl_of, table_at}
-use Rattle.hazard_core.specs.Held.{Held, pointer_in, access_pointer, is_update, is_delete, written_as}
+use Rattle.hazard_core.specs.StageValues.{StageValues, pointer_in, access_pointer, is_update, is_delete, written_as}
 use Rattle.hazard_core.specs.TableLaws.Leading.{LeadsInto, WritesLead}
+use Rattle.hazard_core.proofs.cell_core_laws.RowLaws.{greatest_above}
 use Rattle.row_plan.specs.Plan.{Plan, IsPlan}
-use Rattle.ehdl_build.specs.ProgramPlan.Suited.{build_of}
+use Rattle.ehdl_build.specs.ProgramPlan.Pipelinable.{build_of}
 use Rattle.ehdl_build.specs.ProgramPlan.Leading.{HoldsOwn, PointersLead, ReadsLead, SitesLead, RecordsLead}
-use Rattle.ehdl_build.proofs.ProgramPlan.Lists.{greatest_above}
 use Rattle.ehdl_build.proofs.ProgramPlan.Operators.{heavy_of_site, goes_by}
 use Rattle.ehdl_build.proofs.ProgramPlan.Planning.{site_early}
 use Rattle.ehdl_build.proofs.ProgramPlan.Pathing.{below_there}
@@ -71,7 +71,7 @@ operand_is (act.Store at size) xs c (x, is) = ap (λ ys. slice_index ys 1) is
 operand_is (act.Atomic at a) xs c (x, y, is) = ap (λ ys. slice_index ys 2) is
 operand_is a xs c is = absurd is
 
-module _ (have : HaveValues) (rise : RowsRise) (g : GraphView) (p : ProgramView) (plan : Plan) (slots : ℕ) (law : IsLaw g p) (is : IsPlan p plan) (t : TableState) (packet : PacketIn) (h : Held) where
+module _ (have : HaveValues) (rise : RowsRise) (g : GraphView) (p : ProgramView) (plan : Plan) (slots : ℕ) (law : IsLaw g p) (is : IsPlan p plan) (t : TableState) (packet : PacketIn) (h : StageValues) where
   abbrev row : ℕ → ℕ
   row = slice_index plan.rows
 
@@ -97,7 +97,7 @@ module _ (have : HaveValues) (rise : RowsRise) (g : GraphView) (p : ProgramView)
         | inr b ↦ made.later c lc (ap is_read o) b
       ]
 
-  -- a read stands behind the pointer that it looks at
+  -- a read stands after the pointer that it looks at
   read_behind : (c j x : ℕ) → c < length p.cells → (cell_at p.cells c).op ≡ Answer j → IsThrough (site_at p.sites j).act (site_at p.sites j).operands x → row x < row c
   read_behind c j x l o through =
       let s = site_at p.sites j in

@@ -7,6 +7,7 @@ use Rattle.std.proofs.lemmas.List.{get_or_past}
 use Rattle.std.proofs.lemmas.Option.{slice_get-get_or}
 use Rattle.std.proofs.lemmas.List.Elements.{All-contains, All-contains_itself, Contains-append_cases}
 use Rattle.std.proofs.lemmas.List.Sums.{list_all-from_AllPass}
+use Rattle.beat_core.proofs.list_laws_laws.ListLaws.{map_alike}
 use Rattle.xdp_object.specs.xdp_maps.declared.decl.MapDecl.{MapDecl}
 use Rattle.xdp_object.specs.xdp_maps.declared.decl.MapKind.TheVariants.{Hash}
 use Rattle.xdp_object.specs.xdp_maps.State.{no_decl}
@@ -22,12 +23,13 @@ use Rattle.operator_cells.specs.HeldCells.Law.{IsLaidOut, IsLaw, no_made, made_a
 use Rattle.operator_cells.specs.HeldCells.Pointing.{IsFoundOf}
 use Rattle.operator_cells.specs.HeldCells.Reading.{BelongsTo, RowsStandBehind}
 use Rattle.hazard_core.specs.Tables.{decl_of}
-use Rattle.hazard_core.specs.Held.{Held, held_value, pointer_in, guard_on, asked_key, found_cell, read_cells, parts}
+use Rattle.hazard_core.specs.StageValues.{StageValues, stage_value, pointer_in, guard_on, asked_key, found_cell, read_cells, parts}
 use Rattle.hazard_core.specs.Replay.{IsAccess}
+use Rattle.hazard_core.proofs.ActsLaws.{key_is}
+use Rattle.hazard_core.proofs.cell_core_laws.RowLaws.{greatest_above}
 use Rattle.row_plan.specs.Plan.{Plan, IsPlan}
-use Rattle.ehdl_build.specs.ProgramPlan.Suited.{build_of}
-use Rattle.ehdl_build.proofs.ProgramPlan.Lists.{greatest_above, map_all}
-use Rattle.ehdl_build.proofs.ProgramPlan.Operators.{heavy_of_site, changes, key_is, goes_by}
+use Rattle.ehdl_build.specs.ProgramPlan.Pipelinable.{build_of}
+use Rattle.ehdl_build.proofs.ProgramPlan.Operators.{heavy_of_site, changes, goes_by}
 use Rattle.ehdl_build.proofs.ProgramPlan.Planning.{site_early, read_early}
 use Rattle.ehdl_build.proofs.ProgramPlan.Reading.{IsRead, found_there, found_reads, reads_are}
 use Rattle.ehdl_build.proofs.ProgramPlan.Completing.{IsCompleted, pointer_code, pointers_same}
@@ -63,14 +65,14 @@ below_there g p laid j l =
       laid.below j no_site l,
     )
 
-module _ (g : GraphView) (p : ProgramView) (plan : Plan) (slots : ℕ) (law : IsLaw g p) (is : IsPlan p plan) (packet : PacketIn) (h : Held) (made : IsCompleted pointer_code (build_of p plan slots) packet h (suc plan.commit)) where
+module _ (g : GraphView) (p : ProgramView) (plan : Plan) (slots : ℕ) (law : IsLaw g p) (is : IsPlan p plan) (packet : PacketIn) (h : StageValues) (made : IsCompleted pointer_code (build_of p plan slots) packet h (suc plan.commit)) where
   abbrev row : ℕ → ℕ
   row = slice_index plan.rows
 
   -- The run has what the packet holds of all that a site takes.
   record SameSite (s : SiteView) : Type 0 where
     guard : on (made.v s.guard) ≡ guard_on h s
-    key : map_list made.v s.key ≡ map_list (held_value h) s.key
+    key : map_list made.v s.key ≡ map_list (stage_value h) s.key
     operands : All (λ c. (c < length p.cells) × (row c < suc plan.commit)) s.operands
 
   same_site : (j : ℕ) → j < length p.sites → SameSite (site_at p.sites j)
@@ -85,7 +87,7 @@ module _ (g : GraphView) (p : ProgramView) (plan : Plan) (slots : ℕ) (law : Is
       let first = early.guard in
       record {
         guard = ap on (made.value s.guard (omega (arith, below.guard, few)) (omega (arith, first)));
-        key = map_all made.v (held_value h) s.key (λ k d lt.
+        key = map_alike made.v (stage_value h) s.key (λ k d lt.
             let there = below.key k d lt in
             let up = greatest_above row s.key k d lt in
             made.value (get_or s.key k d) (omega (arith, there, few)) (omega (arith, up, low)));
@@ -95,7 +97,7 @@ module _ (g : GraphView) (p : ProgramView) (plan : Plan) (slots : ℕ) (law : Is
             (omega (arith, there, few), omega (arith, up, high));
       }
 
-  -- ---- the reads of a later site stand behind an earlier one
+  -- ---- the reads of a later site stand after an earlier one
 
   module _ (stand : RowsStandBehind) where
     pub seen : (c j i : ℕ) → c < length p.cells → site_in (cell_at p.cells c).op ≡ Some j → i < j → (site_at p.sites i).map ≡ (site_at p.sites j).map → records (site_at p.sites i).act ≡ true
@@ -114,9 +116,9 @@ module _ (g : GraphView) (p : ProgramView) (plan : Plan) (slots : ℕ) (law : Is
       → asked_key g.decls h (site_at p.sites j) ≡ bytes_of (key_bytes g.decls q) (map_list made.v (site_at p.sites j).key)
   key_held j l q map lq =
       let s = site_at p.sites j in
-      key_is (decl_of g.decls s.map) s.act (map_list (held_value h) s.key) (map_list (held_value h) s.operands)
-      ∙ ap (λ m. bytes_of (decl_of g.decls m).key (map_list (held_value h) s.key)) map
-      ∙ ap (λ n. bytes_of n (map_list (held_value h) s.key)) (sym (key_bytes_is g.decls q lq))
+      key_is (decl_of g.decls s.map) s.act (map_list (stage_value h) s.key) (map_list (stage_value h) s.operands)
+      ∙ ap (λ m. bytes_of (decl_of g.decls m).key (map_list (stage_value h) s.key)) map
+      ∙ ap (λ n. bytes_of n (map_list (stage_value h) s.key)) (sym (key_bytes_is g.decls q lq))
       ∙ ap (bytes_of (key_bytes g.decls q)) (sym (same_site j l).key)
 
   pub accessed : (j : ℕ) → j < length p.sites → guard_on h (site_at p.sites j) ≡ true → is_access (site_at p.sites j).act ≡ true → IsAccess p g.decls h j
@@ -141,7 +143,7 @@ module _ (g : GraphView) (p : ProgramView) (plan : Plan) (slots : ℕ) (law : Is
         pointer = through.pointer
             ∙ pointers_same (pointer_in h a.operand) (pointer_in h a.cell) (sym (made.goes a.operand operand.0 operand.1) ∙ a.goes ∙ made.goes a.cell a.is_found.there found_early)
             ∙ ap (pointer_in h) (sym found);
-        some = ap (λ c. on (held_value h c)) found ∙ ap on (sym (made.value a.cell a.is_found.there found_early)) ∙ a.some;
+        some = ap (λ c. on (stage_value h c)) found ∙ ap on (sym (made.value a.cell a.is_found.there found_early)) ∙ a.some;
         between = λ i after until map kind writing.
             let on_i = first_of (guard_on h (site_at p.sites i)) _ writing in
             changes (site_at p.sites i).act

@@ -6,25 +6,12 @@ use Rattle.std.proofs.lemmas.List.{get_or_past}
 use Rattle.hazard_core.specs.cell_core.Cells.{CellView, cell_at, is_read, site_in}
 use Rattle.hazard_core.specs.cell_core.Sites.{SiteView, ProgramView, site_at}
 use Rattle.hazard_core.specs.cell_core.Rows.{greatest, taken_by}
+use Rattle.hazard_core.proofs.cell_core_laws.OperatorLaws.{read_of_site}
+use Rattle.hazard_core.proofs.cell_core_laws.RowLaws.{greatest_above, greatest_append}
 use Rattle.predicate_core.specs.Buildable.{IsBuildable}
 use Rattle.row_plan.specs.Plan.{Plan, IsPlan, read_row, site_row}
-use Rattle.ehdl_build.proofs.ProgramPlan.Lists.{greatest_above, greatest_within, greatest_append}
-use Rattle.ehdl_build.proofs.ProgramPlan.Operators.{read_of_site}
-
-read_row_above : (row : ℕ → ℕ) (k : ℕ) (cs : List CellView) (i : ℕ) → i < length cs → is_read (cell_at cs i).op ≡ true → row (k + i) ≤ read_row row k cs
-read_row_above row k [] i l e = absurd (omega (arith, l))
-read_row_above row k (c ∷ cs) zero l e = by (is_read c.op) e
-  where
-    by : (b : Bool) → b ≡ true → row (k + 0) ≤ (if b then max (row k) (read_row row (suc k) cs) else read_row row (suc k) cs)
-    by true e = let same : k + 0 ≡ k = omega arith in omega (arith, ap row same)
-    by false e = cc
-read_row_above row k (c ∷ cs) (suc i) l e =
-    let same : suc k + i ≡ k + suc i = omega arith in
-    by (omega (arith, ap row same, read_row_above row (suc k) cs i (omega (arith, l)) e)) (is_read c.op)
-  where
-    by : row (k + suc i) ≤ read_row row (suc k) cs → (b : Bool) → row (k + suc i) ≤ (if b then max (row k) (read_row row (suc k) cs) else read_row row (suc k) cs)
-    by rest true = omega (arith, rest)
-    by rest false = rest
+use Rattle.row_plan.proofs.RowLaws.{read_row_above}
+use Rattle.ehdl_build.proofs.ProgramPlan.Lists.{greatest_within}
 
 read_row_within : (row : ℕ → ℕ) (n : ℕ) → ((k : ℕ) → row k ≤ n) → (k : ℕ) (cs : List CellView) → read_row row k cs ≤ n
 read_row_within row n small k [] = omega arith
@@ -74,7 +61,7 @@ module _ (p : ProgramView) (plan : Plan) (is : IsPlan p plan) where
       let both = greatest_append row s.key s.operands in
       record { guard = omega (arith, above); key = omega (arith, above, both); operands = omega (arith, above, both) }
 
-  -- the cells of the answer stand behind all nodes, but in no later row
+  -- the cells of the answer stand after all nodes, but in no later row
   module _ (buildable : IsBuildable p) where
     pub row_within : (k : ℕ) → row k ≤ plan.last
     row_within k = elim (cases_lt k (length p.cells)) [

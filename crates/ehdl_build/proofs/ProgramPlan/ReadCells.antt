@@ -1,7 +1,7 @@
 -- Of a site one cell at most says whether its key is there, and one at most what it answers.
 use Rattle.std.proofs.Common.{◌∙◌, sym, ap}
 use Rattle.hazard_core.specs.cell_core.Cells.{site_in}
-use Rattle.hazard_core.specs.Held.{found_cell, answer_cell}
+use Rattle.hazard_core.specs.StageValues.{found_cell, answer_cell}
 use Rattle.ehdl_build.specs.ProgramPlan.ReadCells.{ReadCellsAreFirst, AccessesAreAligned}
 use Rattle.ehdl_build.proofs.ProgramPlan.Reading.{found_there, answer_there, found_reads, answer_reads}
 

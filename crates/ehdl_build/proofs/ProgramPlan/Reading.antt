@@ -6,6 +6,7 @@ use Rattle.std.specs.Int.{w64, cast_unsigned}
 use Rattle.std.proofs.lemmas.Bool.{cases_lt, ltb-true}
 use Rattle.std.proofs.lemmas.List.Elements.{All-contains, All-contains_itself, All-cons, All-nil}
 use Rattle.std.proofs.lemmas.List.Sums.{passes_at_first, fails_before_first}
+use Rattle.beat_core.proofs.list_laws_laws.ListLaws.{all_split}
 use Rattle.xdp_object.specs.xdp_maps.declared.decl.MapDecl.{MapDecl}
 use Rattle.xdp_object.specs.xdp_maps.declared.errno.TheConstants.{ENOENT, E2BIG, EEXIST, EINVAL}
 use Rattle.hazard_core.specs.cell_core.declared.operator.Operator.TheVariants.{Found, Answer}
@@ -16,15 +17,17 @@ use Rattle.hazard_core.specs.cell_core.Formed.{AreFormed, AreSited}
 use Rattle.hazard_core.specs.cell_core.Rows.{greatest}
 use Rattle.operator_cells.specs.HeldCells.Reading.{SiteIsRead, ReadsAreMade}
 use Rattle.hazard_core.specs.Tables.{decl_of}
-use Rattle.hazard_core.specs.Held.{is_found_of, is_answer_of, found_cell, answer_cell, read_cells}
+use Rattle.hazard_core.specs.StageValues.{is_found_of, is_answer_of, found_cell, answer_cell, read_cells}
+use Rattle.hazard_core.proofs.HeldLaws.{answer_is, found_is}
+use Rattle.hazard_core.proofs.cell_core_laws.RowLaws.{greatest_above}
 use Rattle.predicate_core.specs.Buildable.{IsBuildable}
 use Rattle.row_plan.specs.Plan.{Plan, IsPlan}
 use Rattle.pipe_runs.specs.pipe_core.Agreement.{ReadsArePlanned}
 use Rattle.pipe_runs.specs.pipe_core.Pipeable.{TellsDone}
-use Rattle.ehdl_build.specs.ProgramPlan.Suited.{build_of}
-use Rattle.ehdl_build.proofs.ProgramPlan.Lists.{all_by, all_split, all_passed, greatest_above}
+use Rattle.ehdl_build.specs.ProgramPlan.Pipelinable.{build_of}
+use Rattle.ehdl_build.proofs.ProgramPlan.Lists.{all_by, all_passed}
 use Rattle.ehdl_build.proofs.ProgramPlan.Planning.{row_within}
-use Rattle.ehdl_build.proofs.ProgramPlan.Operators.{heavy_of_site, found_is, answer_is, is_found, is_answer, looked}
+use Rattle.ehdl_build.proofs.ProgramPlan.Operators.{heavy_of_site, is_found, is_answer, looked}
 
 -- ---- where the reads of a site are
 
@@ -94,7 +97,7 @@ module _ (decls : List MapDecl) (p : ProgramView) (reads : ReadsAreMade decls p)
     row_is : (c j : ℕ) → c < length p.cells → site_in (cell_at p.cells c).op ≡ Some j → row c ≡ suc (greatest row (cell_at p.cells c).ins)
     row_is c j l e = omega (arith, is.rows.each c l, ap bit (heavy_of_site (cell_at p.cells c).op j e))
 
-    -- a read stands behind the rows of all that it takes
+    -- a read stands after the rows of all that it takes
     takes_below : (c j : ℕ) → c < length p.cells → site_in (cell_at p.cells c).op ≡ Some j
         → All (λ x. row x < row c) ((site_at p.sites j).key ++ take 1 (drop (pointer_operand (site_at p.sites j).act) (site_at p.sites j).operands))
     takes_below c j l e k d lt =

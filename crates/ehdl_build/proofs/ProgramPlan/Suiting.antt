@@ -1,4 +1,4 @@
--- Programs by their plans are suited for the pipe.
+-- Programs by their plans are pipelinable.
 use Rattle.std.proofs.Common.{suc, ◌≤◌, refl, arith}
 use Rattle.hazard_core.specs.cell_core.Sites.{site_at}
 use Rattle.hazard_core.specs.cell_core.Rows.{RowsRise, taken_by}
@@ -6,21 +6,21 @@ use Rattle.hazard_core.specs.cell_core.CellLaws.{HaveValues}
 use Rattle.xdp_object.specs.xdp_machine.State.{PacketIn}
 use Rattle.operator_cells.specs.HeldCells.Reading.{RowsStandBehind}
 use Rattle.hazard_core.specs.Tables.{TableState}
-use Rattle.hazard_core.specs.Held.{Held}
+use Rattle.hazard_core.specs.StageValues.{StageValues}
 use Rattle.pipe_runs.specs.pipe_core.Machine.{Build}
 use Rattle.pipe_runs.specs.pipe_core.Pipeable.{IsOwn, FitsReads}
-use Rattle.ehdl_build.specs.ProgramPlan.Suited.{ProgramsAreSuited, build_of}
+use Rattle.ehdl_build.specs.ProgramPlan.Pipelinable.{ProgramsArePipelinable, build_of}
 use Rattle.ehdl_build.proofs.ProgramPlan.Lists.{all_by}
 use Rattle.ehdl_build.proofs.ProgramPlan.Planning.{read_early, taken_early, commit_within}
 use Rattle.ehdl_build.proofs.ProgramPlan.Reading.{found_at, tells_at, reads_planned}
 use Rattle.ehdl_build.proofs.ProgramPlan.Completing.{IsCompleted, pointer_code, completed}
 use Rattle.ehdl_build.proofs.ProgramPlan.Pathing.{seen, accessed}
 
-pub suited : HaveValues → RowsRise → RowsStandBehind → ProgramsAreSuited
-suited have rise stand g p plan slots law buildable is =
+pub pipelinable : HaveValues → RowsRise → RowsStandBehind → ProgramsArePipelinable
+pipelinable have rise stand g p plan slots law buildable is =
     let b : Build = build_of p plan slots in
     let early = read_early p plan is in
-    let whole : (t : TableState) (packet : PacketIn) (h : Held) → IsOwn b t packet h → FitsReads b h → IsCompleted pointer_code b packet h (suc plan.commit) =
+    let whole : (t : TableState) (packet : PacketIn) (h : StageValues) → IsOwn b t packet h → FitsReads b h → IsCompleted pointer_code b packet h (suc plan.commit) =
     λ t packet h own fits. completed have rise pointer_code (record { none = refl }) b (suc plan.commit) law.computes.formed is.rows t packet h (λ c l low. own c l (omega (arith, low))) fits in
     record {
       rows = record {

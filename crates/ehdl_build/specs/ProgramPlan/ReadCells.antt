@@ -3,7 +3,7 @@ use Rattle.std.specs.Prelude.{ℕ, ◌≡◌, ◌<◌, length}
 use Rattle.hazard_core.specs.cell_core.declared.operator.Operator.TheVariants.{Found, Answer}
 use Rattle.hazard_core.specs.cell_core.Cells.{cell_at}
 use Rattle.hazard_core.specs.cell_core.Sites.{ProgramView, site_at}
-use Rattle.hazard_core.specs.Held.{found_cell, answer_cell}
+use Rattle.hazard_core.specs.StageValues.{found_cell, answer_cell}
 use Rattle.operator_cells.specs.HeldCells.Aligned.{IsAligned}
 use Rattle.operator_cells.specs.HeldCells.Paths.{GraphView}
 use Rattle.operator_cells.specs.HeldCells.Law.{IsLaw}

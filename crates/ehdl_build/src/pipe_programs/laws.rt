@@ -7,7 +7,7 @@ ghost use Rattle.ehdl_build.specs.PipePrograms.Prepared.{ProgramsArePrepared};
 pub fn programs_are_prepared()
     ensures { ProgramsArePrepared }
 {
-    crate::program_plan::laws::suited();
+    crate::program_plan::laws::pipelinable();
     crate::program_plan::laws::reads_first();
     crate::program_plan::laws::accesses_lead();
 }

@@ -1,12 +1,12 @@
 //! What the cells and the plan of a program give to the pipe. Each function's contract is a law; it computes nothing.
 
-ghost use Rattle.ehdl_build.specs.ProgramPlan.Suited.{ProgramsAreSuited};
+ghost use Rattle.ehdl_build.specs.ProgramPlan.Pipelinable.{ProgramsArePipelinable};
 ghost use Rattle.ehdl_build.specs.ProgramPlan.ReadCells.{ReadCellsAreFirst, AccessesAreAligned};
 ghost use Rattle.ehdl_build.specs.ProgramPlan.Leading.{PointersLead, ReadsLead, SitesLead, RecordsLead};
 
-/// Programs whose cells keep the law of cells and can be built, as those of `to_cells` do, are suited for the pipe by their plans, with as many slots as one likes.
-pub fn suited()
-    ensures { ProgramsAreSuited }
+/// Programs whose cells keep the law of cells and can be built, as those of `to_cells` do, are pipelinable by their plans, with as many slots as one likes.
+pub fn pipelinable()
+    ensures { ProgramsArePipelinable }
 {
     hazard_core::cell_core::laws::have_values();
     hazard_core::cell_core::laws::rows_rise();

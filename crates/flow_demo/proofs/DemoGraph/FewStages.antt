@@ -1,4 +1,4 @@
--- A graph of few nodes has few stages: behind each node all rows are at most one greater than before it.
+-- A graph of few nodes has few stages: after each node all rows are at most one greater than before it.
 use Rattle.std.proofs.Common.{◌≡◌, ℕ, zero, suc, ◌+◌, ◌≤◌, ◌<◌, ◌==◌, inl, inr, if◌then◌else◌, Bool, true, false, is_some, Option, Some, None, List, [], ◌∷◌, ◌++◌, length, get_or, map, max, refl, sym, ap, subst, arith}
 use Rattle.std.specs.Prelude.{All, nat_lt}
 use Rattle.std.specs.List.{filter, list_any}
@@ -24,21 +24,22 @@ use Rattle.row_rules.specs.PlaceRows.Reading.{right_of, reads_as, is_heavy}
 use Rattle.row_rules.specs.PlaceRows.Writing.{writes_as, record_as}
 use Rattle.row_rules.proofs.PlaceRows.PlaceLaws.{place_at, count_places, every_low, row_low, span_low, spans_low}
 use Rattle.row_rules.specs.declared.node_rows.joining.Arrival.{Arrival}
-use Rattle.row_rules.specs.declared.node_rows.node.Behind.{Behind}
+use Rattle.row_rules.specs.declared.node_rows.node.AfterNode.{AfterNode}
 use Rattle.row_rules.specs.declared.node_rows.stages.Stages.{Stages}
 use Rattle.row_rules.specs.NodeRows.Joining.{brings, edge_row, brought_row, all_bring, new_origin, met, first_brings, origin_at, origins_at}
 use Rattle.row_rules.specs.NodeRows.Passing.{result_row, undecided_row, leaving_row, written, is_some_place, pending_row, noted, origin_behind, origins_behind, behind, IsLow}
 use Rattle.row_rules.specs.NodeRows.Rows.{point_at, no_behind, insn_of, known_behind, arrival_of, behind_by, behind_node, rows_of, row_of_node, may_write, with_node, HasStages}
-use Rattle.row_rules.proofs.NodeRows.RowsLemmas.{SoFar, more, all_counted}
+use Rattle.row_rules.proofs.NodeRows.RowsLaws.{SoFar, more, all_counted}
+use Rattle.row_rules.proofs.NodeRows.CountLaws.{count_origins}
 
 -- no row exceeds this
-abbrev Low : ℕ → Behind → Type 0
+abbrev Low : ℕ → AfterNode → Type 0
 Low m b = (b.edge ≤ m) × ((i : ℕ) → row_at b.origins.places i ≤ m)
 
 abbrev LowArrival : ℕ → Arrival → Type 0
 LowArrival m a = (a.row ≤ m) × ((i : ℕ) → row_at a.origins.places i ≤ m)
 
-weaker : (m : ℕ) (b : Behind) → Low m b → Low (suc m) b
+weaker : (m : ℕ) (b : AfterNode) → Low m b → Low (suc m) b
 weaker m b low = (omega (arith, low.0), λ i. omega (arith, low.1 i))
 
 bit_small : (b : Bool) → bit b ≤ 1
@@ -95,11 +96,7 @@ module _ (m : ℕ) where
   joined_low [] maker k h = every_low (by_place origin_at_start) m (λ i l. omega (arith, ap row_of (place_at origin_at_start i l), start_low i))
   joined_low (a ∷ es) maker k h = every_low (by_place (origin_at (a ∷ es) maker k)) m (λ i l. omega (arith, ap row_of (place_at (origin_at (a ∷ es) maker k) i l), origin_low (a ∷ es) maker k i h))
 
-count_joined : (es : List Arrival) (maker : ℕ) (k : Kinds) → length (origins_at es maker k) ≡ 348
-count_joined [] maker k = count_places origin_at_start
-count_joined (a ∷ es) maker k = count_places (origin_at (a ∷ es) maker k)
-
--- ---- behind an instruction
+-- ---- after an instruction
 module _ (m : ℕ) (decls : List MapDecl) (k after : Kinds) (i : Insn) (maker guard : ℕ) (os : List (Option Origin)) (count : length os ≡ 348) (every : every_row os ≤ m) (edges : guard ≤ m) where
   result_low : result_row decls k after i os ≤ suc m
   result_low = omega (arith, spans_low os m (reads_as decls k i i.op) count every, bit_small (is_heavy k after i i.op))
@@ -154,22 +151,22 @@ abbrev no_stages : Stages
 no_stages = record { rows = 0; records = 0 }
 
 module _ (p : XdpProgram) (nodes : List Point) (edges : List Edge) where
-  passed_low : (m : ℕ) (passed : List Behind) → All (Low m) passed → (k : ℕ) → Low m (get_or passed k no_behind)
+  passed_low : (m : ℕ) (passed : List AfterNode) → All (Low m) passed → (k : ℕ) → Low m (get_or passed k no_behind)
   passed_low m passed low k = elim (cases_lt k (length passed)) [
     | inl inside ↦ low k no_behind inside
     | inr past ↦ subst (Low m) (sym (get_or_past passed k no_behind past)) (omega arith, λ i. omega arith)
   ]
 
-  arrivals_low : (m : ℕ) (passed : List Behind) → All (Low m) passed → (es : List Edge) → All (LowArrival m) (map (arrival_of p nodes passed) es)
+  arrivals_low : (m : ℕ) (passed : List AfterNode) → All (Low m) passed → (es : List Edge) → All (LowArrival m) (map (arrival_of p nodes passed) es)
   arrivals_low m passed low [] = All-nil (LowArrival m)
   arrivals_low m passed low (e ∷ es) = All-cons (LowArrival m) (arrival_of p nodes passed e) (map (arrival_of p nodes passed) es) (passed_low m passed low e.from) (arrivals_low m passed low es)
 
   by_low : (m n : ℕ) (at : Point) (es : List Arrival) (o : Option Insn) → All (LowArrival m) es → Low (suc m) (behind_by p at n es o) × ((behind_by p at n es o).row ≤ suc m)
   by_low m n at es (Some i) low =
-      behind_low m p.decls at.kinds (known_behind p at n false (Some i)) i (n + 1) (edge_row es) (origins_at es (n + 1) at.kinds) (count_joined es (n + 1) at.kinds) (joined_low m es (n + 1) at.kinds low) (edges_low m es low)
+      behind_low m p.decls at.kinds (known_behind p at n false (Some i)) i (n + 1) (edge_row es) (origins_at es (n + 1) at.kinds) (count_origins es (n + 1) at.kinds) (joined_low m es (n + 1) at.kinds low) (edges_low m es low)
   by_low m n at es None low = ((omega arith, λ i. omega arith), omega arith)
 
-  node_low : (m n : ℕ) (passed : List Behind) → All (Low m) passed → Low (suc m) (behind_node p nodes edges passed n) × ((behind_node p nodes edges passed n).row ≤ suc m)
+  node_low : (m n : ℕ) (passed : List AfterNode) → All (Low m) passed → Low (suc m) (behind_node p nodes edges passed n) × ((behind_node p nodes edges passed n).row ≤ suc m)
   node_low m n passed low = by_low m n (point_at nodes n) _ (insn_of p (point_at nodes n)) (arrivals_low m passed low (filter (λ e. e.to == n) edges))
 
   rows_low : (n : ℕ) → All (Low n) (rows_of p nodes edges n)
@@ -185,13 +182,13 @@ module _ (p : XdpProgram) (nodes : List Point) (edges : List Edge) where
   Begins = (k : ℕ) → k < length nodes → is_some (insn_of p (point_at nodes k)) ≡ true
 
   abbrev Counted : ℕ → Type 0
-  Counted n = (passed : List Behind) × (s : Stages) × SoFar p nodes edges n passed s
+  Counted n = (passed : List AfterNode) × (s : Stages) × SoFar p nodes edges n passed s
 
   next_counted : (n : ℕ) → n < length nodes → n < 256 → Begins → Counted n → Counted (n + 1)
   next_counted n inside few begins (passed, s, far) =
-      let next : Behind = behind_node p nodes edges passed n in
+      let next : AfterNode = behind_node p nodes edges passed n in
       let insn = some_in (insn_of p (point_at nodes n)) (begins n inside) in
-      let row : row_of_node p nodes edges n ≡ next.row = ap (λ (r : List Behind). (behind_node p nodes edges r n).row) (sym far.rows) in (
+      let row : row_of_node p nodes edges n ≡ next.row = ap (λ (r : List AfterNode). (behind_node p nodes edges r n).row) (sym far.rows) in (
         passed ++ next ∷ [],
         with_node s next.row (may_write p (point_at nodes n) (Some insn.0)),
         more p nodes edges n passed s far next refl (omega (arith, row, row_small n, few)) insn.0 (may_write p (point_at nodes n) (Some insn.0)) inside insn.1 refl,

@@ -6,7 +6,7 @@ use Rattle.std.proofs.lemmas.List.Elements.{All-nil}
 use Rattle.bpf_isa.specs.declared.instruction.Insn.{Insn}
 use Rattle.bpf_isa.specs.Spelling.{units_of}
 use Rattle.bpf_isa.specs.Text.{insn_at, unit_count}
-use Rattle.row_rules.specs.kind_core.declared.why.Refusal.{Refusal}
+use Rattle.xdp_state.specs.declared.refusal.Refusal.{Refusal}
 use Rattle.row_rules.specs.unfold_core.declared.nesting.Loop.{Loop}
 use Rattle.row_rules.specs.unfold_core.Jumps.{target_of}
 use Rattle.row_rules.specs.unfold_core.Loops.{IsLoop, RefusesPlace, HasLoops}

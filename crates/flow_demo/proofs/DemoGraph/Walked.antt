@@ -1,16 +1,16 @@
 -- The graph of a program, walked node by node.
 use Rattle.std.proofs.Common.{◌≡◌, ℕ, zero, suc, ◌≤◌, true, is_some, List, [], ◌∷◌, ◌++◌, length, Option, Some, None, Result, Ok, Err, refl, subst}
 use Rattle.xdp_object.specs.xdp_machine.Program.{XdpProgram}
-use Rattle.row_rules.specs.kind_core.declared.why.Why.{Why}
+use Rattle.xdp_state.specs.declared.refusal.Why.{Why}
 use Rattle.row_rules.specs.unfold_core.declared.nesting.Loop.{Loop}
 use Rattle.row_rules.specs.unfold_core.declared.edges.Point.{Point}
 use Rattle.row_rules.specs.unfold_core.Loops.{AreLoops}
 use Rattle.row_rules.specs.unfold_core.Edges.{leaving}
 use Rattle.row_rules.specs.unfold_core.Graphs.{first_point, IsGraph}
 use Rattle.row_rules.specs.unfold_core.Pending.{with_ends}
-use Rattle.row_rules.proofs.unfold_core_laws.Walking.{IsWalk, walk_begins, walk_more, walk_ended}
+use Rattle.row_rules.proofs.unfold_core_laws.WalkingLaws.{IsWalk, walk_begins, walk_more, walk_ended}
 
--- at most so many nodes more, behind those that are done; others are pending
+-- at most so many nodes more, after those that are done; others are pending
 abbrev pub walked : XdpProgram → List Loop → ℕ → List Point → List Point → Option (List Point)
 walked p ls n g [] = Some g
 walked p ls zero g (q ∷ w) = None

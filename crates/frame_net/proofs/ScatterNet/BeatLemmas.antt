@@ -15,13 +15,14 @@ use Rattle.block_core.specs.declared.name.Name.TheVariants as name
 use Rattle.block_core.specs.Blocks.{Whole}
 use Rattle.block_core.specs.Order.{Reads}
 use Rattle.block_core.specs.Formed.{names_scope, block_memories}
+use Rattle.block_core.proofs.list_laws_laws.BoolLaws.{and_is}
 use Rattle.frame_net.specs.declared.held.Kept.{Kept}
 use Rattle.frame_net.specs.Frames.{word_at, bank_bits, banks, bank}
 use Rattle.frame_net.specs.Gather.{held_widths}
 use Rattle.frame_net.specs.GatherNets.{place, register, in_bank}
 use Rattle.frame_net.specs.Sources.{SeesHeld}
 use Rattle.frame_net.proofs.BankLaws.{low_slot, high_slot, bank_within, low_width, in_bank_width}
-use Rattle.frame_net.proofs.FormLaws.{and_is, held_width}
+use Rattle.frame_net.proofs.FormLaws.{held_width}
 use Rattle.frame_net.proofs.ReadLaws.{bank_within_held, held_bank}
 use Rattle.frame_net.specs.ScatterNet.ScatterNets.{at_bank, beat_from}
 

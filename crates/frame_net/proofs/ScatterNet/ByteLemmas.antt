@@ -8,10 +8,10 @@ use Rattle.std.proofs.lemmas.List.{length-take, length-drop, get_or-take, get_or
 use Rattle.std.proofs.lemmas.Grind.{same_number_lists}
 use Rattle.std.proofs.lemmas.Map.Views.{list_any-from_Contains, Contains-from_any}
 use Rattle.std.specs.Cmp.{nat_eq_equiv}
-use Rattle.net_core.specs.list_laws.Bytes.{IsBytes}
-use Rattle.net_core.proofs.list_laws_laws.ByteLaws.{IsBytes-take, IsBytes-drop}
-use Rattle.net_core.specs.beat_core.Words.{low_bytes, word_of}
-use Rattle.net_core.proofs.beat_core_laws.WordLaws.{get_or-low_bytes, length-low_bytes, low_bytes-word_of}
+use Rattle.beat_core.specs.list_laws.Bytes.{IsBytes}
+use Rattle.beat_core.proofs.list_laws_laws.ByteLaws.{IsBytes-take, IsBytes-drop}
+use Rattle.beat_core.specs.Words.{low_bytes, word_of}
+use Rattle.beat_core.proofs.WordLaws.{get_or-low_bytes, length-low_bytes, low_bytes-word_of}
 use Rattle.frame_net.specs.Frames.{beat_of}
 use Rattle.frame_net.specs.Answers.{byte_of}
 use Rattle.frame_net.specs.ScatterNet.ScatterNets.{may_change}

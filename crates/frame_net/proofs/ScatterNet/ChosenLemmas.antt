@@ -3,9 +3,9 @@ use Rattle.std.specs.Prelude.{◌≡◌, ◌≢◌, ℕ, zero, suc, ◌+◌, ◌
 use Rattle.std.proofs.Common.{get_or, refl, sym, ap, ◌∙◌, subst, arith}
 use Rattle.std.proofs.lemmas.Bool.{eqb-true}
 use Rattle.std.proofs.lemmas.Bool.Decides.{nat_tests}
-use Rattle.net_core.specs.list_laws.Bytes.{IsBytes}
-use Rattle.net_core.specs.beat_core.declared.answer.Answer.{Answer}
-use Rattle.net_core.specs.beat_core.Words.{word_of}
+use Rattle.beat_core.specs.list_laws.Bytes.{IsBytes}
+use Rattle.beat_core.specs.declared.answer.Answer.{Answer}
+use Rattle.beat_core.specs.Words.{word_of}
 use Rattle.net_core.specs.declared.tree.Op.TheVariants.{Equal}
 use Rattle.net_core.specs.declared.tree.Word.{Word}
 use Rattle.net_core.specs.Value.{word, bit, Env, value, apply, conditional}
@@ -71,7 +71,7 @@ module _ {P : Type 0} (p exit : P) (bytes : List ℕ) (slot : Name P) (v : Env (
 
   -- ---- one word after another
   module _ (n : ℕ) (counted : n ≡ (beat_of r.frame pos).bytes) (some : 1 ≤ n) (count : v.net (name.Wire p 4) ≡ word 4 n) (left : v.net (name.Wire p 7) ≡ value v (uncounted (net p 4))) (shift : v.net (name.Wire p 8) ≡ value v (in_bits (net p 7))) where
-    -- behind so many words the data is right
+    -- after so many words the data is right
     abbrev IsShown : ℕ → List ℕ → Type 0
     IsShown i ws = v.net (name.Wire p (10 + 3 * (i + length ws))) ≡ word 64 (beat_of r.frame pos).word
 

@@ -17,6 +17,8 @@ use Rattle.block_core.specs.Blocks.{BlockTree, Whole, Among}
 use Rattle.block_core.specs.Parts.{Goes}
 use Rattle.block_core.specs.Order.{Reads, IsBefore, InOrder}
 use Rattle.block_core.specs.Formed.{names_scope, name_width, block_memories, block_registers, block_wires, block_wires_typed, IsTypedBlock}
+use Rattle.block_core.proofs.list_laws_laws.BoolLaws.{and_is}
+use Rattle.block_core.proofs.OrderLaws.{still_before}
 use Rattle.frame_net.specs.declared.held.Kept.{Kept}
 use Rattle.frame_net.specs.Frames.{banks}
 use Rattle.frame_net.proofs.BankLaws.{banks_few}
@@ -24,7 +26,7 @@ use Rattle.frame_net.specs.Gather.{held_widths}
 use Rattle.frame_net.specs.GatherNets.{wide, register, net, constant, uncounted, in_bits, masked, next_position}
 use Rattle.frame_net.specs.SourcesNets.{held}
 use Rattle.frame_net.specs.Answers.{word_widths, answer_widths}
-use Rattle.frame_net.proofs.FormLaws.{and_is, one_is, same_is, wire_is, held_width, still_before}
+use Rattle.frame_net.proofs.FormLaws.{one_is, same_is, wire_is, held_width}
 use Rattle.frame_net.proofs.ScatterNet.BeatLemmas.{beat_width, beat_reads}
 use Rattle.frame_net.specs.ScatterNet.ScatterNets.{beat_from, may_change, byte_name, merged, choice, word_wires, scatter_wires, scatter_block}
 

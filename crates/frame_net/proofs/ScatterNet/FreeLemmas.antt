@@ -5,9 +5,9 @@ use Rattle.std.proofs.Common.{refl}
 use Rattle.net_core.specs.ProductRules.Products.{is_flat}
 use Rattle.block_core.specs.ProductBlocks.Alone.{wire_flat, IsFree}
 use Rattle.block_core.specs.declared.name.Name.{Name}
+use Rattle.block_core.proofs.list_laws_laws.BoolLaws.{and_is}
 use Rattle.frame_net.specs.declared.held.Kept.{Kept}
 use Rattle.frame_net.specs.Frames.{banks}
-use Rattle.frame_net.proofs.FormLaws.{and_is}
 use Rattle.frame_net.specs.ScatterNet.ScatterNets.{beat_from, word_wires, scatter_block}
 
 module _ {P : Type 0} (p gather exit : P) (bits : ℕ) (kept : List Kept) (bytes : List ℕ) (slot : Name P) (made : Name P → Bool) where

@@ -3,12 +3,12 @@ use Rattle.std.specs.Prelude.{ℕ, ◌-◌, ◌/◌, ◌^◌, ◌<◌, ◌≤◌
 use Rattle.std.proofs.Common.{get_or, refl, arith}
 use Rattle.block_core.specs.declared.name.Name.{Name}
 use Rattle.block_core.specs.declared.name.Name.TheVariants as name
+use Rattle.block_core.proofs.list_laws_laws.BoolLaws.{and_is}
 use Rattle.frame_net.specs.declared.held.Kept.{Kept}
 use Rattle.frame_net.specs.ScatterNet.Scatter.{IsScatter}
 use Rattle.frame_net.specs.ScatterNet.ScatterNets.{scatter_block}
 use Rattle.frame_net.specs.Frames.{banks}
 use Rattle.frame_net.proofs.BankLaws.{few_banks}
-use Rattle.frame_net.proofs.FormLaws.{and_is}
 use Rattle.frame_net.proofs.ScatterNet.BeatLemmas.{beat_spelled}
 use Rattle.frame_net.proofs.ScatterNet.FormLemmas.{widths_are, is_typed, in_order, words_spelled, words_go}
 use Rattle.frame_net.proofs.ScatterNet.ShownLemmas.{shows_beat, moves}

@@ -3,11 +3,11 @@ use Rattle.std.specs.Prelude.{◌≡◌, ◌≢◌, ℕ, ◌+◌, ◌-◌, ◌*�
 use Rattle.std.proofs.Common.{get_or, refl, sym, ap, ◌∙◌, subst, arith}
 use Rattle.std.proofs.lemmas.Bool.{le-leb}
 use Rattle.std.proofs.lemmas.Bool.Decides.{nat_tests}
-use Rattle.std.proofs.lemmas.List.{length-drop, length-map}
-use Rattle.net_core.specs.beat_core.declared.answer.Answer.{Answer}
-use Rattle.net_core.specs.beat_core.declared.frame.TheConstants.{BEAT_LIMIT}
-use Rattle.net_core.specs.beat_core.Beats.{beat_count}
-use Rattle.net_core.specs.beat_core.Ports.{Arrival}
+use Rattle.std.proofs.lemmas.List.{length-drop}
+use Rattle.beat_core.specs.declared.answer.Answer.{Answer}
+use Rattle.beat_core.specs.declared.frame.TheConstants.{BEAT_LIMIT}
+use Rattle.beat_core.specs.Beats.{beat_count}
+use Rattle.beat_core.specs.Ports.{Arrival}
 use Rattle.net_core.specs.declared.tree.Op.TheVariants.{Add, Equal}
 use Rattle.net_core.specs.declared.tree.Word.{Word}
 use Rattle.net_core.specs.Nets.{TRead}
@@ -19,7 +19,7 @@ use Rattle.block_core.specs.Parts.{Solve}
 use Rattle.frame_net.specs.declared.held.Kept.{Kept}
 use Rattle.frame_net.specs.Frames.{banks, beat_of, last_of, word_at, HoldsFrame}
 use Rattle.frame_net.specs.SourcesNets.{held}
-use Rattle.frame_net.specs.Answers.{byte_of, word_widths, answer_widths, HoldsAnswer, Changes}
+use Rattle.frame_net.specs.Answers.{byte_of, HoldsAnswer, Changes}
 use Rattle.frame_net.proofs.BankLaws.{bank_within}
 use Rattle.frame_net.proofs.BitLaws.{on, off, next_is}
 use Rattle.frame_net.proofs.ReadLaws.{held_word, held_here, count_held}
@@ -27,6 +27,7 @@ use Rattle.frame_net.specs.ScatterNet.Scatter.{last_name, at_position, position_
 use Rattle.frame_net.specs.ScatterNet.ScatterNets.{scatter_wires, scatter_statement}
 use Rattle.frame_net.proofs.ScatterNet.BeatLemmas.{beat_is}
 use Rattle.frame_net.proofs.ScatterNet.ChosenLemmas.{IsAnswered, raw_right, chosen}
+use Rattle.frame_net.proofs.AnswerLaws.{count_answers}
 
 -- ---- which beat is the last, and how many bytes it has
 is_last : (xs : List ℕ) (pos : ℕ) → pos < beat_count (length xs) → (pos == last_of xs) ≡ (beat_of xs pos).last
@@ -51,9 +52,6 @@ bytes_are xs ys pos s h false e =
 
 some_bytes : (xs : List ℕ) (pos : ℕ) → pos < beat_count (length xs) → 1 ≤ (beat_of xs pos).bytes
 some_bytes xs pos h = let n = length-drop (8 * pos) xs in omega (arith, n)
-
-count_answers : (bits : ℕ) (words : List ℕ) → length (answer_widths bits words) ≡ 2 + length words
-count_answers bits words = let n = length-map words (word_widths bits) in omega (arith, n)
 
 -- ---- a clock in which a beat is shown
 module _ {P : Type 0} (p gather exit : P) (bits : ℕ) (some : 1 ≤ bits) (kept : List Kept) (words bytes : List ℕ) (slot : Name P) (covered : (b : ℕ) → Contains bytes b → Contains words (b / 8)) (v : Env (Name P)) (ms es : List (List Word)) (pos at : ℕ) (a : Arrival) (r : Answer)

@@ -2,10 +2,10 @@
 use Rattle.std.specs.Prelude.{◌≡◌, ℕ, suc, ◌+◌, ◌*◌, ◌<◌, Bool, if◌then◌else◌, List, [], ◌∷◌, length, replicate, IsTrue}
 use Rattle.std.specs.List.{list_all}
 use Rattle.std.proofs.Common.{get_or}
-use Rattle.net_core.specs.beat_core.declared.answer.Answer.{Answer}
-use Rattle.net_core.specs.beat_core.declared.frame.TheConstants.{BEAT_LIMIT}
-use Rattle.net_core.specs.beat_core.Beats.{beat_count}
-use Rattle.net_core.specs.beat_core.Ports.{Arrival}
+use Rattle.beat_core.specs.declared.answer.Answer.{Answer}
+use Rattle.beat_core.specs.declared.frame.TheConstants.{BEAT_LIMIT}
+use Rattle.beat_core.specs.Beats.{beat_count}
+use Rattle.beat_core.specs.Ports.{Arrival}
 use Rattle.net_core.specs.declared.tree.Word.{Word}
 use Rattle.net_core.specs.Ports.{port_list}
 use Rattle.net_core.specs.Value.{word, bit, Env}
@@ -38,7 +38,7 @@ verdict_name p = name.Wire p 5
 abbrev pub target_name : {P : Type 0} → P → Name P
 target_name p = name.Wire p 6
 
--- behind three wires for each of so many words that have bytes that may change
+-- after three wires for each of so many words that have bytes that may change
 abbrev pub data_name : {P : Type 0} → P → ℕ → Name P
 data_name p words = name.Wire p (10 + 3 * words)
 

@@ -44,7 +44,7 @@ one_word p exit slot bytes i w =
     ∷ wire 64 (choice p w (net p (11 + 3 * i)) (net p (9 + 3 * i)))
     ∷ []
 
--- behind them the data: what is chosen, with 0 in place of the bytes past the end
+-- after them the data: what is chosen, with 0 in place of the bytes past the end
 abbrev pub word_wires : {P : Type 0} → P → P → Name P → List ℕ → ℕ → List ℕ → List (BlockWireTree (Name P))
 word_wires p exit slot bytes i [] = wire 64 (masked (net p (9 + 3 * i)) (net p 8)) ∷ []
 word_wires p exit slot bytes i (w ∷ ws) = one_word p exit slot bytes i w ++ word_wires p exit slot bytes (suc i) ws

@@ -15,8 +15,8 @@ use Rattle.cell_nets.specs.Operands.{number_in, IsOperand, IsAvailable}
 use Rattle.cell_nets.specs.Parts.{IsPart, IsSlice, Computes}
 use Rattle.cell_nets.specs.Wires.{Gives, always}
 use Rattle.cell_nets.proofs.PartLaws.{part_small}
-use Rattle.cell_nets.proofs.PartLemmas.{part_same, part_of, part_computes, const_slice, conditional_part}
-use Rattle.cell_nets.proofs.GiveLemmas.{gives_as, gives_then, known_gives}
+use Rattle.cell_nets.proofs.ExpressionPartLaws.{part_same, part_of, part_computes, const_slice, conditional_part}
+use Rattle.cell_nets.proofs.GiveLaws.{gives_as, gives_then, known_gives}
 use Rattle.hash_net.specs.declared.slot_net.choosing.Numbering.{Numbering}
 use Rattle.hash_net.specs.declared.slot_net.choosing.Numbering.TheVariants.{Pointers, Slots}
 use Rattle.hash_net.specs.SlotNet.Choosing.{number_at, passes, chosen, first_passed, choice_tree, AreTests}
@@ -92,7 +92,7 @@ all_chosen all left first bits numbering rest t count many few none h args ins h
     part_same ins 60 bits _ _ t (λ v f. (λ i. first_passed numbering (λ n. hit n v) (bits_from (number_in v rest) 0 bits) (z i) (k i))) (part_of ins _ 60 bits _ t t (omega arith) refl (h.part args ins hit a there r))
 
 -- ---- cut into wires
--- Of some tests the first are left, and behind the wires stands an operand for the choice among the others.
+-- Of some tests the first are left, and after the wires stands an operand for the choice among the others.
 pub record IsChain {P : Type 0} (p : P) (old new : List (BlockWireTree (Name P))) (all left : List (Tree (Name P))) (bits : ℕ) (numbering : Numbering) (none : ℕ) (rest : Operand (Name P)) : Type 0 where
   pub fewer : length left ≤ length all
   pub operand : IsOperand rest

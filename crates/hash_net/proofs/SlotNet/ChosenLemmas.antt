@@ -3,7 +3,7 @@ use Rattle.std.specs.Prelude.{nat_lt, if◌then◌else◌, not}
 use Rattle.std.specs.List.{position_or_len}
 use Rattle.std.proofs.Common.{◌≡◌, ◌⊎◌, inl, inr, ℕ, zero, suc, ◌+◌, ◌%◌, ◌^◌, ◌<◌, ◌≤◌, Bool, true, false, List, length, get_or, refl, sym, ◌∙◌, ap, arith, div-one}
 use Rattle.std.proofs.lemmas.Bool.{cases_lt, lt-ltb, le-ltb}
-use Rattle.std.proofs.lemmas.List.Sums.{fails_before_first, prefix_len_stops, prefix_len-le-length}
+use Rattle.std.proofs.lemmas.List.Sums.{fails_before_first, prefix_len_stops}
 use Rattle.overlay_net.specs.cell_core.Cells.{bits_from}
 use Rattle.hash_net.specs.SlotNet.Choosing.{chosen}
 
@@ -48,9 +48,6 @@ module _ (number : ℕ → ℕ) (hit : ℕ → Bool) (none : ℕ) where
 turned : (b : Bool) → not b ≡ false → b ≡ true
 turned true e = refl
 turned false e = sym e
-
-pub position_most : {X : Type 0} (p : X → Bool) (xs : List X) → position_or_len p xs ≤ length xs
-position_most p xs = prefix_len-le-length (λ x. not (p x)) xs
 
 -- by the elements of a list that pass a test: the first of them, where there is one
 pub chosen_first :

@@ -20,11 +20,12 @@ use Rattle.overlay_net.specs.xdp_maps.Contents.{IsBytes, IsWithinLimits, limits_
 use Rattle.array_net.proofs.xdp_maps_laws.ByteLaws.{IsBytes-little_bytes}
 use Rattle.overlay_net.specs.cell_core.Cells.{bits_from}
 use Rattle.overlay_net.specs.cell_core.Sites.{bytes_of}
+use Rattle.cell_nets.proofs.cell_core_laws.SpelledLaws.{bytes_are}
 use Rattle.overlay_net.specs.hazard_core.declared.slot.Slot.{Slot}
 use Rattle.overlay_net.specs.hazard_core.Tables.{slot_at, no_slot, has_key, slot_of}
 use Rattle.overlay_net.specs.hazard_core.Tabled.{IsTable, IsFilledTable}
 use Rattle.overlay_net.specs.hazard_core.declared.pointer.Pointer.TheVariants.{InSlot, Null}
-use Rattle.overlay_net.specs.hazard_core.Held.{slot_pointer}
+use Rattle.overlay_net.specs.hazard_core.StageValues.{slot_pointer}
 use Rattle.overlay_net.specs.hazard_core.Commits.{word_at}
 use Rattle.overlay_net.specs.SiteOperands.Pointers.{pointer_number}
 use Rattle.cell_nets.specs.declared.operand.Operand.{Operand}
@@ -33,7 +34,7 @@ use Rattle.cell_nets.specs.Operands.{number_in}
 use Rattle.hash_net.specs.SlotNet.Slots.{HoldsKey}
 use Rattle.hash_net.specs.SlotNet.Choosing.{operand_at, indexed_pointer}
 use Rattle.hash_net.proofs.SlotNet.ChosenLemmas.{from_zero}
-use Rattle.hash_net.proofs.SlotNet.WordLemmas.{same_words, bytes_are, word_of_words}
+use Rattle.hash_net.proofs.SlotNet.WordLemmas.{same_words, word_of_words}
 
 -- ---- the key of an index: its only word
 index_bytes : (i : ℕ) → IsBytes 4 (index_key i)
@@ -52,9 +53,6 @@ one_index i k a b e =
 
 limits_are : (d : MapDecl) → d.kind ≡ Array → IsWithinLimits d → (d.key ≡ 4) × (d.cap ≤ 65536)
 limits_are d is l = subst (λ k. limits_as k d) is l.by_kind
-
-first_only : (j : ℕ) → j < 1 → j ≡ 0
-first_only j l = omega arith
 
 -- the bytes of a key are those of the index in its low bits
 key_is : {N : Type 0} (v : Env N) (d : MapDecl) (keys : List (Operand N)) (key : List ℕ) → d.key ≡ 4 → 1 ≤ length keys → HoldsKey v d keys key → key ≡ index_key (number_in v (operand_at keys 0) % 2 ^ 32)

@@ -9,7 +9,7 @@ use Rattle.overlay_net.specs.cell_core.Cells.{bit, bits_from}
 use Rattle.cell_nets.specs.declared.operand.Operand.{Operand}
 use Rattle.cell_nets.specs.Operands.{number_in}
 use Rattle.cell_nets.specs.Parts.{IsPart, IsSlice}
-use Rattle.cell_nets.proofs.PartLemmas.{part_same, part_of, const_slice, binary_part, beside_slice, conditional_part, test_is}
+use Rattle.cell_nets.proofs.ExpressionPartLaws.{part_same, part_of, const_slice, binary_part, beside_slice, conditional_part, test_is}
 use Rattle.hash_net.specs.SlotNet.Choosing.{indexed_pointer}
 use Rattle.hash_net.proofs.SlotNet.ChainLemmas.{picked}
 

@@ -3,7 +3,7 @@ use Rattle.std.specs.Prelude.{nat_le, ◌&&◌, map as map_list}
 use Rattle.std.specs.List.{list_all, range_with_len}
 use Rattle.std.proofs.Common.{◌≡◌, ◌⊎◌, inl, inr, ℕ, zero, suc, ◌+◌, ◌*◌, ◌/◌, ◌%◌, ◌^◌, ◌<◌, ◌≤◌, Bool, true, false, All, List, [], ◌∷◌, ◌++◌, length, get_or, refl, sym, ◌∙◌, ap, subst, arith}
 use Rattle.std.proofs.lemmas.Bool.{lt-ltb, le-leb, cases_lt}
-use Rattle.std.proofs.lemmas.List.{length-map, length-replicate, get_or_append_left, map-append}
+use Rattle.std.proofs.lemmas.List.{length-map, length-replicate, get_or_append_left}
 use Rattle.std.proofs.lemmas.List.Elements.{All-contains, All-nil, All-cons, All-append, All-from_get_or}
 use Rattle.std.proofs.lemmas.List.FromFn.{map-range_with_len_more, get_or-map-range_with_len, length-map-range_with_len}
 use Rattle.std.proofs.lemmas.Nat.{div_below, mod_below, div-mul-add, mod-mul-add}
@@ -21,6 +21,7 @@ use Rattle.block_core.specs.Blocks.{BlockWireTree, Whole}
 use Rattle.block_core.specs.Parts.{Solve, Goes}
 use Rattle.block_core.specs.Order.{RightReads, IsBefore, InOrder}
 use Rattle.block_core.specs.Formed.{names_scope, name_width, block_memories, block_wires, block_wire_width, block_wires_typed, IsTypedBlock}
+use Rattle.block_core.proofs.list_laws_laws.BoolLaws.{and_is}
 use Rattle.overlay_net.specs.xdp_maps.declared.decl.MapDecl.{MapDecl}
 use Rattle.overlay_net.specs.cell_core.Cells.{bit as cell_bit}
 use Rattle.overlay_net.specs.hazard_core.declared.slot.Slot.{Slot}
@@ -28,7 +29,7 @@ use Rattle.overlay_net.specs.hazard_core.Tables.{slot_at}
 use Rattle.overlay_net.specs.hazard_core.Commits.{word_count}
 use Rattle.frame_net.specs.Frames.{word_at}
 use Rattle.frame_net.specs.GatherNets.{constant}
-use Rattle.frame_net.proofs.FormLaws.{and_is, wire_is, held_width}
+use Rattle.frame_net.proofs.FormLaws.{wire_is, held_width}
 use Rattle.array_net.specs.Words.{word_width}
 use Rattle.array_net.specs.WordTrees.{word_memories}
 use Rattle.array_net.proofs.WordLaws.{width_some, width_most}
@@ -44,9 +45,6 @@ use Rattle.hash_net.specs.SlotNet.Shown.{per_slot, wire_count, shown_width, show
 -- ---- loops over numbers
 pub pushed : {X : Type 0} (f : ℕ → X) (all new : List X) (y : X) (i : ℕ) → new ≡ all ++ y ∷ [] → y ≡ f i → all ≡ map_list f (range_with_len 0 i) → new ≡ map_list f (range_with_len 0 (i + 1))
 pushed f all new y i n e h = n ∙ (λ j. h j ++ e j ∷ []) ∙ sym (map-range_with_len_more f 0 i i (omega arith))
-
-pub pushed_as : {X Y : Type 0} (g : Y → X) (f : ℕ → X) (all new : List Y) (y : Y) (i : ℕ) → new ≡ all ++ y ∷ [] → g y ≡ f i → map_list g all ≡ map_list f (range_with_len 0 i) → map_list g new ≡ map_list f (range_with_len 0 (i + 1))
-pushed_as g f all new y i n e h = pushed f (map_list g all) (map_list g new) (g y) i (ap (map_list g) n ∙ map-append g all (y ∷ [])) e h
 
 -- ---- wires by their numbers
 module _ {N : Type 0} (f : ℕ → BlockWireTree N) where

@@ -3,6 +3,7 @@ use Rattle.std.specs.Prelude.{◌==◌, ◌&&◌, bit_and, max}
 use Rattle.std.proofs.Common.{◌≡◌, ◌⊎◌, inl, inr, ℕ, zero, suc, ◌+◌, ◌<◌, ◌≤◌, Bool, true, false, All, List, [], ◌∷◌, ◌++◌, length, length-append, take, drop, get_or, refl, sym, ◌∙◌, ap, subst, arith}
 use Rattle.std.proofs.lemmas.Bool.{cases_lt}
 use Rattle.std.proofs.lemmas.List.{get_or-map, get_or_default, length-map, get_or-take, get_or-drop, get_or_append_left, get_or-append-add, length-take-le, length-drop}
+use Rattle.block_core.proofs.list_laws_laws.AllLaws.{all_left, all_right}
 use Rattle.net_core.specs.Nets.{Tree, TBinary}
 use Rattle.net_core.specs.Value.{Env}
 use Rattle.net_core.specs.declared.tree.Op.TheVariants.{And, Equal}
@@ -11,7 +12,7 @@ use Rattle.cell_nets.specs.declared.operand.Operand.{Operand}
 use Rattle.cell_nets.specs.declared.operand.Operand.TheVariants.{Known}
 use Rattle.cell_nets.specs.Operands.{IsAvailable}
 use Rattle.cell_nets.specs.Parts.{IsPart, IsSlice}
-use Rattle.cell_nets.proofs.PartLemmas.{part_same, part_of, binary_part, same_is, test_is}
+use Rattle.cell_nets.proofs.ExpressionPartLaws.{part_same, part_of, binary_part, same_is, test_is}
 use Rattle.array_net.specs.Words.{word_width}
 use Rattle.hash_net.specs.declared.slot_net.slots.SlotNets.{SlotNets}
 use Rattle.hash_net.specs.SlotNet.Slots.{SlotOperands, slot_operands, slots_of, slot_past, all_of, operands_of}
@@ -76,12 +77,6 @@ module _ {N : Type 0} (args : List (Operand N)) (hit : ℕ → Env N → Bool) w
   }
 
 -- ---- operands of one slot among those of all
-all_left : {X : Type 0} (Q : X → Type 0) (xs ys : List X) → All Q (xs ++ ys) → All Q xs
-all_left Q xs ys h k d l = subst Q (get_or_append_left xs ys d k l) (h k d (omega (arith, length-append xs ys)))
-
-all_right : {X : Type 0} (Q : X → Type 0) (xs ys : List X) → All Q (xs ++ ys) → All Q ys
-all_right Q xs ys h k d l = subst Q (get_or-append-add xs ys k d) (h (length xs + k) d (omega (arith, length-append xs ys)))
-
 pub of_slot : {N : Type 0} (Q : Operand N → Type 0) (ns : List (SlotOperands N)) (n : ℕ) (d : SlotOperands N) → n < length ns → All Q (operands_of ns) → All Q (all_of (get_or ns n d))
 of_slot Q [] n d l h = absurd (omega arith)
 of_slot Q (x ∷ ns) zero d l h = all_left Q (all_of x) (operands_of ns) h

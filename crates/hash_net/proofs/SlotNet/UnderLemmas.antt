@@ -9,14 +9,16 @@ use Rattle.std.proofs.lemmas.Bool.Decides.{Decides-at, Decides-eqb, same_from_de
 use Rattle.std.proofs.lemmas.List.{length-map}
 use Rattle.std.specs.Bool.{Decides}
 use Rattle.std.proofs.lemmas.Slice.Eq.{bytes_eq-Decides}
+use Rattle.block_core.proofs.list_laws_laws.PositionLaws.{position_within}
 use Rattle.net_core.specs.Value.{Env}
 use Rattle.overlay_net.specs.xdp_maps.declared.decl.MapDecl.{MapDecl}
 use Rattle.overlay_net.specs.xdp_maps.Contents.{IsBytes}
 use Rattle.overlay_net.specs.cell_core.Cells.{bit, on, bits_from}
+use Rattle.cell_nets.proofs.cell_core_laws.SpelledLaws.{bytes_are}
 use Rattle.overlay_net.specs.hazard_core.declared.slot.Slot.{Slot}
 use Rattle.overlay_net.specs.hazard_core.Tables.{slot_at, no_slot, has_key, slot_of, free_slot}
 use Rattle.overlay_net.specs.hazard_core.declared.pointer.Pointer.TheVariants.{InSlot, Null}
-use Rattle.overlay_net.specs.hazard_core.Held.{slot_pointer}
+use Rattle.overlay_net.specs.hazard_core.StageValues.{slot_pointer}
 use Rattle.overlay_net.specs.hazard_core.Commits.{word_count, word_at}
 use Rattle.array_net.specs.Words.{word_width}
 use Rattle.overlay_net.specs.SiteOperands.Pointers.{pointer_number}
@@ -26,8 +28,8 @@ use Rattle.cell_nets.specs.Operands.{number_in}
 use Rattle.hash_net.specs.declared.slot_net.choosing.Numbering.TheVariants.{Pointers, Slots}
 use Rattle.hash_net.specs.SlotNet.Slots.{SlotOperands, slot_past, ShowsSlot, ShowSlots, HoldsKey, HaveKeys}
 use Rattle.hash_net.specs.SlotNet.Choosing.{number_at, chosen, operand_at, same_bits, is_under, is_used, first_passed}
-use Rattle.hash_net.proofs.SlotNet.ChosenLemmas.{from_zero, chosen_first, first_or_all, position_most}
-use Rattle.hash_net.proofs.SlotNet.WordLemmas.{word_small, same_words, bytes_are, word_of_words}
+use Rattle.hash_net.proofs.SlotNet.ChosenLemmas.{from_zero, chosen_first, first_or_all}
+use Rattle.hash_net.proofs.SlotNet.WordLemmas.{word_small, same_words, word_of_words}
 
 on_bit : (b : Bool) → on (bit b) ≡ b
 on_bit true = refl
@@ -107,4 +109,4 @@ first_free v d table ns count many shows =
     let same : count ≡ length table = sym (shows.count ∙ many) in
     chosen_first (number_at Slots) (λ n. not (is_used v (get_or ns n slot_past))) count (λ s. not s.used) no_slot table count (sym same) (λ n l. free_is v d (slot_at table n) (get_or ns n slot_past) (shows.each n slot_past (omega arith)))
     ∙ ap (λ k. if nat_lt (free_slot table) (length table) then free_slot table else k) same
-    ∙ first_or_all (free_slot table) (length table) (position_most (λ s. not s.used) table)
+    ∙ first_or_all (free_slot table) (length table) (position_within (λ s. not s.used) table)

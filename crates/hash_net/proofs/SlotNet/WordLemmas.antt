@@ -4,16 +4,16 @@ use Rattle.std.proofs.Common.{◌≡◌, ◌⊎◌, inl, inr, ℕ, zero, suc, �
 use Rattle.std.proofs.Math.Nat.{pow-suc}
 use Rattle.std.proofs.Math.Seq.{drop-append-add}
 use Rattle.std.proofs.lemmas.Bool.{cases_lt}
-use Rattle.std.proofs.lemmas.List.{drop-take, take-append-le, length-drop, length-take-le, get_or-drop, get_or_past, ext_get_or}
-use Rattle.std.proofs.lemmas.List.Elements.{All-nil, All-append, All-take, All-get_or}
+use Rattle.std.proofs.lemmas.List.{drop-take, take-append-le, length-drop, get_or-drop, get_or_past, ext_get_or}
+use Rattle.std.proofs.lemmas.List.Elements.{All-get_or}
 use Rattle.byteorder.specs.Endian.{little_from, little_bytes}
 use Rattle.byteorder.specs.Numbers.{little_from-take, little_from-bytes, length-bytes_low_first}
 use Rattle.byteorder.proofs.Bytes.{take-bytes_low_first, pow256}
 use Rattle.overlay_net.specs.xdp_maps.Contents.{IsBytes}
-use Rattle.array_net.proofs.xdp_maps_laws.ByteLaws.{IsBytes-little_bytes}
 use Rattle.overlay_net.specs.cell_core.Sites.{spelled, bytes_of}
-use Rattle.cell_nets.proofs.cell_core_laws.SpelledLaws.{spelled_length}
+use Rattle.cell_nets.proofs.cell_core_laws.SpelledLaws.{bytes_are}
 use Rattle.overlay_net.specs.hazard_core.Commits.{word_count, word_at}
+use Rattle.overlay_net.proofs.xdp_maps_laws.LittleLaws.{beyond}
 use Rattle.array_net.specs.Words.{word_width}
 
 byte_small : (xs : List ℕ) → All (λ b. b < 256) xs → (k : ℕ) → slice_index xs k < 256
@@ -22,15 +22,6 @@ byte_small xs h k = by_order (cases_lt k (length xs))
     by_order : (k < length xs) ⊎ (length xs ≤ k) → slice_index xs k < 256
     by_order (inl some) = All-get_or (λ b. b < 256) xs k 0 some h
     by_order (inr past) = let e : slice_index xs k ≡ 0 = get_or_past xs k 0 past in omega (arith, e)
-
--- past the end stand zeros
-beyond : (n i m : ℕ) (xs : List ℕ) → m ≤ n → length xs ≤ i + m → little_from i n xs ≡ little_from i m xs
-beyond zero i zero xs l h = refl
-beyond zero i (suc m) xs l h = absurd (omega arith)
-beyond (suc n) i zero xs l h =
-    let past : slice_index xs i ≡ 0 = get_or_past xs i 0 (omega arith) in
-    ap (λ x. x + 256 * little_from (suc i) n xs) past ∙ ap (λ x. 0 + 256 * x) (beyond n (suc i) zero xs (omega arith) (omega arith))
-beyond (suc n) i (suc m) xs l h = ap (λ x. slice_index xs i + 256 * x) (beyond n (suc i) m xs (omega arith) (omega arith))
 
 number_small : (n i : ℕ) (xs : List ℕ) → All (λ b. b < 256) xs → little_from i n xs < 256 ^ n
 number_small zero i xs h = omega arith
@@ -98,12 +89,6 @@ same_words n xs ys h g e = ext_get_or 0 xs ys (h.len ∙ sym g.len) one
         ∙ ap (λ k. get_or ys k 0) there
 
 -- ---- byte strings of words
-spelled_bytes : (words : List ℕ) → All (λ b. b < 256) (spelled words)
-spelled_bytes [] = All-nil (λ b. b < 256)
-spelled_bytes (x ∷ words) = All-append (λ b. b < 256) (little_bytes 8 x) (spelled words) (IsBytes-little_bytes 8 x).bytes_fit (spelled_bytes words)
-
-pub bytes_are : (n : ℕ) (words : List ℕ) → n ≤ 8 * length words → IsBytes n (bytes_of n words)
-bytes_are n words l = record { len = length-take-le n (spelled words) (omega (arith, l, spelled_length words)); bytes_fit = All-take (λ b. b < 256) n (spelled words) (spelled_bytes words) }
 
 spelled_from : (words : List ℕ) (j : ℕ) → j < length words → (rest : List ℕ) × (drop (8 * j) (spelled words) ≡ little_bytes 8 (slice_index words j) ++ rest)
 spelled_from [] j l = absurd (omega arith)

@@ -25,7 +25,7 @@ use Rattle.cell_nets.specs.declared.operand.Operand.TheVariants.{Net}
 use Rattle.cell_nets.specs.Operands.{AreDeclared}
 use Rattle.hash_net.specs.SlotNet.Slots.{SlotOperands, operands_of, ShowSlots}
 
--- ---- its wires: for each slot one with its used bit, and behind it the words of its key, as the memories of a hash have them
+-- ---- its wires: for each slot one with its used bit, and after it the words of its key, as the memories of a hash have them
 abbrev pub per_slot : MapDecl → ℕ
 per_slot d = word_count d.key + 1
 

@@ -3,7 +3,7 @@
 ghost use Rattle.std.specs.Prelude.{ℕ, List, ◌≡◌, ◌+◌, ◌*◌, ◌^◌, ◌<◌, ◌≤◌, ◌++◌, All, length, IfOk};
 ghost use Rattle.overlay_net.specs.hazard_core.declared.slot.Slot.{Slot};
 ghost use Rattle.overlay_net.specs.hazard_core.Commits.{word_count};
-ghost use Rattle.overlay_net.specs.hazard_core.Held.{slot_pointer};
+ghost use Rattle.overlay_net.specs.hazard_core.StageValues.{slot_pointer};
 ghost use Rattle.overlay_net.specs.hazard_core.Tables.{free_slot};
 ghost use Rattle.overlay_net.specs.xdp_maps.declared.decl.MapDecl.{MapDecl};
 ghost use Rattle.overlay_net.specs.SiteOperands.Pointers.{pointer_number};

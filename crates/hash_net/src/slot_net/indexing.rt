@@ -3,7 +3,7 @@
 ghost use Rattle.std.specs.Prelude.{ℕ, List, ◌≡◌, ◌+◌, ◌*◌, ◌^◌, ◌<◌, ◌≤◌, All, length, IfOk};
 ghost use Rattle.net_core.specs.View.{tree_of};
 ghost use Rattle.overlay_net.specs.hazard_core.declared.slot.Slot.{Slot};
-ghost use Rattle.overlay_net.specs.hazard_core.Held.{slot_pointer};
+ghost use Rattle.overlay_net.specs.hazard_core.StageValues.{slot_pointer};
 ghost use Rattle.overlay_net.specs.hazard_core.Tabled.{IsTable};
 ghost use Rattle.overlay_net.specs.xdp_maps.Contents.{IsWithinLimits};
 ghost use Rattle.overlay_net.specs.xdp_maps.declared.decl.MapKind.TheVariants.{Array};

@@ -16,7 +16,7 @@ use Rattle.cell_core.specs.Rows.{numbers}
 use Rattle.hazard_core.specs.Tables.{TableState, decl_of, table_at, slot_of}
 use Rattle.hazard_core.specs.declared.pointer.Pointer.{Pointer}
 use Rattle.hazard_core.specs.declared.pointer.Pointer.TheVariants.{Null, InSlot, Pending}
-use Rattle.hazard_core.specs.Held.{Held, is_null, is_update, pointer_in, found_cell, asked, asked_key, writes, slot_pointer, written_as, written_pointer, parts, is_pending, pending}
+use Rattle.hazard_core.specs.StageValues.{StageValues, is_null, is_update, pointer_in, found_cell, asked, asked_key, writes, slot_pointer, written_as, written_pointer, parts, is_pending, pending}
 use Rattle.hazard_core.specs.Overlay.{found_as, found_over, key_pointer_as, key_pointer, looks, found_pointer}
 use Rattle.hazard_core.specs.HeldRows.Pointing.{flag_at}
 use Rattle.hazard_core.specs.HeldRows.Fits.{IsMadeBefore}
@@ -36,7 +36,7 @@ fold_keeps P f test (x ∷ xs) z h step = by (test x) refl (λ w q. fold_keeps P
     by true e more = more (f z x) (step z x e h)
     by false e more = more z h
 
-module _ (p : ProgramView) (row : ℕ → ℕ) (flags : List Bool) (most r : ℕ) (t : TableState) (h : Held) where
+module _ (p : ProgramView) (row : ℕ → ℕ) (flags : List Bool) (most r : ℕ) (t : TableState) (h : StageValues) where
   abbrev Fine : Bool → Pointer → Type 0
   Fine flag q = Points p t.decls row most r flag q
 

@@ -15,7 +15,7 @@ use Rattle.cell_core.specs.Sites.{ProgramView}
 use Rattle.hazard_core.specs.Tables.{TableState, table_at}
 use Rattle.hazard_core.specs.declared.pointer.Pointer.{Pointer}
 use Rattle.hazard_core.specs.declared.pointer.Pointer.TheVariants.{Null, InSlot, Pending}
-use Rattle.hazard_core.specs.Held.{Held, held_value, pointer_in, with_cell, pending, parts}
+use Rattle.hazard_core.specs.StageValues.{StageValues, stage_value, pointer_in, with_cell, pending, parts}
 use Rattle.hazard_core.specs.Overlay.{found_pointer}
 use Rattle.hazard_core.specs.Rows.{phi_pointer, cell_number, cell_pointer, with_made, made_from, with_row}
 use Rattle.hazard_core.specs.HeldRows.Pointing.{flag_at, ArePointing}
@@ -73,24 +73,24 @@ module _ (p : ProgramView) (row : ℕ → ℕ) (flags : List Bool) (most r : ℕ
   abbrev Fine : Bool → Pointer → Type 0
   Fine flag q = Points p t.decls row most r flag q
 
-  record Good (h : Held) : Type 0 where
+  record Good (h : StageValues) : Type 0 where
     values : length h.values ≡ length p.cells
     pointers : length h.pointers ≡ length p.cells
     points : (c : ℕ) → Fine (flag_at flags c) (pointer_in h c)
-    widths : (c : ℕ) → held_value h c < 2 ^ (cell_at p.cells c).width
+    widths : (c : ℕ) → stage_value h c < 2 ^ (cell_at p.cells c).width
 
   -- a join has a pointer of one of its inputs
-  join_fine : (h : Held) → Good h → (flag : Bool) (xs : List ℕ) → ((n : ℕ) → 2 * n + 1 < length xs → flag_at flags (slice_index xs (2 * n + 1)) ≡ true → flag ≡ true) → Fine flag (phi_pointer h xs)
+  join_fine : (h : StageValues) → Good h → (flag : Bool) (xs : List ℕ) → ((n : ℕ) → 2 * n + 1 < length xs → flag_at flags (slice_index xs (2 * n + 1)) ≡ true → flag ≡ true) → Fine flag (phi_pointer h xs)
   join_fine h good flag [] up = tt
   join_fine h good flag (e ∷ []) up = tt
   join_fine h good flag (e ∷ x ∷ []) up = raise p row flags most r t h (flag_at flags x) flag (pointer_in h x) (up 0 (omega arith)) (good.points x)
   join_fine h good flag (e ∷ x ∷ d ∷ more) up =
-      either p row flags most r t h flag (on (held_value h e)) (pointer_in h x) (phi_pointer h (d ∷ more))
+      either p row flags most r t h flag (on (stage_value h e)) (pointer_in h x) (phi_pointer h (d ∷ more))
       (raise p row flags most r t h (flag_at flags x) flag (pointer_in h x) (up 0 (omega arith)) (good.points x))
       (join_fine h good flag (d ∷ more) (λ n l f. let s : suc (suc (2 * n + 1)) ≡ 2 * suc n + 1 = omega arith in
       up (suc n) (omega (arith, l)) (subst (λ i. flag_at flags (slice_index (e ∷ x ∷ d ∷ more) i) ≡ true) s f)))
 
-  cell_fine : (h : Held) → Good h → (k : ℕ) → k < length p.cells → Fine (flag_at flags k) (cell_pointer p row r t h (cell_at p.cells k) (cell_at p.cells k).op)
+  cell_fine : (h : StageValues) → Good h → (k : ℕ) → k < length p.cells → Fine (flag_at flags k) (cell_pointer p row r t h (cell_at p.cells k) (cell_at p.cells k).op)
   cell_fine h good k l = by (cell_at p.cells k).op refl
     where
       c : CellView
@@ -102,7 +102,7 @@ module _ (p : ProgramView) (row : ℕ → ℕ) (flags : List Bool) (most r : ℕ
       by Phi e = join_fine h good (flag_at flags k) c.ins (λ n m f. pointing.phi k n l e m f)
       by op e = tt
 
-  set_good : (h : Held) (k n : ℕ) (q : Pointer) (c : CellView) → c ≡ cell_at p.cells k → Fine (flag_at flags k) q → Good h → Good (with_cell h k (bits_from n c.from c.width) q)
+  set_good : (h : StageValues) (k n : ℕ) (q : Pointer) (c : CellView) → c ≡ cell_at p.cells k → Fine (flag_at flags k) q → Good h → Good (with_cell h k (bits_from n c.from c.width) q)
   set_good h k n q c e fine good = record {
     values = length-set h.values k (bits_from n c.from c.width) ∙ good.values;
     pointers = length-set h.pointers k q ∙ good.pointers;
@@ -112,7 +112,7 @@ module _ (p : ProgramView) (row : ℕ → ℕ) (flags : List Bool) (most r : ℕ
         set_holds (λ i x. x < 2 ^ (cell_at p.cells i).width) 0 h.values k (bits_from n c.from c.width) (subst (λ (v : CellView). bits_from n c.from c.width < 2 ^ v.width) e l) good.widths;
   }
 
-  all_good : (k : ℕ) (cs : List CellView) (h : Held) → ((i : ℕ) → i < length cs → get_or cs i no_cell ≡ cell_at p.cells (k + i)) → k + length cs ≡ length p.cells → Good h → Good (made_from p row r t packet k cs h)
+  all_good : (k : ℕ) (cs : List CellView) (h : StageValues) → ((i : ℕ) → i < length cs → get_or cs i no_cell ≡ cell_at p.cells (k + i)) → k + length cs ≡ length p.cells → Good h → Good (made_from p row r t packet k cs h)
   all_good k [] h e n good = good
   all_good k (c ∷ cs) h e n good =
       all_good (suc k) cs (with_made p row r t packet h k c) (λ i l. e (suc i) (omega (arith, l)) ∙ ap (cell_at p.cells) (omega arith)) (omega (arith, n)) (by (row k == r))
@@ -126,11 +126,11 @@ module _ (p : ProgramView) (row : ℕ → ℕ) (flags : List Bool) (most r : ℕ
           (subst (λ (v : CellView). Fine (flag_at flags k) (cell_pointer p row r t h v v.op)) (sym is) (cell_fine h good k (omega (arith, n)))) good
       by false = good
 
-  row_good : (h : Held) → Good h → Good (with_row p row r t packet h)
+  row_good : (h : StageValues) → Good h → Good (with_row p row r t packet h)
   unfolding with_row
   row_good h good = all_good 0 p.cells h (λ i l. ap (cell_at p.cells) (omega arith)) (omega arith) good
 
-  row_fits : (h : Held) → FitsRows p t.decls row flags most r h → FitsRows p t.decls row flags most (suc r) (with_row p row r t packet h)
+  row_fits : (h : StageValues) → FitsRows p t.decls row flags most r h → FitsRows p t.decls row flags most (suc r) (with_row p row r t packet h)
   row_fits h f = record {
     values = good.values;
     pointers = good.pointers;
@@ -146,7 +146,7 @@ module _ (p : ProgramView) (row : ℕ → ℕ) (flags : List Bool) (most r : ℕ
     widths = good.widths;
   }
     where
-      g : Held
+      g : StageValues
       g = with_row p row r t packet h
 
       good : Good g

@@ -1,25 +1,23 @@
 -- The cells of a row, one after another.
 use Rattle.std.proofs.Common.{◌≡◌, ◌≢◌, ℕ, zero, suc, ◌+◌, ◌<◌, ◌≤◌, ◌⊎◌, inl, inr, Bool, true, false, List, [], ◌∷◌, Some, length, get_or, drop, refl, sym, ap, ◌∙◌, subst, arith, not, length-set, get_or-set_other, get_or-set_same}
-use Rattle.std.specs.Prelude.{if◌then◌else◌, ◌==◌, map as map_list, All}
+use Rattle.std.specs.Prelude.{if◌then◌else◌, ◌==◌, All}
 use Rattle.std.proofs.lemmas.Bool.Decides.{Decides-eqb}
 use Rattle.std.proofs.lemmas.Bool.{cases_lt}
+use Rattle.list_laws.proofs.ListLaws.{map_alike}
 use Rattle.cell_core.specs.xdp_machine.State.{PacketIn}
 use Rattle.cell_core.specs.declared.operator.Operator.{Operator}
 use Rattle.cell_core.specs.declared.operator.Operator.TheVariants.{Found, Answer, Wire, Phi}
-use Rattle.cell_core.specs.Cells.{CellView, cell_at, site_in, number, bits_from, bit, on}
+use Rattle.cell_core.specs.Cells.{CellView, cell_at, site_in, number, bits_from, bit}
 use Rattle.cell_core.specs.Formed.{takes}
 use Rattle.cell_core.specs.Sites.{ProgramView, site_at}
 use Rattle.hazard_core.specs.Tables.{TableState}
 use Rattle.hazard_core.specs.declared.pointer.Pointer.{Pointer}
 use Rattle.hazard_core.specs.declared.pointer.Pointer.TheVariants.{Null}
-use Rattle.hazard_core.specs.Held.{Held, is_null, held_value, pointer_in, with_cell}
-use Rattle.hazard_core.specs.Rows.{phi_pointer, cell_number, cell_pointer, with_made, made_from, with_row}
+use Rattle.hazard_core.specs.StageValues.{StageValues, is_null, stage_value, pointer_in, with_cell}
+use Rattle.hazard_core.specs.Rows.{cell_number, cell_pointer, with_made, made_from, with_row}
 use Rattle.hazard_core.specs.Keeping.{SameCell, AreAlike, LooksBelow, ReadsKeep}
 use Rattle.hazard_core.specs.HeldRows.Made.{AreLaid, IsCellMade, RowIsMade, RowKeeps}
-
-map_alike : (v w : ℕ → ℕ) (xs : List ℕ) → All (λ i. v i ≡ w i) xs → map_list v xs ≡ map_list w xs
-map_alike v w [] h = refl
-map_alike v w (x ∷ xs) h = ap (λ y. y ∷ map_list v xs) (h 0 x (omega arith)) ∙ ap (λ ys. w x ∷ ys) (map_alike v w xs (λ k d l. h (suc k) d (omega arith)))
+use Rattle.hazard_core.proofs.HeldLaws.{phi_same, same_trans}
 
 -- the next of the cells that are left
 next_cell : (k : ℕ) (xs : List CellView) (c : CellView) (cs : List CellView) → drop k xs ≡ c ∷ cs → (cell_at xs k ≡ c) × (drop (suc k) xs ≡ cs)
@@ -28,40 +26,28 @@ next_cell zero (x ∷ xs) c cs e = (cc, cc)
 next_cell (suc k) [] c cs e = cc
 next_cell (suc k) (x ∷ xs) c cs e = next_cell k xs c cs e
 
-same_trans : (h g f : Held) (c : ℕ) → SameCell h g c → SameCell g f c → SameCell h f c
-same_trans h g f c a b = record { value = a.value ∙ b.value; pointer = a.pointer ∙ b.pointer }
-
-phi_same : (h g : Held) (xs : List ℕ) → All (λ i. SameCell h g i) xs → phi_pointer h xs ≡ phi_pointer g xs
-phi_same h g [] a = refl
-phi_same h g (e ∷ []) a = refl
-phi_same h g (e ∷ x ∷ []) a = (a 1 x (omega arith)).pointer
-phi_same h g (e ∷ x ∷ d ∷ more) a =
-    ap (λ (n : ℕ). if on n then pointer_in h x else phi_pointer h (d ∷ more)) (a 0 e (omega arith)).value
-    ∙ ap (λ (q : Pointer). if on (held_value g e) then q else phi_pointer h (d ∷ more)) (a 1 x (omega arith)).pointer
-    ∙ ap (λ (q : Pointer). if on (held_value g e) then pointer_in g x else q) (phi_same h g (d ∷ more) (λ i y l. a (suc (suc i)) y (omega arith)))
-
 module _ (p : ProgramView) (row : ℕ → ℕ) (r : ℕ) (t : TableState) (packet : PacketIn) where
-  record MadeSame (h g : Held) (c : CellView) (op : Operator) : Type 0 where
+  record MadeSame (h g : StageValues) (c : CellView) (op : Operator) : Type 0 where
     number : cell_number p row r t packet h c op ≡ cell_number p row r t packet g c op
     pointer : cell_pointer p row r t h c op ≡ cell_pointer p row r t g c op
 
   -- a cell is made the same from the same inputs
-  made_same : (keep : ReadsKeep) (h g : Held) (c : CellView) (op : Operator) → AreAlike p row r h g → All (λ i. SameCell h g i) c.ins → takes op ≤ length c.ins
+  made_same : (keep : ReadsKeep) (h g : StageValues) (c : CellView) (op : Operator) → AreAlike p row r h g → All (λ i. SameCell h g i) c.ins → takes op ≤ length c.ins
       → ((j : ℕ) → site_in op ≡ Some j → LooksBelow row r (site_at p.sites j)) → MadeSame h g c op
   made_same keep h g c (Found j) alike ins enough below =
       let k = keep p row r j t h g alike (below j refl) in
       record { number = ap (λ (q : Pointer). bit (not (is_null q))) k.0; pointer = k.0 }
   made_same keep h g c (Answer j) alike ins enough below = record { number = (keep p row r j t h g alike (below j refl)).1; pointer = refl }
   made_same keep h g c Wire alike ins enough below = record {
-    number = ap (λ (xs : List ℕ). number packet Wire xs) (map_alike (held_value h) (held_value g) c.ins (λ i d l. (ins i d l).value));
+    number = ap (λ (xs : List ℕ). number packet Wire xs) (map_alike (stage_value h) (stage_value g) c.ins (λ i d l. (ins i d l).value));
     pointer = (ins 0 0 (omega (arith, enough))).pointer;
   }
   made_same keep h g c Phi alike ins enough below = record {
-    number = ap (λ (xs : List ℕ). number packet Phi xs) (map_alike (held_value h) (held_value g) c.ins (λ i d l. (ins i d l).value));
+    number = ap (λ (xs : List ℕ). number packet Phi xs) (map_alike (stage_value h) (stage_value g) c.ins (λ i d l. (ins i d l).value));
     pointer = phi_same h g c.ins ins;
   }
   made_same keep h g c op alike ins enough below = record {
-    number = ap (λ (xs : List ℕ). number packet op xs) (map_alike (held_value h) (held_value g) c.ins (λ i d l. (ins i d l).value));
+    number = ap (λ (xs : List ℕ). number packet op xs) (map_alike (stage_value h) (stage_value g) c.ins (λ i d l. (ins i d l).value));
     pointer = refl;
   }
 
@@ -69,7 +55,7 @@ module _ (p : ProgramView) (row : ℕ → ℕ) (r : ℕ) (t : TableState) (packe
   abbrev Apart : ℕ → ℕ → Type 0
   Apart k c = (i : ℕ) → k ≤ i → i < length p.cells → row i ≡ r → c ≢ i
 
-  one_keeps : (h : Held) (k : ℕ) (d : CellView) (c : ℕ) → (row k ≡ r → c ≢ k) → SameCell h (with_made p row r t packet h k d) c
+  one_keeps : (h : StageValues) (k : ℕ) (d : CellView) (c : ℕ) → (row k ≡ r → c ≢ k) → SameCell h (with_made p row r t packet h k d) c
   one_keeps h k d c apart = by (row k == r) refl
     where
       x : ℕ
@@ -84,17 +70,17 @@ module _ (p : ProgramView) (row : ℕ → ℕ) (r : ℕ) (t : TableState) (packe
           record { value = sym (get_or-set_other h.values k c x 0 other); pointer = sym (get_or-set_other h.pointers k c q Null other) }
       by false here = record { value = refl; pointer = refl }
 
-  rest_keeps : (k : ℕ) (cs : List CellView) (h : Held) → k + length cs ≡ length p.cells → (c : ℕ) → Apart k c → SameCell h (made_from p row r t packet k cs h) c
+  rest_keeps : (k : ℕ) (cs : List CellView) (h : StageValues) → k + length cs ≡ length p.cells → (c : ℕ) → Apart k c → SameCell h (made_from p row r t packet k cs h) c
   rest_keeps k [] h n c apart = record { value = refl; pointer = refl }
   rest_keeps k (d ∷ cs) h n c apart =
       let g = with_made p row r t packet h k d in
       same_trans h g (made_from p row r t packet (suc k) cs g) c (one_keeps h k d c (apart k (omega arith) (omega (arith, n)))) (rest_keeps (suc k) cs g (omega (arith, n)) c (λ i l. apart i (omega arith)))
 
-  record Counts (h : Held) : Type 0 where
+  record Counts (h : StageValues) : Type 0 where
     values : length h.values ≡ length p.cells
     pointers : length h.pointers ≡ length p.cells
 
-  one_counts : (h : Held) (k : ℕ) (d : CellView) → Counts h → Counts (with_made p row r t packet h k d)
+  one_counts : (h : StageValues) (k : ℕ) (d : CellView) → Counts h → Counts (with_made p row r t packet h k d)
   one_counts h k d n = by (row k == r)
     where
       x : ℕ
@@ -107,8 +93,8 @@ module _ (p : ProgramView) (row : ℕ → ℕ) (r : ℕ) (t : TableState) (packe
       by true = record { values = length-set h.values k x ∙ n.values; pointers = length-set h.pointers k q ∙ n.pointers }
       by false = n
 
-  -- the next cell, made in the row: what is made behind it leaves it and all that it takes
-  next_made : (keep : ReadsKeep) → AreLaid p row → (k : ℕ) (d : CellView) (cs : List CellView) (h : Held) → cell_at p.cells k ≡ d → k + length (d ∷ cs) ≡ length p.cells → Counts h → row k ≡ r
+  -- the next cell, made in the row: what is made after it leaves it and all that it takes
+  next_made : (keep : ReadsKeep) → AreLaid p row → (k : ℕ) (d : CellView) (cs : List CellView) (h : StageValues) → cell_at p.cells k ≡ d → k + length (d ∷ cs) ≡ length p.cells → Counts h → row k ≡ r
       → IsCellMade p row r t packet (made_from p row r t packet k (d ∷ cs) h) k
   next_made keep laid k d cs h e n counts here = record {
     value =
@@ -129,14 +115,14 @@ module _ (p : ProgramView) (row : ℕ → ℕ) (r : ℕ) (t : TableState) (packe
       q : Pointer
       q = cell_pointer p row r t h d d.op
 
-      f : Held
+      f : StageValues
       f = with_made p row r t packet h k d
 
-      g : Held
+      g : StageValues
       g = made_from p row r t packet k (d ∷ cs) h
 
-      set : (held_value f k ≡ x) × (pointer_in f k ≡ q)
-      set = subst (λ (b : Bool). (held_value (if b then with_cell h k x q else h) k ≡ x) × (pointer_in (if b then with_cell h k x q else h) k ≡ q)) (sym ((Decides-eqb (row k) r).1 here))
+      set : (stage_value f k ≡ x) × (pointer_in f k ≡ q)
+      set = subst (λ (b : Bool). (stage_value (if b then with_cell h k x q else h) k ≡ x) × (pointer_in (if b then with_cell h k x q else h) k ≡ q)) (sym ((Decides-eqb (row k) r).1 here))
           (get_or-set_same h.values k x 0 (omega (arith, in_range, counts.values)), get_or-set_same h.pointers k q Null (omega (arith, in_range, counts.pointers)))
 
       after : SameCell f g k
@@ -153,7 +139,7 @@ module _ (p : ProgramView) (row : ℕ → ℕ) (r : ℕ) (t : TableState) (packe
       same = made_same keep h g c c.op alike (λ i y l. rest_keeps k (d ∷ cs) h n (get_or c.ins i y) (λ j m s w o. let before = formed i y l in omega (arith, before, m, o)))
           (laid.formed.each k in_range).enough (λ j s. subst (λ m. LooksBelow row m (site_at p.sites j)) here (laid.below k j in_range s))
 
-  all_made : (keep : ReadsKeep) → AreLaid p row → (k : ℕ) (cs : List CellView) (h : Held) → drop k p.cells ≡ cs → k + length cs ≡ length p.cells → Counts h
+  all_made : (keep : ReadsKeep) → AreLaid p row → (k : ℕ) (cs : List CellView) (h : StageValues) → drop k p.cells ≡ cs → k + length cs ≡ length p.cells → Counts h
       → (c : ℕ) → k ≤ c → c < length p.cells → row c ≡ r → IsCellMade p row r t packet (made_from p row r t packet k cs h) c
   all_made keep laid k [] h e n counts c from l here = absurd (omega (arith, n))
   all_made keep laid k (d ∷ cs) h e n counts c from l here =

@@ -19,10 +19,11 @@ use Rattle.cell_core.specs.Rows.{numbers}
 use Rattle.hazard_core.specs.declared.pointer.Pointer.{Pointer}
 use Rattle.hazard_core.specs.declared.pointer.Pointer.TheVariants.{Null, InSlot, Pending}
 use Rattle.hazard_core.specs.Tables.{TableState, decl_of, table_at, slot_of}
-use Rattle.hazard_core.specs.Held.{Held, is_found_of, found_cell, pointer_in, with_cell, is_null, update_pointer, slot_pointer, written_as, written_pointer, asked, asked_key, writes, is_pending, pending, is_update, is_delete}
+use Rattle.hazard_core.specs.StageValues.{StageValues, is_found_of, found_cell, pointer_in, with_cell, is_null, update_pointer, slot_pointer, written_as, written_pointer, asked, asked_key, writes, is_pending, pending, is_update, is_delete}
 use Rattle.hazard_core.specs.Overlay.{found_as, found_over, looks, key_pointer_as, key_pointer, found_pointer}
 use Rattle.hazard_core.specs.Rows.{cell_number, cell_pointer, with_made, made_from, with_row}
 use Rattle.hazard_core.specs.TableLaws.Leading.{LeadsInto, FoundsLead, BeginsLead, RowsLead, ChangesLead, WritesLead}
+use Rattle.hazard_core.proofs.HeldLaws.{found_is}
 
 null_leads : (p : ProgramView) (t : TableState) (m : ℕ) → LeadsInto p t m Null
 null_leads p t m = record { slot = λ n e. absurd (cc); made = λ i e. absurd (cc) }
@@ -37,11 +38,7 @@ slot_leads p t m key = by (nat_lt n (length (table_at t m))) refl
     by false e = null_leads p t m
     by true e = record { slot = λ k is. let same : n ≡ k = cc in subst (λ i. i < length (table_at t m)) same (ltb-true n (length (table_at t m)) e); made = λ i is. absurd (cc) }
 
-found_is : (j : ℕ) (op : Operator) → is_found_of j op ≡ true → op ≡ Found j
-found_is j (Found i) e = ap Found (eqb-true i j e)
-found_is j op e = cc
-
-module _ (p : ProgramView) (t : TableState) (h : Held) (leads : FoundsLead p t h) where
+module _ (p : ProgramView) (t : TableState) (h : StageValues) (leads : FoundsLead p t h) where
   own_leads : (i : ℕ) → LeadsInto p t (site_at p.sites i).map (pointer_in h (found_cell p.cells i))
   own_leads i = elim (cases_lt (found_cell p.cells i) (length p.cells)) [
     | inl l ↦ leads.each (found_cell p.cells i) i l (found_is i (cell_at p.cells (found_cell p.cells i)).op (passes_at_first (λ c. is_found_of i c.op) p.cells no_cell l))
@@ -110,10 +107,10 @@ pending_map p row r j k d l =
 -- ---- along a row
 
 module _ (p : ProgramView) (row : ℕ → ℕ) (r : ℕ) (t : TableState) (packet : PacketIn) where
-  cell_leads : (h : Held) → FoundsLead p t h → (c : CellView) (op : Operator) (j : ℕ) → op ≡ Found j → LeadsInto p t (site_at p.sites j).map (cell_pointer p row r t h c op)
+  cell_leads : (h : StageValues) → FoundsLead p t h → (c : CellView) (op : Operator) (j : ℕ) → op ≡ Found j → LeadsInto p t (site_at p.sites j).map (cell_pointer p row r t h c op)
   cell_leads h leads c op j e = subst (λ (x : Operator). LeadsInto p t (site_at p.sites j).map (cell_pointer p row r t h c x)) (sym e) (found_leads p t h leads j (pending p row r j) (pending_map p row r j))
 
-  made_leads : (h : Held) (k : ℕ) (c : CellView) → c ≡ cell_at p.cells k → FoundsLead p t h → FoundsLead p t (with_made p row r t packet h k c)
+  made_leads : (h : StageValues) (k : ℕ) (c : CellView) → c ≡ cell_at p.cells k → FoundsLead p t h → FoundsLead p t (with_made p row r t packet h k c)
   made_leads h k c is leads = by (row k == r)
     where
       x : Pointer
@@ -137,7 +134,7 @@ module _ (p : ProgramView) (row : ℕ → ℕ) (r : ℕ) (t : TableState) (packe
   abbrev AreFrom : ℕ → List CellView → Type 0
   AreFrom k cs = (i : ℕ) → i < length cs → cell_at cs i ≡ cell_at p.cells (k + i)
 
-  from_leads : (cs : List CellView) (k : ℕ) (h : Held) → AreFrom k cs → FoundsLead p t h → FoundsLead p t (made_from p row r t packet k cs h)
+  from_leads : (cs : List CellView) (k : ℕ) (h : StageValues) → AreFrom k cs → FoundsLead p t h → FoundsLead p t (made_from p row r t packet k cs h)
   from_leads [] k h are leads = leads
   from_leads (c ∷ cs) k h are leads =
       from_leads cs (suc k) (with_made p row r t packet h k c) (λ i l. are (suc i) (omega (arith, l)) ∙ ap (λ (n : ℕ). cell_at p.cells n) (omega arith))

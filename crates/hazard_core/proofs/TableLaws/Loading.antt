@@ -30,7 +30,7 @@ empty_bytes d zero i l = absurd (omega arith)
 empty_bytes d (suc n) zero l = record { key = zero_bytes d.key; value = zero_bytes d.value }
 empty_bytes d (suc n) (suc i) l = empty_bytes d n i (omega arith)
 
--- pairs of bytes, and unused slots behind them
+-- pairs of bytes, and unused slots after them
 hash_at : (d : MapDecl) (n : ℕ) (es : Pairs) → ((i : ℕ) (key value : List ℕ) → slice_get es i ≡ Some (key, value) → IsBytes d.key key × IsBytes d.value value) → (i : ℕ) → i < length es + n
     → HasBytes d (slot_at (map_list pair_slot es ++ replicate n (empty_slot d)) i)
 hash_at d n [] pairs i l = empty_bytes d n i (omega arith)

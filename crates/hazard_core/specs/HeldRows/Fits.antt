@@ -9,7 +9,7 @@ use Rattle.cell_core.specs.Cells.{cell_at}
 use Rattle.cell_core.specs.Sites.{ProgramView, site_at}
 use Rattle.hazard_core.specs.Tables.{TableState, decl_of, table_at}
 use Rattle.hazard_core.specs.declared.pointer.Pointer.TheVariants.{Null, InSlot, Pending}
-use Rattle.hazard_core.specs.Held.{Held, held_value, pointer_in, is_update, parts}
+use Rattle.hazard_core.specs.StageValues.{StageValues, stage_value, pointer_in, is_update, parts}
 use Rattle.hazard_core.specs.Rows.{with_row, nothing_held}
 use Rattle.hazard_core.specs.HeldRows.Pointing.{flag_at, ArePointing}
 
@@ -22,14 +22,14 @@ pub record IsMadeBefore (p : ProgramView) (decls : List MapDecl) (row : ℕ → 
 
 -- What a packet holds that has the rows below r: of later rows nothing, a pointer only of a cell that is flagged, no slot from the number
 -- `most` on, and values of their widths.
-pub record FitsRows (p : ProgramView) (decls : List MapDecl) (row : ℕ → ℕ) (flags : List Bool) (most r : ℕ) (h : Held) : Type 0 where
+pub record FitsRows (p : ProgramView) (decls : List MapDecl) (row : ℕ → ℕ) (flags : List Bool) (most r : ℕ) (h : StageValues) : Type 0 where
   pub values : length h.values ≡ length p.cells
   pub pointers : length h.pointers ≡ length p.cells
-  pub later : (c : ℕ) → r ≤ row c → (held_value h c ≡ 0) × (pointer_in h c ≡ Null)
+  pub later : (c : ℕ) → r ≤ row c → (stage_value h c ≡ 0) × (pointer_in h c ≡ Null)
   pub plain : (c : ℕ) → flag_at flags c ≡ false → pointer_in h c ≡ Null
   pub slots : (c n : ℕ) → pointer_in h c ≡ InSlot n → n < most
   pub pending : (c i : ℕ) → pointer_in h c ≡ Pending i → IsMadeBefore p decls row r i
-  pub widths : (c : ℕ) → held_value h c < 2 ^ (cell_at p.cells c).width
+  pub widths : (c : ℕ) → stage_value h c < 2 ^ (cell_at p.cells c).width
 
 -- A packet that has taken in no row fits.
 abbrev pub BeginsFit : Type 0
@@ -38,10 +38,10 @@ BeginsFit = (p : ProgramView) (decls : List MapDecl) (row : ℕ → ℕ) (flags 
 -- One that fits does with a row more, whatever the tables hold, if they have no more slots.
 abbrev pub RowsFit : Type 0
 RowsFit =
-    (p : ProgramView) (decls : List MapDecl) (row : ℕ → ℕ) (flags : List Bool) (most r : ℕ) (t : TableState) (packet : PacketIn) (h : Held) → ArePointing p.cells flags → t.decls ≡ decls
+    (p : ProgramView) (decls : List MapDecl) (row : ℕ → ℕ) (flags : List Bool) (most r : ℕ) (t : TableState) (packet : PacketIn) (h : StageValues) → ArePointing p.cells flags → t.decls ≡ decls
     → ((m : ℕ) → length (table_at t m) ≤ most) → FitsRows p decls row flags most r h → FitsRows p decls row flags most (suc r) (with_row p row r t packet h)
 
 -- It fits where there are more slots.
 abbrev pub MoreFit : Type 0
 MoreFit =
-    (p : ProgramView) (decls : List MapDecl) (row : ℕ → ℕ) (flags : List Bool) (most more r : ℕ) (h : Held) → most ≤ more → FitsRows p decls row flags most r h → FitsRows p decls row flags more r h
+    (p : ProgramView) (decls : List MapDecl) (row : ℕ → ℕ) (flags : List Bool) (most more r : ℕ) (h : StageValues) → most ≤ more → FitsRows p decls row flags most r h → FitsRows p decls row flags more r h

@@ -8,7 +8,7 @@ use Rattle.cell_core.specs.Sites.{ProgramView, site_at}
 use Rattle.hazard_core.specs.declared.slot.Slot.{Slot}
 use Rattle.hazard_core.specs.Tables.{TableState, decl_of, table_at, slot_at, tables_of}
 use Rattle.hazard_core.specs.Shaped.{AreShaped}
-use Rattle.hazard_core.specs.Held.{Held}
+use Rattle.hazard_core.specs.StageValues.{StageValues}
 use Rattle.hazard_core.specs.declared.access.Access.{Access}
 use Rattle.hazard_core.specs.Commits.{committed, host_written}
 
@@ -26,7 +26,7 @@ LoadsBytes = (maps : MapState) → IsSound maps → HoldBytes (tables_of maps)
 
 -- The site fits its map; the packet may hold anything, and the slot that it writes need not be there.
 abbrev pub CommitKeepsBytes : Type 0
-CommitKeepsBytes = (p : ProgramView) (t : TableState) (taken : List ℕ) (h : Held) (j : ℕ) → FitsMap t.decls (site_at p.sites j) → HoldBytes t → HoldBytes (committed p t taken h j)
+CommitKeepsBytes = (p : ProgramView) (t : TableState) (taken : List ℕ) (h : StageValues) (j : ℕ) → FitsMap t.decls (site_at p.sites j) → HoldBytes t → HoldBytes (committed p t taken h j)
 
 -- The access may name a word or none.
 abbrev pub HostKeepsBytes : Type 0

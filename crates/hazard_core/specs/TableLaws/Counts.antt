@@ -2,7 +2,7 @@
 use Rattle.std.specs.Prelude.{◌≡◌, ℕ, List, length}
 use Rattle.cell_core.specs.Sites.{ProgramView}
 use Rattle.hazard_core.specs.Tables.{TableState, table_at}
-use Rattle.hazard_core.specs.Held.{Held}
+use Rattle.hazard_core.specs.StageValues.{StageValues}
 use Rattle.hazard_core.specs.declared.access.Access.{Access}
 use Rattle.hazard_core.specs.Commits.{committed, host_written}
 
@@ -12,7 +12,7 @@ pub record HaveSameSlots (t u : TableState) : Type 0 where
   pub slots : (m : ℕ) → length (table_at u m) ≡ length (table_at t m)
 
 abbrev pub CommitKeepsSlots : Type 0
-CommitKeepsSlots = (p : ProgramView) (t : TableState) (taken : List ℕ) (h : Held) (j : ℕ) → HaveSameSlots t (committed p t taken h j)
+CommitKeepsSlots = (p : ProgramView) (t : TableState) (taken : List ℕ) (h : StageValues) (j : ℕ) → HaveSameSlots t (committed p t taken h j)
 
 abbrev pub HostKeepsSlots : Type 0
 HostKeepsSlots = (t : TableState) (a : Access) (n : ℕ) → HaveSameSlots t (host_written t a n)

@@ -5,7 +5,7 @@ use Rattle.net_core.specs.declared.ports.Inputs.{Inputs}
 use Rattle.net_core.specs.Nets.{Netlist}
 use Rattle.net_core.specs.Clock.{Stored, first_stored, after}
 use Rattle.net_core.specs.Ports.{words_of}
-use Rattle.net_core.specs.History.{NeverStops, stored_after}
+use Rattle.net_core.specs.Trace.{NeverStops, stored_after}
 use Rattle.net_core.specs.SameClocks.Same.{reached, ShowTheSame, Follows}
 use Rattle.net_core.specs.SameClocks.Laws.{DesignsShowTheirOwn, SameInTurn, SameNeverStops, FollowersShowTheSame}
 

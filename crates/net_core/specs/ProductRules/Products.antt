@@ -105,5 +105,5 @@ always_flat ws [] = true
 always_flat ws (a ∷ rest) = statement_flat (made_by_product ws) a && always_flat ws rest
 
 -- the bound on products, of a whole design
-abbrev pub products_apart : Netlist → Bool
-products_apart d = let ws = wire_products [] d.wires in wires_flat [] d.wires && (assigns_flat ws d.assigns && always_flat ws d.always)
+abbrev pub no_product_chains : Netlist → Bool
+no_product_chains d = let ws = wire_products [] d.wires in wires_flat [] d.wires && (assigns_flat ws d.assigns && always_flat ws d.always)

@@ -3,7 +3,7 @@ use Rattle.std.specs.Prelude.{List}
 use Rattle.net_core.specs.declared.ports.Inputs.{Inputs}
 use Rattle.net_core.specs.Nets.{Netlist}
 use Rattle.net_core.specs.Clock.{Stored, first_stored}
-use Rattle.net_core.specs.History.{NeverStops}
+use Rattle.net_core.specs.Trace.{NeverStops}
 use Rattle.net_core.specs.SameClocks.Same.{ShowTheSame, Follows}
 
 abbrev pub DesignsShowTheirOwn : Type 0

@@ -5,7 +5,7 @@ use Rattle.net_core.specs.declared.ports.Inputs.{Inputs}
 use Rattle.net_core.specs.Nets.{Netlist}
 use Rattle.net_core.specs.Clock.{Stored, first_stored, shown, after, stopping}
 use Rattle.net_core.specs.Ports.{words_of}
-use Rattle.net_core.specs.History.{stored_after}
+use Rattle.net_core.specs.Trace.{stored_after}
 
 -- what is stored after these clocks, from the declared values on
 abbrev pub reached : Netlist → List Inputs → Stored

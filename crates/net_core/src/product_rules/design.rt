@@ -35,8 +35,8 @@ fn always_flat(marks: &[bool], always: &[Stmt<Net>]) -> bool
 }
 
 /// Whether no product of a design stands inside an operand of another in one clock. Each tree is walked once.
-pub fn are_products_apart(alloc: Global, design: &Design) -> Result<bool, AllocError>
-    ensures { IfOk result (λ apart. apart ≡ products.products_apart (netlist_of design.now)) }
+pub fn has_no_product_chains(alloc: Global, design: &Design) -> Result<bool, AllocError>
+    ensures { IfOk result (λ apart. apart ≡ products.no_product_chains (netlist_of design.now)) }
 {
     // of each wire so far, whether a product stands in it
     let mut marks = Vec::new(alloc);

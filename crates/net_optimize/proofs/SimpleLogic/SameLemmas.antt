@@ -10,7 +10,7 @@ use Rattle.net_core.specs.Nets.{Netlist}
 use Rattle.net_core.specs.Value.{Env}
 use Rattle.net_core.specs.Clock.{Stored, first_stored, first_words, first_memories, env, with_wires, edge, assigned, rights, stopped_at, stopping, shown, after}
 use Rattle.net_core.specs.Ports.{words_of}
-use Rattle.net_core.specs.History.{stored_after}
+use Rattle.net_core.specs.Trace.{stored_after}
 use Rattle.design_rules.specs.declared.formed.NetError.{NetError}
 use Rattle.design_rules.specs.Formed.{IsWellFormed, result_of}
 use Rattle.net_core.specs.SameClocks.Same.{reached, ShowTheSame}

@@ -11,6 +11,6 @@ pub record AgreeBut (k : ℕ) (s t : Stored) : Type 0 where
   pub registers : (w : Word) → slice_set s.registers k w ≡ slice_set t.registers k w
   pub memories : s.memories ≡ t.memories
 
--- behind these statements all is the same whatever this register held
+-- after these statements all is the same whatever this register held
 abbrev pub Overwrites : StatementTrees Net → ℕ → Type 0
 Overwrites more k = (v : Env Net) (s t : Stored) → AgreeBut k s t → all_done v more s ≡ all_done v more t

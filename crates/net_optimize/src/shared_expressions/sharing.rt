@@ -5,7 +5,7 @@ ghost use Rattle.net_core.specs.declared.tree.Net.{Net};
 ghost use Rattle.net_core.specs.Value.{Env};
 ghost use Rattle.net_core.specs.View.{netlist_of, wire_of};
 ghost use Rattle.design_rules.specs.Formed.{IsWellFormed};
-ghost use Rattle.net_core.specs.ProductRules.Products.{products_apart};
+ghost use Rattle.net_core.specs.ProductRules.Products.{no_product_chains};
 ghost use Rattle.net_core.specs.SameClocks.Same.{ShowTheSame};
 ghost use Rattle.net_optimize.specs.SharedExpressions.Standing.{Stand, ArePlaced, NoneStops};
 
@@ -15,7 +15,7 @@ use crate::shared_expressions::statements::{rewritten_always, rewritten_assigns}
 use crate::shared_expressions::table::{Table, table_of};
 use design_rules::formed::well_formed;
 use net_core::design::Design;
-use net_core::product_rules::are_products_apart;
+use net_core::product_rules::has_no_product_chains;
 use net_core::same_clocks::laws::designs_show_their_own;
 use std::alloc::{AllocError, Global};
 
@@ -55,7 +55,7 @@ fn with_wires(alloc: Global, design: &Design) -> Result<Option<Design>, AllocErr
     requires { IsWellFormed (netlist_of design.now) }
     ensures same { IfOk result (λ r. IfSome r (λ d. ShowTheSame (netlist_of design.now) (netlist_of d))) }
     ensures formed { IfOk result (λ r. IfSome r (λ d. IsWellFormed (netlist_of d))) }
-    ensures apart { IfOk result (λ r. IfSome r (λ d. IsTrue (products_apart (netlist_of d)))) }
+    ensures apart { IfOk result (λ r. IfSome r (λ d. IsTrue (no_product_chains (netlist_of d)))) }
 {
     let counts = counted(alloc, design)?;
     let table = table_of(alloc, design, &counts)?;
@@ -63,7 +63,7 @@ fn with_wires(alloc: Global, design: &Design) -> Result<Option<Design>, AllocErr
         return Ok(None);
     }
     let next = made(alloc, design, table)?;
-    if well_formed(&next).is_ok() && are_products_apart(alloc, &next)? {
+    if well_formed(&next).is_ok() && has_no_product_chains(alloc, &next)? {
         return Ok(Some(next));
     }
     Ok(None)
@@ -73,10 +73,10 @@ fn with_wires(alloc: Global, design: &Design) -> Result<Option<Design>, AllocErr
 /// design stays as it is.
 pub fn shared(alloc: Global, design: Design) -> Result<Design, AllocError>
     requires formed { IsWellFormed (netlist_of design) }
-    requires apart { IsTrue (products_apart (netlist_of design)) }
+    requires apart { IsTrue (no_product_chains (netlist_of design)) }
     ensures same { IfOk result (λ d. ShowTheSame (netlist_of design) (netlist_of d)) }
     ensures formed { IfOk result (λ d. IsWellFormed (netlist_of d)) }
-    ensures apart { IfOk result (λ d. IsTrue (products_apart (netlist_of d))) }
+    ensures apart { IfOk result (λ d. IsTrue (no_product_chains (netlist_of d))) }
 {
     designs_show_their_own();
     let Some(next) = with_wires(alloc, &design)? else {

@@ -1,22 +1,14 @@
 -- Single bits: operators on two of these, case by case.
-use Rattle.std.specs.Prelude.{◌≡◌, ℕ, ◌<◌, ◌==◌, nat_eq, if◌then◌else◌, Bool, true, false}
-use Rattle.std.proofs.Common.{refl, sym, ap, ◌∙◌, arith, subst, inl, inr}
-use Rattle.std.proofs.lemmas.Bool.{cases_lt, eqb-true}
+use Rattle.std.specs.Prelude.{◌≡◌, ℕ, ◌==◌, nat_eq, if◌then◌else◌, Bool, true, false}
+use Rattle.std.proofs.Common.{refl, sym, ap, ◌∙◌, arith, subst}
+use Rattle.std.proofs.lemmas.Bool.{eqb-true}
 use Rattle.net_core.specs.declared.tree.Word.{Word}
 use Rattle.net_core.specs.declared.tree.Op.TheVariants.{And, Or, Equal, NotEqual}
 use Rattle.net_core.specs.declared.tree.UnaryOp.TheVariants.{Not}
-use Rattle.net_core.specs.Value.{word, bit, apply, apply_unary, conditional}
+use Rattle.net_core.specs.Value.{bit, apply, apply_unary, conditional}
+use Rattle.net_core.proofs.WordLaws.{flag_small}
 use Rattle.net_rules.specs.NetSizes.Fitting.{Fits}
 use Rattle.net_rules.specs.LogicRules.Flags.{IsFlag}
-
-same : (n a b : ℕ) → n ≡ 1 → a ≡ b → word n a ≡ word 1 b
-same n a b p q = cc
-
-flag_small : (w : Word) → w.width ≡ 1 → w.value < 2 → IsFlag w
-flag_small w one small = elim (cases_lt w.value 1) [
-  | inl below ↦ (false, same w.width w.value 0 one (omega arith))
-  | inr above ↦ (true, same w.width w.value 1 one (omega arith))
-]
 
 flag_of_one : (w : Word) → Fits 1 w → IsFlag w
 flag_of_one w h = let p = h (omega arith) in flag_small w p.0 p.1

@@ -1,6 +1,6 @@
 -- Operators between an operand and a constant that leaves its bits, or decides them.
 use Rattle.std.specs.Prelude.{◌≡◌, ℕ, ◌+◌, ◌-◌, ◌/◌, ◌%◌, ◌^◌, ◌<◌, ◌≤◌, bit_and, bit_or, bit_xor}
-use Rattle.std.specs.Int.Bits.{and_zero_l, and_zero_r, or_zero_l, or_zero_r, xor_zero_l, xor_zero_r}
+use Rattle.std.specs.Int.Bits.{or_zero_l, or_zero_r, xor_zero_l, xor_zero_r}
 use Rattle.std.proofs.Common.{refl, sym, ap, ◌∙◌, arith, subst, inl, inr, ◌⊎◌}
 use Rattle.std.proofs.lemmas.Nat.{and_mask, and_comm}
 use Rattle.std.proofs.Math.Nat.{mod-eq_of_lt, add-mod_right}
@@ -9,15 +9,13 @@ use Rattle.net_core.specs.declared.tree.Op.{Op}
 use Rattle.net_core.specs.declared.tree.Op.TheVariants.{Add, Sub, And, Or, Xor}
 use Rattle.net_core.specs.Value.{word, apply}
 use Rattle.net_core.proofs.LowBitsLaws.{ones_low}
+use Rattle.net_core.proofs.WordLaws.{word_same}
 use Rattle.net_rules.specs.NetSizes.Fitting.{Fits}
-
-same : (w x a b : ℕ) → w ≡ x → a ≡ b → word w a ≡ word x b
-same w x a b p q = cc
 
 pub ones : (value width from : ℕ) → value ≡ (2 ^ 64 - 1) / 2 ^ from → from ≡ 64 - width → 0 < width → width ≤ 64 → value ≡ 2 ^ width - 1
 ones value width from e f some most = e ∙ ap (λ k. (2 ^ 64 - 1) / 2 ^ k) f ∙ ones_low width some most
 
--- ---- a constant behind an operand
+-- ---- a constant after an operand
 pub or_zero : (a w : Word) → w.value ≡ 0 → apply Or a w ≡ a
 or_zero a w e = rw (e, or_zero_r a.value) refl
 
@@ -45,31 +43,25 @@ and_ones n a w some h e ones =
     let lt : a.value < 2 ^ w.width = subst (λ k. a.value < 2 ^ k) (sym e) p.1 in
     ap (λ k. word a.width (bit_and a.value k)) ones ∙ ap (word a.width) (and_mask a.value w.width ∙ mod-eq_of_lt lt)
 
-pub and_zero : (n : ℕ) (a w : Word) → 0 < n → Fits n a → w.value ≡ 0 → apply And a w ≡ word n 0
-and_zero n a w some h e = same a.width n (bit_and a.value w.value) 0 (h some).0 (ap (bit_and a.value) e ∙ and_zero_r a.value)
-
 -- ---- a constant before an operand
 pub or_zero_before : (n : ℕ) (w b : Word) → 0 < n → Fits n b → w.width ≡ n → w.value ≡ 0 → apply Or w b ≡ b
-or_zero_before n w b some h e z = same w.width b.width (bit_or w.value b.value) b.value (e ∙ sym (h some).0) (ap (λ k. bit_or k b.value) z ∙ or_zero_l b.value)
+or_zero_before n w b some h e z = word_same w.width b.width (bit_or w.value b.value) b.value (e ∙ sym (h some).0) (ap (λ k. bit_or k b.value) z ∙ or_zero_l b.value)
 
 pub xor_zero_before : (n : ℕ) (w b : Word) → 0 < n → Fits n b → w.width ≡ n → w.value ≡ 0 → apply Xor w b ≡ b
-xor_zero_before n w b some h e z = same w.width b.width (bit_xor w.value b.value) b.value (e ∙ sym (h some).0) (ap (λ k. bit_xor k b.value) z ∙ xor_zero_l b.value)
+xor_zero_before n w b some h e z = word_same w.width b.width (bit_xor w.value b.value) b.value (e ∙ sym (h some).0) (ap (λ k. bit_xor k b.value) z ∙ xor_zero_l b.value)
 
 pub add_zero_before : (n : ℕ) (w b : Word) → 0 < n → Fits n b → w.width ≡ n → w.value ≡ 0 → apply Add w b ≡ b
 add_zero_before n w b some h e z =
     let p = h some in
     let lt : b.value < 2 ^ w.width = subst (λ k. b.value < 2 ^ k) (sym e) p.1 in
     let sum : w.value + b.value ≡ b.value = omega arith in
-    same w.width b.width ((w.value + b.value) % 2 ^ w.width) b.value (e ∙ sym p.0) (ap (λ k. k % 2 ^ w.width) sum ∙ mod-eq_of_lt lt)
+    word_same w.width b.width ((w.value + b.value) % 2 ^ w.width) b.value (e ∙ sym p.0) (ap (λ k. k % 2 ^ w.width) sum ∙ mod-eq_of_lt lt)
 
 pub and_ones_before : (n : ℕ) (w b : Word) → 0 < n → Fits n b → w.width ≡ n → w.value ≡ 2 ^ w.width - 1 → apply And w b ≡ b
 and_ones_before n w b some h e ones =
     let p = h some in
     let lt : b.value < 2 ^ w.width = subst (λ k. b.value < 2 ^ k) (sym e) p.1 in
-    same w.width b.width (bit_and w.value b.value) b.value (e ∙ sym p.0) (and_comm w.value b.value ∙ ap (bit_and b.value) ones ∙ and_mask b.value w.width ∙ mod-eq_of_lt lt)
-
-pub and_zero_before : (w b : Word) → w.value ≡ 0 → apply And w b ≡ w
-and_zero_before w b z = same w.width w.width (bit_and w.value b.value) w.value refl (ap (λ k. bit_and k b.value) z ∙ and_zero_l b.value ∙ sym z)
+    word_same w.width b.width (bit_and w.value b.value) b.value (e ∙ sym p.0) (and_comm w.value b.value ∙ ap (bit_and b.value) ones ∙ and_mask b.value w.width ∙ mod-eq_of_lt lt)
 
 -- ---- operators of one kind
 pub masks_leave : (o : Op) (a w : Word) → (o ≡ Or) ⊎ (o ≡ Xor) → w.value ≡ 0 → apply o a w ≡ a

@@ -7,10 +7,8 @@ use Rattle.std.proofs.Math.Pow.{mod-mod-pow}
 use Rattle.net_core.specs.declared.tree.Word.{Word}
 use Rattle.net_core.specs.Value.{word, part_select, concatenated}
 use Rattle.net_core.proofs.LowBitsLaws.{ones_low, concatenated_small}
+use Rattle.net_core.proofs.WordLaws.{word_same}
 use Rattle.net_rules.specs.NetSizes.Fitting.{Fits}
-
-same : (w x a b : ℕ) → w ≡ x → a ≡ b → word w a ≡ word x b
-same w x a b p q = cc
 
 -- a word of so many bits
 pub record IsSized (n : ℕ) (w : Word) : Type 0 where
@@ -27,7 +25,7 @@ whole n high low w e z h =
     let p = h some in
     let wide : high + 1 - low ≡ n = omega arith in
     let all : w.value / 2 ^ 0 ≡ w.value = omega arith in
-    sym (same (high + 1 - low) w.width (w.value / 2 ^ low % 2 ^ (high + 1 - low)) w.value (wide ∙ sym p.0)
+    sym (word_same (high + 1 - low) w.width (w.value / 2 ^ low % 2 ^ (high + 1 - low)) w.value (wide ∙ sym p.0)
     (ap (λ k. w.value / 2 ^ k % 2 ^ (high + 1 - low)) z ∙ ap (λ k. w.value / 2 ^ 0 % 2 ^ k) wide ∙ ap (λ k. k % 2 ^ n) all ∙ mod-eq_of_lt p.1))
 
 -- bits of a constant
@@ -38,7 +36,7 @@ of_word w high low from less f l le lt =
     let wide : k ≡ high + 1 - low = omega arith in
     let some : 0 < k = omega arith in
     let most : k ≤ 64 = omega arith in
-    same k (high + 1 - low) (bit_and (w.value / 2 ^ from) ((2 ^ 64 - 1) / 2 ^ less)) (w.value / 2 ^ low % 2 ^ (high + 1 - low)) wide
+    word_same k (high + 1 - low) (bit_and (w.value / 2 ^ from) ((2 ^ 64 - 1) / 2 ^ less)) (w.value / 2 ^ low % 2 ^ (high + 1 - low)) wide
     (ap (λ n. bit_and (w.value / 2 ^ n) ((2 ^ 64 - 1) / 2 ^ less)) f ∙ ap (λ n. bit_and (w.value / 2 ^ low) ((2 ^ 64 - 1) / 2 ^ n)) l
     ∙ ap (bit_and (w.value / 2 ^ low)) (ones_low k some most) ∙ and_mask (w.value / 2 ^ low) k ∙ ap (λ n. w.value / 2 ^ low % 2 ^ n) wide)
 
@@ -53,16 +51,9 @@ twice w top end high low first second third =
     let some : j ≡ less + k = omega arith in
     let wide : high + end + 1 - (low + end) ≡ k = omega arith in
     let up : low + end ≡ end + low = omega arith in
-    same (high + end + 1 - (low + end)) k (w.value / 2 ^ (low + end) % 2 ^ (high + end + 1 - (low + end))) (x % 2 ^ (top + 1 - end) / 2 ^ low % 2 ^ k) wide
+    word_same (high + end + 1 - (low + end)) k (w.value / 2 ^ (low + end) % 2 ^ (high + end + 1 - (low + end))) (x % 2 ^ (top + 1 - end) / 2 ^ low % 2 ^ k) wide
     (ap (λ n. w.value / 2 ^ (low + end) % 2 ^ n) wide ∙ ap (λ n. w.value / 2 ^ n % 2 ^ k) up ∙ ap (λ n. n % 2 ^ k) (sym (shr-shr w.value end low))
     ∙ sym (ap (λ n. x % 2 ^ n / 2 ^ low % 2 ^ k) all ∙ ap (λ n. n % 2 ^ k) (field_of x j low) ∙ ap (λ n. x / 2 ^ low % 2 ^ n % 2 ^ k) some ∙ mod-mod-pow (x / 2 ^ low) less k))
-
--- the only bit of a bit
-pub bit_of_bit : (w : Word) (i high low : ℕ) → high ≡ 0 → low ≡ 0 → part_select w i i ≡ part_select (part_select w i i) high low
-bit_of_bit w i high low h l =
-    let at : 0 + i ≡ i = omega arith in
-    ap (λ n. part_select w n n) (sym at) ∙ twice w i i 0 0 (omega arith) (omega arith) (omega arith)
-    ∙ ap (λ n. part_select (part_select w i i) n 0) (sym h) ∙ ap (part_select (part_select w i i) high) (sym l)
 
 -- bits of the first of two parts
 pub in_first : (a b : Word) (s high low : ℕ) → 0 < s → Fits s b → s ≤ low → s ≤ high → part_select a (high - s) (low - s) ≡ part_select (concatenated a b) high low
@@ -72,7 +63,7 @@ in_first a b s high low some h le ge =
     let up : low ≡ b.width + (low - s) = omega (arith, p.0) in
     let small : b.value < 2 ^ b.width = subst (λ n. b.value < 2 ^ n) (sym p.0) p.1 in
     let all = a.value * 2 ^ b.width + b.value in
-    same (high - s + 1 - (low - s)) (high + 1 - low) (a.value / 2 ^ (low - s) % 2 ^ (high - s + 1 - (low - s))) (all / 2 ^ low % 2 ^ (high + 1 - low)) wide
+    word_same (high - s + 1 - (low - s)) (high + 1 - low) (a.value / 2 ^ (low - s) % 2 ^ (high - s + 1 - (low - s))) (all / 2 ^ low % 2 ^ (high + 1 - low)) wide
     (ap (λ n. a.value / 2 ^ (low - s) % 2 ^ n) wide
     ∙ ap (λ n. n / 2 ^ (low - s) % 2 ^ (high + 1 - low)) (sym (shr_high a.value b.width b.value small))
     ∙ ap (λ n. n % 2 ^ (high + 1 - low)) (shr-shr all b.width (low - s)) ∙ ap (λ n. all / 2 ^ n % 2 ^ (high + 1 - low)) (sym up))

@@ -1,11 +1,12 @@
 -- Words that fit sizes, and what operators make of them.
-use Rattle.std.specs.Prelude.{◌≡◌, ℕ, ◌+◌, ◌-◌, ◌*◌, ◌/◌, ◌%◌, ◌^◌, ◌<◌, nat_lt, Bool, true, false, if◌then◌else◌, bit_and}
+use Rattle.std.specs.Prelude.{◌≡◌, ℕ, ◌+◌, ◌-◌, ◌*◌, ◌/◌, ◌%◌, ◌^◌, ◌<◌, nat_lt, Bool, true, false, bit_and}
 use Rattle.std.proofs.Common.{refl, sym, subst, arith}
 use Rattle.std.proofs.lemmas.Nat.{pow_pos, or_lt, xor_lt, and_le_l, shr_le, mod_below}
 use Rattle.net_core.specs.declared.tree.Word.{Word}
 use Rattle.net_core.specs.declared.tree.Op.TheVariants.{Add, Sub, Mul, And, Or, Xor, ShiftLeft, ShiftRight}
 use Rattle.net_core.specs.Value.{word, bit, apply, concatenated}
 use Rattle.net_core.proofs.LowBitsLaws.{concatenated_small}
+use Rattle.net_core.proofs.WidthLaws.{if_small}
 use Rattle.net_rules.specs.NetSizes.Fitting.{Fits}
 
 pub bit_fits : (b : Bool) → Fits 1 (bit b)
@@ -25,10 +26,6 @@ same_bits n v x f small some = let h = f some in fits_by n (word x.width v) h.0 
 
 low_small : (v w : ℕ) → v % 2 ^ w < 2 ^ w
 low_small v w = mod_below v (2 ^ w) (pow_pos w)
-
-if_small : (t : Bool) (v w : ℕ) → v < 2 ^ w → (if t then v else 0) < 2 ^ w
-if_small true v w h = h
-if_small false v w h = pow_pos w
 
 module _ (n : ℕ) (x y : Word) (f : Fits n x) where
   pub sum_fits : Fits n (apply Add x y)

@@ -26,7 +26,7 @@ fn is_ones(word: Word) -> bool
     word.value == u64::MAX >> u32::from(MOST_BITS - word.width)
 }
 
-// Whether a constant behind an operand of so many bits leaves it as it is.
+// Whether a constant after an operand of so many bits leaves it as it is.
 fn leaves_first(op: Op, size: u8, word: Word) -> bool
     ensures { result ≡ true → (a : words.Word) → Fits size a → apply op a word ≡ a }
 {
@@ -52,7 +52,7 @@ fn leaves_second(op: Op, word: Word, size: u8) -> bool
     }
 }
 
-// What any operand of so many bits gives with a constant behind it.
+// What any operand of so many bits gives with a constant after it.
 fn decided_behind(op: Op, size: u8, word: Word) -> Option<Word>
     ensures { IfSome result (λ w. (a : words.Word) → Fits size a → apply op a word ≡ w) }
 {
@@ -77,7 +77,7 @@ fn decided_before(op: Op, word: Word, size: u8) -> Option<Word>
     }
 }
 
-// An operand and a constant behind it.
+// An operand and a constant after it.
 fn before_constant(
     alloc: Global,
     sizes: &Sizes,

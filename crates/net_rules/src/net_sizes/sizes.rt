@@ -14,7 +14,7 @@ pub struct Sizes {
     pub wires: Vec<u8>,
 }
 
-// The number at a place, or 0 behind all.
+// The number at a place, or 0 after all.
 fn number_at(numbers: &[u8], k: usize) -> u8
     ensures { result ≡ get_or numbers.now k 0 }
 {

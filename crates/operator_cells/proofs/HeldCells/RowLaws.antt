@@ -10,8 +10,8 @@ use Rattle.cell_core.specs.Cells.{CellView}
 use Rattle.cell_core.specs.Rows.{AreRows, greatest}
 use Rattle.operator_cells.specs.Rising.{GrowsTo, Rises, RiseAll}
 use Rattle.operator_cells.proofs.RisingLaws.{Stand, stand_all}
-use Rattle.operator_cells.specs.declared.held_cells.held.Held.{Held}
-use Rattle.operator_cells.specs.HeldCells.Held.{PointerView}
+use Rattle.operator_cells.specs.declared.held_cells.machine_cells.RegisterCells.{RegisterCells}
+use Rattle.operator_cells.specs.HeldCells.RegisterCells.{PointerView}
 use Rattle.operator_cells.specs.HeldCells.Rows.{kind_at, number_at, value_row, held_row}
 
 -- ---- new cells
@@ -28,7 +28,7 @@ pub rise_last : {a b d : List CellView} {cs : List ℕ} {P : (ℕ → ℕ) → T
 rise_last s r h = let t = stand_all s r h in record { grows = t.grows; results = λ row rows. let known = t.known row rows in omega (arith, known.1, h row known.0) }
 
 -- ---- places
-module _ (row : ℕ → ℕ) (ps : List PointerView) (h : Held) (k : Kinds) where
+module _ (row : ℕ → ℕ) (ps : List PointerView) (h : RegisterCells) (k : Kinds) where
   pub register_row : (r : ℕ) → r < 11 → held_row row ps h k r ≡ value_row row ps (register k r) (slice_index h.registers r)
   register_row r l = rw (lt-ltb r 11 l) refl
 
@@ -46,13 +46,13 @@ module _ (row : ℕ → ℕ) (ps : List PointerView) (h : Held) (k : Kinds) wher
   target_row = omega arith
 
 -- ---- one place changed
-abbrev pub put_register : Held → ℕ → ℕ → Held
+abbrev pub put_register : RegisterCells → ℕ → ℕ → RegisterCells
 put_register h r c = record h { registers = slice_set h.registers r c }
 
-abbrev pub put_slot : Held → ℕ → ℕ → Held
+abbrev pub put_slot : RegisterCells → ℕ → ℕ → RegisterCells
 put_slot h s c = record h { slots = slice_set h.slots s c }
 
-module _ (row : ℕ → ℕ) (ps : List PointerView) (h : Held) (k : Kinds) (x : Kind) where
+module _ (row : ℕ → ℕ) (ps : List PointerView) (h : RegisterCells) (k : Kinds) (x : Kind) where
   pub register_changed : (r c : ℕ) → r < 11 → length k.registers ≡ 11 → length h.registers ≡ 11 → held_row row ps (put_register h r c) (with_register k r x) r ≡ value_row row ps x c
   register_changed r c l ks hs = register_row row ps (put_register h r c) (with_register k r x) r l
       ∙ rw (get_or-set_same k.registers r x Unset (omega (arith, l, ks)), get_or-set_same h.registers r c 0 (omega (arith, l, hs))) refl
@@ -77,3 +77,11 @@ module _ (row : ℕ → ℕ) (ps : List PointerView) (h : Held) (k : Kinds) (x :
           let off : place - 11 ≢ s = λ same. other (omega (arith, same, ltb-false place 11 e)) in
           rw (e, f, get_or-set_other k.slots s (place - 11) x Unset off, get_or-set_other h.slots s (place - 11) c 0 off) refl
       by false e false f = rw (e, f) refl
+
+-- a register that is put leaves the numbers of other places
+pub number_kept : (h : RegisterCells) (r c place : ℕ) → place ≢ r → number_at (put_register h r c) place ≡ number_at h place
+number_kept h r c place other = by (nat_lt place 11) refl
+  where
+    by : (b : Bool) → nat_lt place 11 ≡ b → number_at (put_register h r c) place ≡ number_at h place
+    by true e = rw (e, get_or-set_other h.registers r place c 0 other) refl
+    by false e = rw e refl

@@ -10,8 +10,8 @@ use Rattle.cell_core.specs.Cells.{IsRun, cell_at, site_in, bits_from, bit, on}
 use Rattle.cell_core.specs.Sites.{SiteView, ProgramView, site_at, after, read_on, IsCellRun, leaves, touched}
 use Rattle.cell_core.specs.Formed.{AreFormed, AreSited, IsBelow}
 use Rattle.operator_cells.specs.HeldCells.Paths.{GraphView, At, node_at, before, on_path, maps_in}
-use Rattle.operator_cells.specs.declared.held_cells.held.Held.{Held}
-use Rattle.operator_cells.specs.HeldCells.Held.{PointerView, AreHeld}
+use Rattle.operator_cells.specs.declared.held_cells.machine_cells.RegisterCells.{RegisterCells}
+use Rattle.operator_cells.specs.HeldCells.RegisterCells.{PointerView, AreHeld}
 use Rattle.operator_cells.specs.HeldCells.Steps.{DoAs}
 use Rattle.operator_cells.specs.HeldCells.Pointing.{AccessesLookUp, AccessesStay}
 use Rattle.operator_cells.specs.HeldCells.Reading.{ReadsAreMade, ReadsWait}
@@ -45,7 +45,7 @@ sites_at k sites = filter (λ s. s.node == k) sites
 
 -- As far as node k the cells are right: guards, off the path too, are 1 exactly on it, and on the path cells hold what the machine holds,
 -- sites do what its steps do, and their operations leave its maps.
-pub record IsRight (g : GraphView) (p : ProgramView) (ps : List PointerView) (held : ℕ → Held) (packet : PacketIn) (maps : MapState) (v : ℕ → ℕ) (k : ℕ) : Type 0 where
+pub record IsRight (g : GraphView) (p : ProgramView) (ps : List PointerView) (held : ℕ → RegisterCells) (packet : PacketIn) (maps : MapState) (v : ℕ → ℕ) (k : ℕ) : Type 0 where
   pub guards : (j : ℕ) → j ≤ k → j < length g.nodes → v (made_at p.nodes j).guard ≡ bit (on_path g packet maps j)
   pub holds : (j : ℕ) (m : Machine) → j ≤ k → j < length g.nodes → before g packet maps j ≡ At j m → AreHeld g.decls packet v ps (held j) (node_at g.nodes j).kinds m
   pub sites : (j : ℕ) (m : Machine) → j < k → before g packet maps j ≡ At j m → DoAs v m.maps (sites_at j p.sites) (machine.operation_at g.code m)
@@ -61,14 +61,14 @@ pub record IsLaidOut (g : GraphView) (p : ProgramView) : Type 0 where
   pub guards : All (λ s. s.guard ≡ (made_at p.nodes s.node).guard) p.sites
   pub below : All (λ s. IsBelow (made_at p.nodes s.node).end s) p.sites
 
--- The cells compute the runs of the program: for every prefix of the nodes, and whatever values stand for reads off the path or behind the
+-- The cells compute the runs of the program: for every prefix of the nodes, and whatever values stand for reads off the path or after the
 -- prefix, they are right as far as it goes; and the cells of the answer are what the packet leaves.
 pub record Computes (g : GraphView) (p : ProgramView) : Type 0 where
   pub formed : AreFormed p.cells
   pub laid : IsLaidOut g p
   -- the pointers, and the cells of what is held at each node, the same for every packet
   pub pointers : List PointerView
-  pub held : ℕ → Held
+  pub held : ℕ → RegisterCells
   pub right : (packet : PacketIn) (maps : MapState) (v : ℕ → ℕ) (k : ℕ) → IsPacket packet → IsSound maps → maps.decls ≡ g.decls → IsRun packet p.cells v
       → k ≤ length g.nodes → AreAnswered maps p v k → IsRight g p pointers held packet maps v k
   -- the packet run comes to the end that the cells say, and touches what the operations whose guards are on touch

@@ -13,14 +13,14 @@ use Rattle.cell_core.specs.Cells.{CellView, IsRun, on}
 use Rattle.cell_core.specs.Sites.{SiteView, after}
 use Rattle.cell_core.specs.Formed.{FitsMap, IsBelow}
 use Rattle.operator_cells.specs.Making.{GrowsWith}
-use Rattle.operator_cells.specs.declared.held_cells.held.Held.{Held}
-use Rattle.operator_cells.specs.HeldCells.Held.{PointerView, AreHeld, AreInside}
+use Rattle.operator_cells.specs.declared.held_cells.machine_cells.RegisterCells.{RegisterCells}
+use Rattle.operator_cells.specs.HeldCells.RegisterCells.{PointerView, AreHeld, AreInside}
 use Rattle.operator_cells.specs.HeldCells.Carrying.{IsKnown}
 use Rattle.operator_cells.specs.HeldCells.Steps.{AreRead, ReadsOwn, DoAs}
 
 -- More cells, pointers and sites, these of a node and its guard; where the node is on the path and the reads answer, what is held afterwards
 -- holds, by the kinds on an edge, what the effect of the instruction leaves of a machine, and the sites do its operation and leave its maps.
-pub record Operates (decls : List MapDecl) (i : Insn) (node guard : ℕ) (is_ref taken : Bool) (k : Kinds) (h next : Held) (old new : List CellView) (ps qs : List PointerView) (sites sites2 : List SiteView) : Type 0 where
+pub record Operates (decls : List MapDecl) (i : Insn) (node guard : ℕ) (is_ref taken : Bool) (k : Kinds) (h next : RegisterCells) (old new : List CellView) (ps qs : List PointerView) (sites sites2 : List SiteView) : Type 0 where
   pub grows : GrowsWith (ReadsOwn sites sites2) old new
   pub more_pointers : List PointerView
   pub pointers_are : qs ≡ ps ++ more_pointers

@@ -38,13 +38,13 @@ abbrev pub led : List NodeView → ℕ → ℕ → List EdgeView → ℕ
 led nodes k place [] = length nodes
 led nodes k place (e ∷ es) = if (e.from == k) && ((node_at nodes e.to).place == place) then e.to else led nodes k place es
 
--- where a run stands: before the step of a node, behind its end, or where there is no step
+-- where a run stands: before the step of a node, after its end, or where there is no step
 pub data Stage : Type 0 where
   At : ℕ → Machine → Stage
   Over : Leaves → Stage
   Nowhere : Stage
 
--- behind the step of node k
+-- after the step of node k
 abbrev pub stepped : GraphView → ℕ → Machine → Outcome → Stage
 stepped g k m (Goes next) = At (led g.nodes k next.place g.edges) next
 stepped g k m (Ends verdict) = Over (leaves verdict m)
@@ -56,7 +56,7 @@ visit g k (At n m) = if n == k then stepped g k m (step g.code m) else At n m
 visit g k (Over e) = Over e
 visit g k Nowhere = Nowhere
 
--- the run of a packet behind all nodes below k
+-- the run of a packet after all nodes below k
 abbrev pub before : GraphView → PacketIn → MapState → ℕ → Stage
 before g packet maps zero = At 0 (start packet maps)
 before g packet maps (suc k) = visit g k (before g packet maps k)

@@ -14,9 +14,9 @@ pub use Rattle.cell_core.specs.Acts.{is_access}
 use Rattle.cell_core.specs.Cells.{CellView, IsRun, cell_at, on}
 use Rattle.cell_core.specs.Sites.{SiteView, ProgramView, site_at, bytes_of}
 use Rattle.operator_cells.specs.Following.{IsFollowed}
-use Rattle.operator_cells.specs.declared.held_cells.held.Held.{Held}
+use Rattle.operator_cells.specs.declared.held_cells.machine_cells.RegisterCells.{RegisterCells}
 use Rattle.operator_cells.specs.declared.held_cells.way.Way.{Way}
-use Rattle.operator_cells.specs.HeldCells.Held.{PointerView, pointer_at, key_of}
+use Rattle.operator_cells.specs.HeldCells.RegisterCells.{PointerView, pointer_at, key_of}
 use Rattle.operator_cells.specs.HeldCells.Rows.{kind_at, number_at, map_used}
 use Rattle.operator_cells.specs.HeldCells.Reading.{OperationReads}
 
@@ -34,15 +34,15 @@ pointing_as (Entry q o) c = Some (record { map = q; node = None; pointer = c })
 pointing_as k c = None
 
 -- the pointer at a data place
-abbrev pub pointing_at : Kinds → Held → ℕ → Option Pointing
+abbrev pub pointing_at : Kinds → RegisterCells → ℕ → Option Pointing
 pointing_at k h place = pointing_as (kind_at k place) (number_at h place)
 
 -- this one is held somewhere
-abbrev pub HoldsPointer : Kinds → Held → Pointing → Type 0
+abbrev pub HoldsPointer : Kinds → RegisterCells → Pointing → Type 0
 HoldsPointer k h x = (place : ℕ) × (pointing_at k h place ≡ Some x)
 
--- Each pointer that is held behind an instruction was held before.
-abbrev pub KeepPointers : Kinds → Held → Kinds → Held → Type 0
+-- Each pointer that is held after an instruction was held before.
+abbrev pub KeepPointers : Kinds → RegisterCells → Kinds → RegisterCells → Type 0
 KeepPointers k h after next = (x : Pointing) → HoldsPointer after next x → HoldsPointer k h x
 
 -- ---- an operation on a map
@@ -62,7 +62,7 @@ IsThrough (act.Atomic at a) operands c = (x : ℕ) × (y : ℕ) × (operands ≡
 IsThrough a operands c = ⊥
 
 -- An access has the key and the found cell of a pointer to an entry that is held.
-pub record GoesThrough (k : Kinds) (h : Held) (ps : List PointerView) (s : SiteView) : Type 0 where
+pub record GoesThrough (k : Kinds) (h : RegisterCells) (ps : List PointerView) (s : SiteView) : Type 0 where
   pub pointer : ℕ
   pub holds : HoldsPointer k h (record { map = s.map; node = None; pointer = pointer })
   pub key : s.key ≡ (pointer_at ps pointer).key
@@ -75,32 +75,32 @@ pub record IsFoundOf (cells : List CellView) (j c : ℕ) : Type 0 where
   pub only : (d : ℕ) → d < length cells → (cell_at cells d).op ≡ Found j → d ≡ c
 
 -- A lookup brings a pointer: its key, and a new cell that tells whether it is there, where no cell before it did.
-pub record LookupPoints (k : Kinds) (h : Held) (after : Kinds) (next : Held) (old new : List CellView) (ps qs : List PointerView) (j : ℕ) (s : SiteView) : Type 0 where
+pub record LookupPoints (k : Kinds) (h : RegisterCells) (after : Kinds) (next : RegisterCells) (old new : List CellView) (ps qs : List PointerView) (j : ℕ) (s : SiteView) : Type 0 where
   pub found : ℕ
   pub is_found : ((d : ℕ) → d < length old → (cell_at old d).op ≢ Found j) → IsFoundOf new j found
   pub pointers_are : qs ≡ ps ++ (record { found = found; key = s.key }) ∷ []
   pub held : (x : Pointing) → HoldsPointer after next x → (x ≡ record { map = s.map; node = Some s.node; pointer = length ps }) ⊎ HoldsPointer k h x
 
 -- An update or a delete leaves no pointer into its map, if that is a hash.
-pub record ChangePoints (decls : List MapDecl) (k : Kinds) (h : Held) (after : Kinds) (next : Held) (ps qs : List PointerView) (s : SiteView) : Type 0 where
+pub record ChangePoints (decls : List MapDecl) (k : Kinds) (h : RegisterCells) (after : Kinds) (next : RegisterCells) (ps qs : List PointerView) (s : SiteView) : Type 0 where
   pub pointers_are : qs ≡ ps
   pub kept : KeepPointers k h after next
   pub none : is_hash decls s.map ≡ true → (x : Pointing) → HoldsPointer after next x → x.map ≢ s.map
 
-pub record AccessPoints (k : Kinds) (h : Held) (after : Kinds) (next : Held) (ps qs : List PointerView) (s : SiteView) : Type 0 where
+pub record AccessPoints (k : Kinds) (h : RegisterCells) (after : Kinds) (next : RegisterCells) (ps qs : List PointerView) (s : SiteView) : Type 0 where
   pub pointers_are : qs ≡ ps
   pub kept : KeepPointers k h after next
   pub through : GoesThrough k h ps s
 
-abbrev pub PointsAs : Act → List MapDecl → Kinds → Held → Kinds → Held → List CellView → List CellView → List PointerView → List PointerView → ℕ → SiteView → Type 0
+abbrev pub PointsAs : Act → List MapDecl → Kinds → RegisterCells → Kinds → RegisterCells → List CellView → List CellView → List PointerView → List PointerView → ℕ → SiteView → Type 0
 PointsAs act.Lookup decls k h after next old new ps qs j s = LookupPoints k h after next old new ps qs j s
 PointsAs act.Update decls k h after next old new ps qs j s = ChangePoints decls k h after next ps qs s
 PointsAs act.Delete decls k h after next old new ps qs j s = ChangePoints decls k h after next ps qs s
 PointsAs a decls k h after next old new ps qs j s = AccessPoints k h after next ps qs s
 
 -- The site of an operation, before which this cell stood for what is pending of its map; the cells that read it, and the pointers that are held
--- behind it.
-pub record OperationPoints (decls : List MapDecl) (i : Insn) (pending : ℕ) (k : Kinds) (h : Held) (after : Kinds) (next : Held) (old new : List CellView) (ps qs : List PointerView) (sites sites2 : List SiteView) : Type 0 where
+-- after it.
+pub record OperationPoints (decls : List MapDecl) (i : Insn) (pending : ℕ) (k : Kinds) (h : RegisterCells) (after : Kinds) (next : RegisterCells) (old new : List CellView) (ps qs : List PointerView) (sites sites2 : List SiteView) : Type 0 where
   pub site : SiteView
   pub sites_are : sites2 ≡ sites ++ site ∷ []
   pub reads : OperationReads decls (map_used k i i.op) pending old new (length sites) site
@@ -108,12 +108,12 @@ pub record OperationPoints (decls : List MapDecl) (i : Insn) (pending : ℕ) (k 
 
 -- The same of any instruction, before which these cells stood for what is pending of maps: one that operates on no map adds no site and no
 -- pointer.
-pub record PlainPoints (k : Kinds) (h : Held) (after : Kinds) (next : Held) (ps qs : List PointerView) (sites sites2 : List SiteView) : Type 0 where
+pub record PlainPoints (k : Kinds) (h : RegisterCells) (after : Kinds) (next : RegisterCells) (ps qs : List PointerView) (sites sites2 : List SiteView) : Type 0 where
   pub pointers_are : qs ≡ ps
   pub sites_are : sites2 ≡ sites
   pub kept : KeepPointers k h after next
 
-abbrev pub InstructionPoints : List MapDecl → Insn → List ℕ → Kinds → Held → Kinds → Held → List CellView → List CellView → List PointerView → List PointerView → List SiteView → List SiteView → Type 0
+abbrev pub InstructionPoints : List MapDecl → Insn → List ℕ → Kinds → RegisterCells → Kinds → RegisterCells → List CellView → List CellView → List PointerView → List PointerView → List SiteView → List SiteView → Type 0
 InstructionPoints decls i pending k h after next old new ps qs sites sites2 =
     PlainPoints k h after next ps qs sites sites2
     ⊎ ((c : ℕ) × ((q : ℕ) → map_used k i i.op ≡ Some q → q < length pending → c ≡ slice_index pending q) × OperationPoints decls i c k h after next old new ps qs sites sites2)
@@ -130,31 +130,31 @@ pub record IsSamePointer (decls : List MapDecl) (v u : ℕ → ℕ) (ps qs : Lis
   pub key : key_of decls v y.map (pointer_at qs y.pointer) ≡ key_of decls v x.map (pointer_at ps x.pointer)
 
 -- What the lookup of a node answered has one found bit at all places.
-abbrev pub AnswerAlike : (ℕ → ℕ) → List PointerView → Kinds → Held → Type 0
+abbrev pub AnswerAlike : (ℕ → ℕ) → List PointerView → Kinds → RegisterCells → Type 0
 AnswerAlike v ps k h =
     (x y : Pointing) (n : ℕ) → HoldsPointer k h x → HoldsPointer k h y → x.node ≡ Some n → y.node ≡ Some n
     → v (pointer_at ps x.pointer).found ≡ v (pointer_at ps y.pointer).found
 
 -- A pointer on an edge that is on was held at the node that it leaves; or it was the answer of a lookup, and the key was found.
-abbrev pub WasHeld : (ℕ → ℕ) → List PointerView → Kinds → Held → Pointing → Type 0
+abbrev pub WasHeld : (ℕ → ℕ) → List PointerView → Kinds → RegisterCells → Pointing → Type 0
 WasHeld v ps k h x =
     HoldsPointer k h x
     ⊎ ((n : ℕ) × HoldsPointer k h (record { map = x.map; node = Some n; pointer = x.pointer }) × (x.node ≡ None) × (on (v (pointer_at ps x.pointer).found) ≡ true))
 
 -- On an edge, on or not, a pointer was held at the node that it leaves, by this kind or as the answer of a lookup.
-abbrev pub CameAlong : Kinds → Held → Pointing → Type 0
+abbrev pub CameAlong : Kinds → RegisterCells → Pointing → Type 0
 CameAlong k h x = (node : Option ℕ) × HoldsPointer k h (record { map = x.map; node = node; pointer = x.pointer })
 
 -- The edges that leave a jump, for any values of cells: they have bits, are on only where the guard is, and two that are on lead to one node;
 -- what is held on one that is on was held at the node.
-pub record EdgesPoint (v : ℕ → ℕ) (ps : List PointerView) (k : Kinds) (h : Held) (guard : ℕ) (more : List Way) : Type 0 where
+pub record EdgesPoint (v : ℕ → ℕ) (ps : List PointerView) (k : Kinds) (h : RegisterCells) (guard : ℕ) (more : List Way) : Type 0 where
   pub bits : All (λ e. v e.bit < 2) more
   pub guarded : All (λ e. on (v e.bit) ≡ true → on (v guard) ≡ true) more
   pub one : (e f : Way) → Contains more e → Contains more f → on (v e.bit) ≡ true → on (v f.bit) ≡ true → e.to ≡ f.to
   pub held : AnswerAlike v ps k h → All (λ e. on (v e.bit) ≡ true → (x : Pointing) → HoldsPointer e.kinds e.held x → WasHeld v ps k h x) more
   pub along : All (λ e. (x : Pointing) → HoldsPointer e.kinds e.held x → CameAlong k h x) more
 
-abbrev pub LeavePoints : List CellView → List PointerView → Kinds → Held → ℕ → List Way → List Way → Type 0
+abbrev pub LeavePoints : List CellView → List PointerView → Kinds → RegisterCells → ℕ → List Way → List Way → Type 0
 LeavePoints new ps k h guard ways ways2 =
     (more : List Way) × (ways2 ≡ ways ++ more) × ((packet : PacketIn) (v : ℕ → ℕ) → IsRun packet new v → v guard < 2 → EdgesPoint v ps k h guard more)
 
@@ -178,7 +178,7 @@ pub record IsLookedUp (decls : List MapDecl) (cells : List CellView) (sites : Li
   pub between : (i : ℕ) → lookup < i → i < length sites → (site_at sites i).map ≡ x.map → on (v (site_at sites i).guard) ≡ true → is_hash decls x.map ≡ true → changes_keys (site_at sites i).act ≡ false
 
 -- so of each that is held
-abbrev pub AreLookedUp : List MapDecl → List CellView → List SiteView → (ℕ → ℕ) → (ℕ → ℕ) → List PointerView → Kinds → Held → Type 0
+abbrev pub AreLookedUp : List MapDecl → List CellView → List SiteView → (ℕ → ℕ) → (ℕ → ℕ) → List PointerView → Kinds → RegisterCells → Type 0
 AreLookedUp decls cells sites v u ps k h = (x : Pointing) → HoldsPointer k h x → IsLookedUp decls cells sites v u ps x
 
 -- An access through the pointer of an earlier lookup on the path that found the key: it has its key and what goes with its found cell, and no
@@ -213,8 +213,8 @@ abbrev pub FoundsAre : List CellView → List SiteView → (ℕ → ℕ) → ℕ
 FoundsAre cells sites u m n = (c j : ℕ) → c < length cells → (cell_at cells c).op ≡ Found j → (site_at sites j).map ≡ m → u c ≡ n
 
 -- and at the found cell of each pointer into this map that is held
-abbrev pub HeldAre : (ℕ → ℕ) → ℕ → ℕ → List PointerView → Kinds → Held → Type 0
-HeldAre u m n ps k h = (x : Pointing) → HoldsPointer k h x → x.map ≡ m → u (pointer_at ps x.pointer).found ≡ n
+abbrev pub RegisterCellsAre : (ℕ → ℕ) → ℕ → ℕ → List PointerView → Kinds → RegisterCells → Type 0
+RegisterCellsAre u m n ps k h = (x : Pointing) → HoldsPointer k h x → x.map ≡ m → u (pointer_at ps x.pointer).found ≡ n
 
 -- and at the pointer of an access
 abbrev pub PointerIs : List SiteView → (ℕ → ℕ) → ℕ → ℕ → Type 0

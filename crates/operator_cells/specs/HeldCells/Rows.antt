@@ -22,9 +22,9 @@ use Rattle.row_rules.specs.PlaceRows.Spans.{one, pending_place, map_of, is_in, s
 use Rattle.row_rules.specs.PlaceRows.Origins.{is_open}
 use Rattle.row_rules.specs.PlaceRows.Reading.{right_of, is_known, result_row}
 use Rattle.row_rules.specs.PlaceRows.Writing.{writes_as, record_as, taken_row, made_row}
-use Rattle.operator_cells.specs.declared.held_cells.held.Held.{Held}
+use Rattle.operator_cells.specs.declared.held_cells.machine_cells.RegisterCells.{RegisterCells}
 use Rattle.operator_cells.specs.declared.held_cells.way.Way.{Way}
-use Rattle.operator_cells.specs.HeldCells.Held.{PointerView, pointer_at}
+use Rattle.operator_cells.specs.HeldCells.RegisterCells.{PointerView, pointer_at}
 
 -- The cells of a value of a kind, of which a number is held: of a number that is not known its cell, of an answer of a lookup or a place in an
 -- entry the pointer's, else none.
@@ -57,7 +57,7 @@ kind_at k place =
     Unset
 
 -- and the number that is held
-abbrev pub number_at : Held → ℕ → ℕ
+abbrev pub number_at : RegisterCells → ℕ → ℕ
 number_at h place =
     if nat_lt place 11 then slice_index h.registers place else
     if nat_lt place 75 then slice_index h.slots (place - 11) else
@@ -65,21 +65,21 @@ number_at h place =
     h.target
 
 -- the greatest row of the cells at a place
-abbrev pub held_row : (ℕ → ℕ) → List PointerView → Held → Kinds → ℕ → ℕ
+abbrev pub held_row : (ℕ → ℕ) → List PointerView → RegisterCells → Kinds → ℕ → ℕ
 held_row row ps h k place = value_row row ps (kind_at k place) (number_at h place)
 
 -- ---- an instruction
 
--- More cells up to a row; behind them the places of these spans stand in no later row than a result, and all others hold what they held, in no
+-- More cells up to a row; after them the places of these spans stand in no later row than a result, and all others hold what they held, in no
 -- later row than before.
-pub record LeavesTo (before : (ℕ → ℕ) → ℕ → ℕ) (ps : List PointerView) (h : Held) (after : Kinds) (next : Held) (old new : List CellView) (spans : List Span) (made result : (ℕ → ℕ) → ℕ) : Type 0 where
+pub record LeavesTo (before : (ℕ → ℕ) → ℕ → ℕ) (ps : List PointerView) (h : RegisterCells) (after : Kinds) (next : RegisterCells) (old new : List CellView) (spans : List Span) (made result : (ℕ → ℕ) → ℕ) : Type 0 where
   pub grows : GrowsTo old new made
   pub written : (row : ℕ → ℕ) → AreRows new row → (place : ℕ) → list_any (is_in place) spans ≡ true → held_row row ps next after place ≤ result row
   pub kept : (row : ℕ → ℕ) → AreRows new row → (place : ℕ) → list_any (is_in place) spans ≡ false → held_row row ps next after place ≤ before row place
   pub same : (place : ℕ) → place < 332 → list_any (is_in place) spans ≡ false → number_at next place ≡ number_at h place
 
 -- The same of the cells of an instruction, by what it reads, writes and takes.
-abbrev pub CarriesTo : List MapDecl → ((ℕ → ℕ) → ℕ → ℕ) → List PointerView → Insn → Kinds → Held → Kinds → Held → List CellView → List CellView → Type 0
+abbrev pub CarriesTo : List MapDecl → ((ℕ → ℕ) → ℕ → ℕ) → List PointerView → Insn → Kinds → RegisterCells → Kinds → RegisterCells → List CellView → List CellView → Type 0
 CarriesTo decls before ps i k h after next old new =
     LeavesTo before ps h after next old new (writes_as k i i.op) (λ row. made_row (before row) decls k after i) (λ row. result_row (before row) decls k after i)
 
@@ -97,7 +97,7 @@ abbrev pub pending_before : (ℕ → ℕ) → Option ℕ → ℕ → ℕ → ℕ
 pending_before row (Some q) c place = if place == pending_place q then row c else 0
 pending_before row None c place = 0
 
-abbrev pub row_before : (ℕ → ℕ) → List PointerView → Held → Kinds → Option ℕ → ℕ → ℕ → ℕ
+abbrev pub row_before : (ℕ → ℕ) → List PointerView → RegisterCells → Kinds → Option ℕ → ℕ → ℕ → ℕ
 row_before row ps h k q c place = if nat_lt place 332 then held_row row ps h k place else pending_before row q c place
 
 -- whether an instruction writes a place, as the first of its spans says
@@ -122,7 +122,7 @@ pub record WriteWithin (write : Option Record) (old new : List CellView) (sites 
   pub readers : (c j : ℕ) → length old ≤ c → c < length new → site_in (cell_at new c).op ≡ Some j → records (site_at sites2 j).act ≡ true → row c ≤ last
 
 -- Of the cells and sites of an instruction that operates on a map, before which this cell stood for what is pending of it.
-pub record OperatesTo (decls : List MapDecl) (i : Insn) (pending : ℕ) (k : Kinds) (h : Held) (after : Kinds) (next : Held) (old new : List CellView) (ps qs : List PointerView) (sites sites2 : List SiteView) : Type 0 where
+pub record OperatesTo (decls : List MapDecl) (i : Insn) (pending : ℕ) (k : Kinds) (h : RegisterCells) (after : Kinds) (next : RegisterCells) (old new : List CellView) (ps qs : List PointerView) (sites sites2 : List SiteView) : Type 0 where
   pub carries : CarriesTo decls (λ row. row_before row ps h k (map_used k i i.op) pending) qs i k h after next old new
   pub writes : (row : ℕ → ℕ) → AreRows new row → WriteWithin (record_as decls k i i.op) old new sites sites2 row (written_row (row_before row ps h k (map_used k i i.op) pending) decls k after i)
   pub declared : (q : ℕ) → map_used k i i.op ≡ Some q → q < length decls
@@ -159,7 +159,7 @@ abbrev pub choosing_row : (ℕ → ℕ) → List PointerView → List Way → Ki
 choosing_row row ps here k place = if is_open (kind_at k place) && not (hold_one here place) then chosen_row row ps here place else 0
 
 -- Where edges meet: more cells, the guard, and what is held, place by place.
-pub record JoinsTo (old new : List CellView) (ps qs : List PointerView) (here : List Way) (k : Kinds) (guard : ℕ) (h : Held) : Type 0 where
+pub record JoinsTo (old new : List CellView) (ps qs : List PointerView) (here : List Way) (k : Kinds) (guard : ℕ) (h : RegisterCells) : Type 0 where
   pub grows : GrowsTo old new (λ row. max (bits_row row here) (greatest (choosing_row row ps here k) (numbers 0 332)))
   pub guard_row : (row : ℕ → ℕ) → AreRows new row → row guard ≤ bits_row row here
   pub held : (row : ℕ → ℕ) → AreRows new row → (place : ℕ) → place < 332 → held_row row qs h k place ≤ met_row row ps here place
@@ -167,7 +167,7 @@ pub record JoinsTo (old new : List CellView) (ps qs : List PointerView) (here : 
 
 -- ---- edges that leave
 
--- the row of the edges that leave an instruction: that of its guard, and of a jump that is not decided also one behind what is compared
+-- the row of the edges that leave an instruction: that of its guard, and of a jump that is not decided also one after what is compared
 abbrev pub undecided_row : (ℕ → ℕ) → Insn → Op → ℕ → Option Bool → ℕ
 undecided_row row i (Jump w c s) guard None = max guard (1 + max (span_row row (one i.dst)) (span_row row (right_of i s)))
 undecided_row row i op guard d = guard
@@ -176,7 +176,7 @@ abbrev pub leaving_row : (ℕ → ℕ) → Kinds → Insn → ℕ → ℕ
 leaving_row row k i guard = undecided_row row i i.op guard (decided k i)
 
 -- More cells up to a row, and more edges, on which this is held, whose bits stand in no later row.
-pub record LeaveTo (old new : List CellView) (ways ways2 : List Way) (h : Held) (last : (ℕ → ℕ) → ℕ) : Type 0 where
+pub record LeaveTo (old new : List CellView) (ways ways2 : List Way) (h : RegisterCells) (last : (ℕ → ℕ) → ℕ) : Type 0 where
   pub grows : GrowsTo old new last
   pub more : List Way
   pub ways_are : ways2 ≡ ways ++ more

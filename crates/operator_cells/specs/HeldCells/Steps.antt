@@ -11,11 +11,11 @@ use Rattle.cell_core.specs.Cells.{CellView, IsRun, cell_at, site_in, bits_from, 
 use Rattle.cell_core.specs.Sites.{SiteView, site_at, operation_on, after, read_on}
 use Rattle.cell_core.specs.Formed.{FitsMap, IsBelow}
 use Rattle.operator_cells.specs.Making.{GrowsWith}
-use Rattle.operator_cells.specs.declared.held_cells.held.Held.{Held}
+use Rattle.operator_cells.specs.declared.held_cells.machine_cells.RegisterCells.{RegisterCells}
 use Rattle.operator_cells.specs.declared.held_cells.way.Way.{Way}
 use Rattle.operator_cells.specs.declared.held_cells.way.Exit.{Exit}
 use Rattle.operator_cells.specs.HeldCells.Paths.{GraphView, Stage, At, Over, Nowhere, node_at, visit, stands_at, maps_in}
-use Rattle.operator_cells.specs.HeldCells.Held.{PointerView, AreInside, number_of, IsThere}
+use Rattle.operator_cells.specs.HeldCells.RegisterCells.{PointerView, AreInside, number_of, IsThere}
 use Rattle.operator_cells.specs.HeldCells.Carrying.{IsKnown}
 
 -- an edge that is on leads to where the run stands
@@ -48,7 +48,7 @@ pub record IsGood (g : GraphView) (packet : PacketIn) (v : ℕ → ℕ) (ps : Li
 
 -- the edges that lead to a node as one: the guard is 1 exactly where the run stands there, its machine is at the place of the node, and the
 -- cells hold what it holds
-pub record IsHere (g : GraphView) (packet : PacketIn) (v : ℕ → ℕ) (ps : List PointerView) (k guard : ℕ) (held : Held) (s : Stage) : Type 0 where
+pub record IsHere (g : GraphView) (packet : PacketIn) (v : ℕ → ℕ) (ps : List PointerView) (k guard : ℕ) (held : RegisterCells) (s : Stage) : Type 0 where
   pub guard_is : v guard ≡ bit (stands_at k s)
   pub placed : (m : Machine) → s ≡ At k m → m.place ≡ (node_at g.nodes k).place
   pub known : (m : Machine) → s ≡ At k m → IsKnown g.decls packet v ps k (node_at g.nodes k).kinds held m
@@ -64,7 +64,7 @@ abbrev pub AreRead : MapState → List CellView → List SiteView → (ℕ → �
 AreRead maps cells sites v = (c j : ℕ) → c < length cells → j < length sites → site_in (cell_at cells c).op ≡ Some j → on (v (site_at sites j).guard) ≡ true
     → v c ≡ bits_from (read_on v (after v maps (take j sites)) (site_at sites j) (cell_at cells c).op) (cell_at cells c).from (cell_at cells c).width
 
--- A cell that a node makes reads a site of this node alone, and stands behind the cells that this one and those before it take.
+-- A cell that a node makes reads a site of this node alone, and stands after the cells that this one and those before it take.
 abbrev pub ReadsOwn : List SiteView → List SiteView → ℕ → ℕ → Type 0
 ReadsOwn sites sites2 c j = (length sites ≤ j) × (j < length sites2) × ((i : ℕ) → length sites ≤ i → i ≤ j → IsBelow c (site_at sites2 i))
 
@@ -75,8 +75,8 @@ DoAs v maps (s ∷ []) op = op ≡ Some (s.map, operation_on v maps s)
 DoAs v maps (s ∷ r ∷ more) op = ⊥
 
 -- What the code of node k does behind its guard: cells, pointers, sites, edges and ends are added; and for all values of the cells and every
--- run, where things are good before the node they are good behind it, and the operations of the sites leave the maps of the run.
-pub record Steps (g : GraphView) (k guard : ℕ) (held : Held) (cells cells2 : List CellView) (ps ps2 : List PointerView) (sites sites2 : List SiteView) (ways ways2 : List Way) (exits exits2 : List Exit) : Type 0 where
+-- run, where things are good before the node they are good after it, and the operations of the sites leave the maps of the run.
+pub record Steps (g : GraphView) (k guard : ℕ) (held : RegisterCells) (cells cells2 : List CellView) (ps ps2 : List PointerView) (sites sites2 : List SiteView) (ways ways2 : List Way) (exits exits2 : List Exit) : Type 0 where
   pub grows : GrowsWith (ReadsOwn sites sites2) cells cells2
   pub more_pointers : List PointerView
   pub pointers_are : ps2 ≡ ps ++ more_pointers

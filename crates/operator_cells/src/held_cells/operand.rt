@@ -3,7 +3,7 @@
 ghost use Rattle.std.specs.Prelude.{◌≡◌, ◌<◌, length, IfOk};
 ghost use Rattle.operator_cells.specs.Making.{seen, Makes};
 ghost use Rattle.operator_cells.specs.Rising.{Rises};
-ghost use Rattle.operator_cells.specs.HeldCells.Held.{number_of, IsThere};
+ghost use Rattle.operator_cells.specs.HeldCells.RegisterCells.{number_of, IsThere};
 ghost use Rattle.operator_cells.specs.HeldCells.Rows.{number_row};
 
 use crate::cells::constant;

@@ -1,6 +1,6 @@
 //! Edges and ends of a program's graph while its cells are made.
 
-use crate::held_cells::held::Held;
+use crate::held_cells::machine_cells::RegisterCells;
 use kind_core::{Kinds, Number};
 
 /// An edge: the node that it leads to, the cell that is 1 where it is on the path of a packet, and what is known and held on it.
@@ -9,7 +9,7 @@ pub struct Way {
     pub to: u32,
     pub bit: u32,
     pub kinds: Kinds,
-    pub held: Held,
+    pub held: RegisterCells,
 }
 
 /// An end: the guard of its node, what is known of the number in R0, and what is held there.
@@ -17,5 +17,5 @@ pub struct Way {
 pub struct Exit {
     pub guard: u32,
     pub verdict: Number,
-    pub held: Held,
+    pub held: RegisterCells,
 }

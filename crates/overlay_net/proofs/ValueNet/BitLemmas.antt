@@ -3,28 +3,14 @@ use Rattle.std.proofs.Common.{◌≡◌, ℕ, ◌+◌, ◌-◌, ◌*◌, ◌/◌
 use Rattle.std.proofs.lemmas.Nat.{pow_pos, pow-add, mul-add-lt, shr_below}
 use Rattle.std.proofs.Math.Nat.{div-one, mod-eq_of_lt, mul-le-mul_left}
 use Rattle.std.proofs.Math.Pow.{pow_mono}
-use Rattle.block_core.specs.net_core.Value.{Env}
 use Rattle.hazard_core.specs.xdp_machine.State.{PacketIn}
 use Rattle.hazard_core.specs.cell_core.declared.operator.Operator.TheVariants.{Join}
 use Rattle.hazard_core.specs.cell_core.Cells.{number, bits_from, joined}
-use Rattle.cell_nets.specs.declared.operand.Operand.{Operand}
-use Rattle.cell_nets.specs.declared.operand.Operand.TheVariants.{Known, Net, Part}
-use Rattle.cell_nets.specs.Operands.{number_in, IsFit}
-use Rattle.cell_nets.specs.Wires.{HasBits}
-use Rattle.cell_nets.proofs.PartLaws.{part_small}
+use Rattle.hazard_core.proofs.cell_core_laws.BitLaws.{small_bits}
 use Rattle.overlay_net.specs.ValueNet.Words.{with_bits}
 
 pub low_bits : (n w : ℕ) → bits_from n 0 w ≡ n % 2 ^ w
 low_bits n w = ap (λ (k : ℕ). k % 2 ^ w) (div-one n)
-
-pub all_bits : (n w : ℕ) → n < 2 ^ w → bits_from n 0 w ≡ n
-all_bits n w h = low_bits n w ∙ mod-eq_of_lt h
-
--- an operand of so many bits is below their power
-pub bits_below : {N : Type 0} (v : Env N) (a : Operand N) (w : ℕ) → HasBits w a → IsFit v a → number_in v a < 2 ^ w
-bits_below v (Known n) w b f = b
-bits_below v (Net n u) w b f = subst (λ k. (v.net n).value < 2 ^ k) b f.small
-bits_below v (Part n of from u) w b f = subst (λ k. bits_from (v.net n).value from u < 2 ^ k) b (part_small (v.net n).value from u)
 
 -- one number above another
 pub join_is : (x y b : ℕ) → x * 2 ^ b + y < 2 ^ 64 → joined b (x ∷ y ∷ []) ≡ x * 2 ^ b + y
@@ -42,7 +28,7 @@ join_bits packet x y b k w e most high low =
     let p : 2 ^ w ≡ 2 ^ b * 2 ^ k = ap (λ n. 2 ^ n) e ∙ pow-add 2 b k in
     let small : x * 2 ^ b + y < 2 ^ w = subst (λ n. x * 2 ^ b + y < n) (sym p) (mul-add-lt x (2 ^ b) y (2 ^ k) high low) in
     let wide : x * 2 ^ b + y < 2 ^ 64 = omega (arith, small, pow_mono {i = w} {j = 64} most) in
-    ap (λ n. bits_from n 0 w) (join_is x y b wide) ∙ all_bits (x * 2 ^ b + y) w small ∙ omega arith
+    ap (λ n. bits_from n 0 w) (join_is x y b wide) ∙ small_bits (x * 2 ^ b + y) w small ∙ omega arith
 
 -- all bits from one on
 pub high_bits : (n from : ℕ) → from ≤ 64 → n < 2 ^ 64 → bits_from n from (64 - from) ≡ n / 2 ^ from
@@ -63,4 +49,4 @@ high_zero n small = let h : n / 2 ^ 64 < 1 = high_below n 64 (omega arith) small
 
 -- more bits than a number has
 pub more_bits : (n w : ℕ) → w ≤ 64 → n < 2 ^ w → bits_from n 0 64 ≡ n
-more_bits n w most small = all_bits n 64 (omega (arith, small, pow_mono {i = w} {j = 64} most))
+more_bits n w most small = small_bits n 64 (omega (arith, small, pow_mono {i = w} {j = 64} most))

@@ -16,7 +16,7 @@ use Rattle.cell_nets.specs.declared.operand.Operand.{Operand}
 use Rattle.cell_nets.specs.Operands.{number_in}
 use Rattle.overlay_net.specs.ValueNet.Lists.{numbers_in, number_of}
 use Rattle.overlay_net.proofs.ValueNet.BitLemmas.{low_bits, more_bits}
-use Rattle.overlay_net.proofs.ValueNet.ByteLemmas.{word_of_words}
+use Rattle.overlay_net.proofs.ValueNet.ByteLaws.{word_of_words}
 
 -- a word of the value of an update
 pub value_is :

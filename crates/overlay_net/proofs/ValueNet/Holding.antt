@@ -1,40 +1,25 @@
 -- Wires that become more step by step, and what is known of the operands that they give.
-use Rattle.std.proofs.Common.{◌≡◌, ℕ, zero, suc, true, false, subst, All, List, [], ◌∷◌, ◌++◌, refl, sym, ◌∙◌, ap, arith}
+use Rattle.std.proofs.Common.{◌≡◌, ℕ, suc, true, false, subst, All, List, [], ◌∷◌, ◌++◌, refl, sym, ◌∙◌, ap, arith}
 use Rattle.std.proofs.lemmas.List.Elements.{All-cons}
 use Rattle.block_core.specs.net_core.Value.{Env}
 use Rattle.hazard_core.specs.xdp_machine.State.{PacketIn}
 use Rattle.block_core.specs.declared.name.Name.{Name}
 use Rattle.block_core.specs.Blocks.{BlockWireTree}
 use Rattle.block_core.specs.Parts.{Solve}
+use Rattle.block_core.proofs.list_laws_laws.AllLaws.{all_one}
 use Rattle.cell_nets.specs.declared.operand.Operand.{Operand}
 use Rattle.cell_nets.specs.Apart.{StayApart}
 use Rattle.cell_nets.specs.Operands.{number_in, IsOperand, IsFit, AreFit, IsAvailable}
 use Rattle.hazard_core.specs.cell_core.declared.operator.Operator.{Operator}
-use Rattle.hazard_core.specs.cell_core.declared.operator.Operator.TheVariants.{Mul}
 use Rattle.hazard_core.specs.cell_core.Formed.{divides}
 use Rattle.cell_nets.specs.Computing.{makes_product, taken, HasDivisor}
 use Rattle.cell_nets.specs.Wires.{behind, AreWires, HasBits, IsGiven, GivesBy, Gives, always}
-use Rattle.cell_nets.proofs.ApartLemmas.{stay_none, stay_as, stay_then}
-use Rattle.cell_nets.proofs.ChoiceLemmas.{fit_of}
+use Rattle.cell_nets.proofs.ApartLaws.{stay_none, stay_as, stay_then}
+use Rattle.cell_nets.proofs.ChoiceLaws.{fit_of}
+use Rattle.cell_nets.proofs.ComputingLaws.{no_divisor}
 
 pub no_packet : PacketIn
 no_packet = record { frame = []; ifindex = 0; time = 0 }
-
--- of all operands what is said of each
-pub one_is : {X : Type 0} (Q : X → Type 0) (x : X) → Q x → All Q (x ∷ [])
-one_is Q x h zero d lt = h
-one_is Q x h (suc k) d lt = absurd (omega arith)
-
-pub two_are : {X : Type 0} (Q : X → Type 0) (x y : X) → Q x → Q y → All Q (x ∷ y ∷ [])
-two_are Q x y h l zero d lt = h
-two_are Q x y h l (suc zero) d lt = l
-two_are Q x y h l (suc (suc k)) d lt = absurd (omega arith)
-
-pub three_are : {X : Type 0} (Q : X → Type 0) (x y z : X) → Q x → Q y → Q z → All Q (x ∷ y ∷ z ∷ [])
-three_are Q x y z h l m zero d lt = h
-three_are Q x y z h l m (suc zero) d lt = l
-three_are Q x y z h l m (suc (suc zero)) d lt = m
-three_are Q x y z h l m (suc (suc (suc k))) d lt = absurd (omega arith)
 
 -- lists that are made of one element after another
 pub two_listed : {X : Type 0} (none one two all : List X) (a b : X) → none ≡ [] → one ≡ none ++ a ∷ [] → two ≡ one ++ b ∷ [] → all ≡ two → all ≡ a ∷ b ∷ []
@@ -43,7 +28,7 @@ two_listed none one two all a b e f g h = h ∙ g ∙ ap (λ l. l ++ b ∷ []) (
 pub three_listed : {X : Type 0} (none one two three all : List X) (a b c : X) → none ≡ [] → one ≡ none ++ a ∷ [] → two ≡ one ++ b ∷ [] → three ≡ two ++ c ∷ [] → all ≡ three → all ≡ a ∷ b ∷ c ∷ []
 three_listed none one two three all a b c e f g h i = i ∙ h ∙ ap (λ l. l ++ c ∷ []) (two_listed none one two two a b e f g refl)
 
--- Behind more wires some operands are there, and where a condition holds this is known of them.
+-- After more wires some operands are there, and where a condition holds this is known of them.
 pub record Holds {P : Type 0} (p : P) (old new : List (BlockWireTree (Name P))) (args outs : List (Operand (Name P))) (needs knows : Env (Name P) → Type 0) : Type 0 where
   pub before : (v : Env (Name P)) → Solve v p 0 new → Solve v p 0 old
   pub stays : (outside : List (Operand (Name P))) (a : Operand (Name P)) → IsAvailable (behind p outside old) a → IsAvailable (behind p outside new) a
@@ -101,7 +86,7 @@ module _ {P : Type 0} (p : P) where
       value = λ v f s n.
           same v (λ k d lt. fit_of (behind p outside new) v _ (x.there outside a t k d lt) ((x.wires outside a t).fits v f s)) (x.value outside v a t f s n);
     };
-    apart = stay_then p old new new args outs outs (r ∷ []) (λ ins h k. k) x.apart (stay_none p new outs (r ∷ []) (λ ins h. one_is (IsAvailable ins) r (sub ins h)));
+    apart = stay_then p old new new args outs outs (r ∷ []) (λ ins h k. k) x.apart (stay_none p new outs (r ∷ []) (λ ins h. all_one (IsAvailable ins) r (sub ins h)));
   }
 
   -- one step, said otherwise
@@ -111,11 +96,6 @@ module _ {P : Type 0} (p : P) where
   step_gives old new args bs needs more h g w r y sub same =
       hold_gives old new args (r ∷ args) needs (λ v. needs v × (number_in v r ≡ h v)) g w r (hold_more old old new args args bs needs needs more h w r (hold_none old args needs) y sub (λ v f k. (same v f k).0)) y.operand y.bits (λ ins a. a 0 r (omega arith))
       (λ v f k. k.1 ∙ (same v (λ n d lt. f (suc n) d (omega (arith, lt))) k.0).1)
-
--- an operator that is no product
-no_divisor : (op : Operator) → makes_product op ≡ false → divides op ≡ false
-no_divisor Mul e = cc
-no_divisor op e = e
 
 clash : true ≡ false → ⊥
 clash e = cc

@@ -10,7 +10,7 @@ use Rattle.hazard_core.specs.cell_core.Sites.{ProgramView, site_at}
 use Rattle.hazard_core.specs.Tables.{TableState, decl_of, table_at, slot_at}
 use Rattle.hazard_core.specs.declared.pointer.Pointer.{Pointer}
 use Rattle.hazard_core.specs.declared.pointer.Pointer.TheVariants.{InSlot}
-use Rattle.hazard_core.specs.Held.{Held, writes, written_pointer}
+use Rattle.hazard_core.specs.StageValues.{StageValues, writes, written_pointer}
 use Rattle.hazard_core.specs.Commits.{word_at}
 use Rattle.cell_nets.specs.declared.operand.Operand.{Operand}
 use Rattle.cell_nets.specs.Operands.{number_in, IsOperand}
@@ -41,7 +41,7 @@ pub record IsOf {N : Type 0} (p : ProgramView) (m i : ℕ) (n : Pending N) : Typ
   pub count : length n.nets.now.operands.items ≡ length (site_at p.sites i).operands
 
 -- and stands for it: what it asks, whether it writes, and the entry that it writes
-pub record ShowsPending {N : Type 0} (v : Env N) (p : ProgramView) (t : TableState) (h : Held) (i : ℕ) (n : Pending N) : Type 0 where
+pub record ShowsPending {N : Type 0} (v : Env N) (p : ProgramView) (t : TableState) (h : StageValues) (i : ℕ) (n : Pending N) : Type 0 where
   pub asked : ShowsAsked v p h i (operands_of n.nets.now)
   pub writes : number_in v n.writes ≡ bit (writes p t.decls h i)
   pub written : number_in v n.written ≡ pointer_number (written_pointer p t h i)
@@ -51,7 +51,7 @@ pub record AreOf {N : Type 0} (p : ProgramView) (m : ℕ) (before : List ℕ) (n
   pub count : length ns ≡ length before
   pub each : (k : ℕ) (n : Pending N) → k < length before → IsOf p m (get_or before k 0) (get_or ns k n)
 
-pub record ShowPendings {N : Type 0} (v : Env N) (p : ProgramView) (t : TableState) (h : Held) (before : List ℕ) (ns : List (Pending N)) : Type 0 where
+pub record ShowPendings {N : Type 0} (v : Env N) (p : ProgramView) (t : TableState) (h : StageValues) (before : List ℕ) (ns : List (Pending N)) : Type 0 where
   pub each : (k : ℕ) (n : Pending N) → k < length before → ShowsPending v p t h (get_or before k 0) (get_or ns k n)
 
 -- the slot under a pointer has a value of the declared length

@@ -6,7 +6,7 @@ ghost use Rattle.hazard_core.specs.xdp_maps.Contents.{IsBytes};
 ghost use Rattle.hazard_core.specs.cell_core.Cells.{bits_from, on};
 ghost use Rattle.hazard_core.specs.cell_core.Sites.{ProgramView, site_at};
 ghost use Rattle.hazard_core.specs.Commits.{word_at};
-ghost use Rattle.hazard_core.specs.Held.{Held, access_pointer};
+ghost use Rattle.hazard_core.specs.StageValues.{StageValues, access_pointer};
 ghost use Rattle.hazard_core.specs.Overlay.{answer_over};
 ghost use Rattle.hazard_core.specs.Tables.{TableState, decl_of};
 ghost use Rattle.cell_nets.specs.Operands.{IsOperand, number_in};
@@ -99,7 +99,7 @@ pub fn access_answer<P: Copy>(
     requires first { IsOperand first }
     requires from { from ≤ 63 }
     requires width { width ≤ 64 }
-    ensures { (p : ProgramView) (t : TableState) (h : Held) (before : List ℕ) (j : ℕ) → let s = site_at p.sites j in
+    ensures { (p : ProgramView) (t : TableState) (h : StageValues) (before : List ℕ) (j : ℕ) → let s = site_at p.sites j in
         s.act ≡ act → AreOf p s.map before pendings.now → decl_of t.decls s.map ≡ decl.now → HasValue t s.map (access_pointer h s)
         → IfOk result (Gives part (wires_of wires.old.items) (wires_of wires.new.items) (under ∷ first ∷ all_taken pendings.now)
         (λ v. ShowsEntry v t s.map (access_start act / 8) (access_pointer h s) under first × ShowPendings v p t h before pendings.now)

@@ -4,7 +4,7 @@ ghost use Rattle.std.specs.Prelude.{ℕ, List, [], ◌∷◌, ◌≡◌, ◌≤�
 ghost use Rattle.hazard_core.specs.xdp_maps.Contents.{IsBytes};
 ghost use Rattle.hazard_core.specs.cell_core.Sites.{ProgramView};
 ghost use Rattle.hazard_core.specs.Commits.{word_at};
-ghost use Rattle.hazard_core.specs.Held.{Held};
+ghost use Rattle.hazard_core.specs.StageValues.{StageValues};
 ghost use Rattle.hazard_core.specs.declared.pointer.Pointer.{Pointer};
 ghost use Rattle.hazard_core.specs.Overlay.{value_over, value_under, entry_value};
 ghost use Rattle.hazard_core.specs.Tables.{TableState, decl_of, table_at};
@@ -42,7 +42,7 @@ fn word_over<P: Copy>(
     requires word { HasBits 64 old }
     ensures operand { IfOk result IsOperand }
     ensures bits { IfOk result (HasBits 64) }
-    ensures gives { (p : ProgramView) (t : TableState) (h : Held) (m i : ℕ) (at : Pointer) (value : List ℕ) → IsOf p m i pending.now → decl_of t.decls m ≡ decl.now → IsBytes decl.now.value value
+    ensures gives { (p : ProgramView) (t : TableState) (h : StageValues) (m i : ℕ) (at : Pointer) (value : List ℕ) → IsOf p m i pending.now → decl_of t.decls m ≡ decl.now → IsBytes decl.now.value value
         → IfOk result (Gives part (wires_of wires.old.items) (wires_of wires.new.items) (old ∷ under ∷ taken_of pending.now)
         (λ v. (number_in v old ≡ word_at value w) × (number_in v under ≡ pointer_number at) × ShowsPending v p t h i pending.now)
         (λ v. word_at (value_over p t h at value i) w) 64) }
@@ -99,7 +99,7 @@ pub fn entry_word<P: Copy>(
     requires first { IsOperand first }
     ensures operand { IfOk result IsOperand }
     ensures bits { IfOk result (HasBits 64) }
-    ensures gives { (p : ProgramView) (t : TableState) (h : Held) (before : List ℕ) (m : ℕ) (at : Pointer) → AreOf p m before pendings.now → decl_of t.decls m ≡ decl.now → HasValue t m at
+    ensures gives { (p : ProgramView) (t : TableState) (h : StageValues) (before : List ℕ) (m : ℕ) (at : Pointer) → AreOf p m before pendings.now → decl_of t.decls m ≡ decl.now → HasValue t m at
         → IfOk result (Gives part (wires_of wires.old.items) (wires_of wires.new.items) (under ∷ first ∷ all_taken pendings.now)
         (λ v. ShowsEntry v t m w at under first × ShowPendings v p t h before pendings.now)
         (λ v. word_at (entry_value p t h before m at) w) 64) }

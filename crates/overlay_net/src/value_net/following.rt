@@ -5,7 +5,7 @@ ghost use Rattle.hazard_core.specs.xdp_maps.Contents.{IsBytes};
 ghost use Rattle.hazard_core.specs.cell_core.Formed.{HasWords, IsInside};
 ghost use Rattle.hazard_core.specs.xdp_maps.declared.decl.MapDecl.{MapDecl};
 ghost use Rattle.hazard_core.specs.cell_core.Sites.{ProgramView, site_at, bytes_of, operation_with};
-ghost use Rattle.hazard_core.specs.Held.{Held, asked};
+ghost use Rattle.hazard_core.specs.StageValues.{StageValues, asked};
 ghost use Rattle.hazard_core.specs.Tables.{decl_of};
 ghost use Rattle.overlay_net.specs.SiteOperands.Sites.{operands_of, ShowsAsked};
 ghost use Rattle.hazard_core.specs.Commits.{word_at};
@@ -120,7 +120,7 @@ pub fn word_after<P: Copy>(
     requires aligned { IsAligned act }
     ensures operand { IfOk result IsOperand }
     ensures bits { IfOk result (HasBits 64) }
-    ensures gives { (p : ProgramView) (decls : List MapDecl) (h : Held) (j : ℕ) (value : List ℕ) → let s = site_at p.sites j in
+    ensures gives { (p : ProgramView) (decls : List MapDecl) (h : StageValues) (j : ℕ) (value : List ℕ) → let s = site_at p.sites j in
         s.act ≡ act → decl_of decls s.map ≡ decl.now → IsBytes decl.now.value value
         → IfOk result (Gives part (wires_of wires.old.items) (wires_of wires.new.items) (old ∷ nets.now.operands.items)
         (λ v. (number_in v old ≡ word_at value w) × ShowsAsked v p h j (operands_of nets.now)) (λ v. word_at (value_as (asked decls h s) value) w) 64) }

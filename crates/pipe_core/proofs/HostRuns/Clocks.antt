@@ -10,21 +10,17 @@ use Rattle.hazard_core.specs.declared.access.Access.{Access}
 use Rattle.hazard_core.specs.declared.access.Word.{Word}
 use Rattle.hazard_core.specs.declared.access.Word.TheVariants.{Used, Key, Value, Nothing}
 use Rattle.hazard_core.specs.declared.change.Change.{Change}
-use Rattle.hazard_core.specs.Held.{Held}
+use Rattle.hazard_core.specs.StageValues.{StageValues}
 use Rattle.hazard_core.specs.declared.slot.Slot.{Slot}
 use Rattle.hazard_core.specs.Tables.{TableState, table_at, slot_at, no_slot}
 use Rattle.hazard_core.specs.Commits.{word_in, may_write, written_word, host_written, host_change, shown_to_host}
-use Rattle.pipe_core.specs.Machine.{Packet, State, Input, Build, Turn, Commits, Writes, Moves, place_at, inside, some_send, swept, moved, newcomer, injected, answers_by, struck_below, is_ready, host_writes, written_if, turn_of, turn_as, commits_or_moves, worked, work, beat_over, gathered, scattered, clock, output}
+use Rattle.pipe_core.specs.Machine.{Packet, State, Input, Build, Action, Commits, Writes, Moves, place_at, inside, some_send, flushed, moved, newcomer, injected, answers_by, marked_below, is_ready, host_writes, written_if, action_of, action_as, commits_or_moves, worked, work, beat_over, gathered, scattered, clock, output}
 use Rattle.pipe_core.specs.History.{Trace, came_in, left_as, left_in, next}
 
 -- ---- places without packets
 
 abbrev nobody : ℕ → List (Option Packet)
 nobody n = replicate n None
-
-none_inside : (n : ℕ) → inside (nobody n) ≡ 0
-none_inside zero = refl
-none_inside (suc n) = none_inside n
 
 none_at : (n k : ℕ) → place_at (nobody n) k ≡ None
 none_at zero k = refl
@@ -39,21 +35,21 @@ always_none : {A : Type 0} (c : Bool) → ◌≡◌ {A = Option A} (if c then No
 always_none true = refl
 always_none false = refl
 
-none_swept : (b : Build) (k n : ℕ) → swept b k (nobody n) ≡ nobody n
-none_swept b k zero = refl
-none_swept b k (suc n) =
-    ap (λ (x : Option Packet). x ∷ swept b (suc k) (nobody n)) (always_none (some_send b k (nobody (suc n))))
-    ∙ ap (λ (xs : List (Option Packet)). None ∷ xs) (none_swept b (suc k) n)
+none_flushed : (b : Build) (k n : ℕ) → flushed b k (nobody n) ≡ nobody n
+none_flushed b k zero = refl
+none_flushed b k (suc n) =
+    ap (λ (x : Option Packet). x ∷ flushed b (suc k) (nobody n)) (always_none (some_send b k (nobody (suc n))))
+    ∙ ap (λ (xs : List (Option Packet)). None ∷ xs) (none_flushed b (suc k) n)
 
 none_moved : (b : Build) (t : TableState) (fs : List Arrival) (k n : ℕ) → moved b t fs k None (nobody n) ≡ nobody n
 none_moved b t fs k zero = refl
 none_moved b t fs k (suc n) = ap (λ (xs : List (Option Packet)). None ∷ xs) (none_moved b t fs (suc k) n)
 
-none_struck : (to : ℕ) (b : Build) (t : TableState) (e : Change) (k n : ℕ) → struck_below to b t e k (nobody n) ≡ nobody n
-none_struck to b t e k zero = refl
-none_struck to b t e k (suc n) =
-    ap (λ (x : Option Packet). x ∷ struck_below to b t e (suc k) (nobody n)) (always_none (nat_lt k to))
-    ∙ ap (λ (xs : List (Option Packet)). None ∷ xs) (none_struck to b t e (suc k) n)
+none_marked_by : (to : ℕ) (b : Build) (t : TableState) (e : Change) (k n : ℕ) → marked_below to b t e k (nobody n) ≡ nobody n
+none_marked_by to b t e k zero = refl
+none_marked_by to b t e k (suc n) =
+    ap (λ (x : Option Packet). x ∷ marked_below to b t e (suc k) (nobody n)) (always_none (nat_lt k to))
+    ∙ ap (λ (xs : List (Option Packet)). None ∷ xs) (none_marked_by to b t e (suc k) n)
 
 none_comes : (b : Build) (n : ℕ) → newcomer b false [] (nobody n) ≡ None
 none_comes b n =
@@ -79,13 +75,13 @@ resting t pos n done taken passed = record {
 abbrev pub hosting : Access → Input
 hosting a = record { beat = None; ifindex = 0; time = 0; take = false; host = Some a }
 
--- the work after what is swept, by its turn
-work_by : (b : Build) (a : Access) (t : TableState) (pos n done : ℕ) (taken : List ℕ) (passed : ℕ) (turn : Turn) → turn_of b (hosting a) (resting t pos n done taken passed) (nobody n) ≡ turn
-    → work b (hosting a) (resting t pos n done taken passed) ≡ worked b (resting t pos n done taken passed) false (nobody n) turn
+-- the work after what is flushed, by its action
+work_by : (b : Build) (a : Access) (t : TableState) (pos n done : ℕ) (taken : List ℕ) (passed : ℕ) (action : Action) → action_of b (hosting a) (resting t pos n done taken passed) (nobody n) ≡ action
+    → work b (hosting a) (resting t pos n done taken passed) ≡ worked b (resting t pos n done taken passed) false (nobody n) action
 unfolding work
-work_by b a t pos n done taken passed turn e =
-    ap (λ (xs : List (Option Packet)). worked b (resting t pos n done taken passed) (some_send b 0 (nobody n)) xs (turn_of b (hosting a) (resting t pos n done taken passed) xs)) (none_swept b 0 n)
-    ∙ ap (λ (c : Bool). worked b (resting t pos n done taken passed) c (nobody n) (turn_of b (hosting a) (resting t pos n done taken passed) (nobody n))) (none_sends b 0 n)
+work_by b a t pos n done taken passed action e =
+    ap (λ (xs : List (Option Packet)). worked b (resting t pos n done taken passed) (some_send b 0 (nobody n)) xs (action_of b (hosting a) (resting t pos n done taken passed) xs)) (none_flushed b 0 n)
+    ∙ ap (λ (c : Bool). worked b (resting t pos n done taken passed) c (nobody n) (action_of b (hosting a) (resting t pos n done taken passed) (nobody n))) (none_sends b 0 n)
     ∙ ap (worked b (resting t pos n done taken passed) false (nobody n)) e
 
 moves : (b : Build) (t : TableState) (pos n done : ℕ) (taken : List ℕ) (passed : ℕ) → worked b (resting t pos n done taken passed) false (nobody n) Moves ≡ resting t pos n 0 taken (passed % 2 ^ 32)
@@ -110,15 +106,15 @@ moves b t pos n done taken passed =
 
 writes : (b : Build) (a : Access) (d : ℕ) (t : TableState) (pos n done : ℕ) (taken : List ℕ) (passed : ℕ) → worked b (resting t pos n done taken passed) false (nobody n) (Writes a d) ≡ resting (host_written t a d) pos n done taken passed
 writes b a d t pos n done taken passed =
-    ap (λ (xs : List (Option Packet)). record (resting (host_written t a d) pos n done taken passed) { places = xs }) (none_struck (suc b.plan.commit) b t (host_change t a) 0 n)
+    ap (λ (xs : List (Option Packet)). record (resting (host_written t a d) pos n done taken passed) { places = xs }) (none_marked_by (suc b.plan.commit) b t (host_change t a) 0 n)
 
--- the turn of a host that writes nothing, and of one that does
-turns : (b : Build) (a : Access) (t : TableState) (pos n done : ℕ) (taken : List ℕ) (passed : ℕ) (o : Option (Access × ℕ)) → host_writes true true t (Some a) ≡ o → turn_of b (hosting a) (resting t pos n done taken passed) (nobody n) ≡ turn_as b (resting t pos n done taken passed) (nobody n) o
-turns b a t pos n done taken passed o e = ap (turn_as b (resting t pos n done taken passed) (nobody n)) e
+-- the action of a host that writes nothing, and of one that does
+actions : (b : Build) (a : Access) (t : TableState) (pos n done : ℕ) (taken : List ℕ) (passed : ℕ) (o : Option (Access × ℕ)) → host_writes true true t (Some a) ≡ o → action_of b (hosting a) (resting t pos n done taken passed) (nobody n) ≡ action_as b (resting t pos n done taken passed) (nobody n) o
+actions b a t pos n done taken passed o e = ap (action_as b (resting t pos n done taken passed) (nobody n)) e
 
-no_write : (b : Build) (a : Access) (t : TableState) (pos n done : ℕ) (taken : List ℕ) (passed : ℕ) → host_writes true true t (Some a) ≡ None → turn_of b (hosting a) (resting t pos n done taken passed) (nobody n) ≡ Moves
+no_write : (b : Build) (a : Access) (t : TableState) (pos n done : ℕ) (taken : List ℕ) (passed : ℕ) → host_writes true true t (Some a) ≡ None → action_of b (hosting a) (resting t pos n done taken passed) (nobody n) ≡ Moves
 no_write b a t pos n done taken passed e =
-    turns b a t pos n done taken passed None e ∙ ap (commits_or_moves b (resting t pos n done taken passed)) (none_at n b.plan.commit)
+    actions b a t pos n done taken passed None e ∙ ap (commits_or_moves b (resting t pos n done taken passed)) (none_at n b.plan.commit)
 
 -- ---- the beats
 
@@ -160,14 +156,14 @@ record WritesIn (b : Build) (a : Access) (d : ℕ) (t : TableState) (pos n : ℕ
   work : work b (hosting a) (resting t pos n 0 taken 0) ≡ resting (host_written t a d) pos n 0 taken 0
   left : left_in b (hosting a) (resting t pos n 0 taken 0) ≡ []
 
-left_by : (b : Build) (a : Access) (t : TableState) (pos n : ℕ) (taken : List ℕ) (turn : Turn) → turn_of b (hosting a) (resting t pos n 0 taken 0) (nobody n) ≡ turn → left_in b (hosting a) (resting t pos n 0 taken 0) ≡ []
-left_by b a t pos n taken turn e =
-    ap (λ (xs : List (Option Packet)). left_as (turn_of b (hosting a) (resting t pos n 0 taken 0) xs) (place_at xs b.plan.last)) (none_swept b 0 n)
-    ∙ ap (λ (u : Turn). left_as u (place_at (nobody n) b.plan.last)) e
-    ∙ ap (left_as turn) (none_at n b.plan.last)
-    ∙ none turn
+left_by : (b : Build) (a : Access) (t : TableState) (pos n : ℕ) (taken : List ℕ) (action : Action) → action_of b (hosting a) (resting t pos n 0 taken 0) (nobody n) ≡ action → left_in b (hosting a) (resting t pos n 0 taken 0) ≡ []
+left_by b a t pos n taken action e =
+    ap (λ (xs : List (Option Packet)). left_as (action_of b (hosting a) (resting t pos n 0 taken 0) xs) (place_at xs b.plan.last)) (none_flushed b 0 n)
+    ∙ ap (λ (u : Action). left_as u (place_at (nobody n) b.plan.last)) e
+    ∙ ap (left_as action) (none_at n b.plan.last)
+    ∙ none action
   where
-    none : (u : Turn) → left_as u None ≡ []
+    none : (u : Action) → left_as u None ≡ []
     none (Commits j x) = refl
     none (Writes w d) = refl
     none Moves = refl
@@ -178,15 +174,15 @@ writes_in b m i w d t pos n taken x e = by x e
     a : Access
     a = writing m i w d
 
-    turn : (x : Word) (o : Option (Access × ℕ)) → word_in t (writing m i w d) ≡ x → written_if (true && may_write true (slot_at (table_at t m) i) x) (writing m i w d) (Some d) ≡ o → turn_of b (hosting (writing m i w d)) (resting t pos n 0 taken 0) (nobody n) ≡ turn_as b (resting t pos n 0 taken 0) (nobody n) o
-    turn x o e f =
-        ap (λ (x : Word). turn_as b (resting t pos n 0 taken 0) (nobody n) (written_if (true && may_write true (slot_at (table_at t m) i) x) (writing m i w d) (Some d))) e
-        ∙ ap (turn_as b (resting t pos n 0 taken 0) (nobody n)) f
+    action : (x : Word) (o : Option (Access × ℕ)) → word_in t (writing m i w d) ≡ x → written_if (true && may_write true (slot_at (table_at t m) i) x) (writing m i w d) (Some d) ≡ o → action_of b (hosting (writing m i w d)) (resting t pos n 0 taken 0) (nobody n) ≡ action_as b (resting t pos n 0 taken 0) (nobody n) o
+    action x o e f =
+        ap (λ (x : Word). action_as b (resting t pos n 0 taken 0) (nobody n) (written_if (true && may_write true (slot_at (table_at t m) i) x) (writing m i w d) (Some d))) e
+        ∙ ap (action_as b (resting t pos n 0 taken 0) (nobody n)) f
 
     some : (x : Word) → word_in t (writing m i w d) ≡ x → written_if (true && may_write true (slot_at (table_at t m) i) x) (writing m i w d) (Some d) ≡ Some (writing m i w d, d) → WritesIn b (writing m i w d) d t pos n taken
     some x e f = record {
-      work = work_by b (writing m i w d) t pos n 0 taken 0 (Writes (writing m i w d) d) (turn x (Some (writing m i w d, d)) e f) ∙ writes b (writing m i w d) d t pos n 0 taken 0;
-      left = left_by b (writing m i w d) t pos n taken (Writes (writing m i w d) d) (turn x (Some (writing m i w d, d)) e f);
+      work = work_by b (writing m i w d) t pos n 0 taken 0 (Writes (writing m i w d) d) (action x (Some (writing m i w d, d)) e f) ∙ writes b (writing m i w d) d t pos n 0 taken 0;
+      left = left_by b (writing m i w d) t pos n taken (Writes (writing m i w d) d) (action x (Some (writing m i w d, d)) e f);
     }
 
     by : (x : Word) → word_in t (writing m i w d) ≡ x → WritesIn b (writing m i w d) d t pos n taken
@@ -194,7 +190,7 @@ writes_in b m i w d t pos n taken x e = by x e
     by (Key k) e = some (Key k) e refl
     by (Value k) e = some (Value k) e refl
     by Nothing e =
-        let moving = turn Nothing None e refl ∙ ap (commits_or_moves b (resting t pos n 0 taken 0)) (none_at n b.plan.commit) in
+        let moving = action Nothing None e refl ∙ ap (commits_or_moves b (resting t pos n 0 taken 0)) (none_at n b.plan.commit) in
         record {
           work = work_by b (writing m i w d) t pos n 0 taken 0 Moves moving ∙ moves b t pos n 0 taken 0 ∙ ap (λ (t : TableState). resting t pos n 0 taken 0) (sym (written_nothing t (writing m i w d) d e));
           left = left_by b (writing m i w d) t pos n taken Moves moving;
@@ -213,7 +209,7 @@ next_writes b m i w d t pos n taken =
     ap (λ (x : State). record { state = x; came = [] ++ came_in s (hosting (writing m i w d)) (beat_over b s (hosting (writing m i w d))); left = [] ++ left_in b (hosting (writing m i w d)) s; gave = [] })
     (beats_rest b (writing m i w d) s (resting (host_written t (writing m i w d) d) pos n 0 taken 0) h.work over)
     ∙ ap (λ (x : Option Beat). record { state = resting (host_written t (writing m i w d) d) pos n 0 taken 0; came = [] ++ came_in s (hosting (writing m i w d)) x; left = [] ++ left_in b (hosting (writing m i w d)) s; gave = [] }) over
-    ∙ ap (λ (x : List Held). record { state = resting (host_written t (writing m i w d) d) pos n 0 taken 0; came = []; left = [] ++ x; gave = [] }) h.left
+    ∙ ap (λ (x : List StageValues). record { state = resting (host_written t (writing m i w d) d) pos n 0 taken 0; came = []; left = [] ++ x; gave = [] }) h.left
 
 -- what the host is shown
 pub output_reads : (b : Build) (m i w : ℕ) (t : TableState) (pos n done : ℕ) (taken : List ℕ) (passed : ℕ) → (output b (hosting (reading m i w)) (resting t pos n done taken passed)).host_value ≡ shown_to_host t (reading m i w)

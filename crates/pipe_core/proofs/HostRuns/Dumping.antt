@@ -203,8 +203,8 @@ state_as s None [] (f ∷ fs) pe ae fe h few = absurd (grind (arith, nat_tests))
 state_as s None (a ∷ given) fs pe ae fe h few = absurd (grind (arith, nat_tests))
 
 pub dumps_maps : DumpsMaps
-dumps_maps b s are hold calm few =
-    let e = state_as s s.part s.answers s.frames refl refl refl calm few in
+dumps_maps b s are hold idle few =
+    let e = state_as s s.part s.answers s.frames refl refl refl idle few in
     let shows = subst (ShowsAll b (dump s.tables.decls)) (sym e) (shows_all b (dump s.tables.decls) (reads_asked 0 s.tables.decls) s.tables s.pos (length s.places) s.done s.taken s.passed) in
     record {
       shown = ap (dumped s.tables.decls) shows.shown ∙ all_back s.tables are hold [] s.tables.decls [] s.tables.tables 0 refl refl refl refl are.beside;

@@ -24,7 +24,8 @@ use Rattle.hazard_core.specs.declared.access.Word.TheVariants.{Key, Value}
 use Rattle.hazard_core.specs.Tables.{empty_slot, pair_slot, index_slot, loaded_as}
 use Rattle.hazard_core.specs.Commits.{word_as, written_word}
 use Rattle.realization.specs.HostHistory.Rows.{words_of, slot_of, rows_as, rows_of}
-use Rattle.pipe_core.proofs.HostRuns.Words.{words_in, words_fill, length-words_of}
+use Rattle.realization.proofs.WordLaws.{length-words_of}
+use Rattle.pipe_core.proofs.HostRuns.Words.{words_in, words_fill}
 
 -- ---- a row over a slot
 

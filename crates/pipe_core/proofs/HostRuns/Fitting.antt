@@ -19,11 +19,12 @@ use Rattle.hazard_core.specs.xdp_maps.Calls.{entry_as}
 use Rattle.hazard_core.specs.xdp_maps.Contents.{Contents, IsBytes, IsOver, IsWithinLimits, IsFilled_as, limits_as, index_key}
 use Rattle.hazard_core.specs.xdp_maps.Laws.{PairLaws}
 use Rattle.hazard_core.specs.xdp_maps.State.{no_decl}
+use Rattle.hazard_core.proofs.xdp_maps_laws.LimitLaws.{few_slots}
 use Rattle.realization.specs.net_core.declared.ports.Inputs.{Inputs}
 use Rattle.realization.specs.HostHistory.Rows.{slot_of, words_of, rows_as, rows_of, row_length, row_length_as}
 use Rattle.realization.specs.HostHistory.Host.{asked, written, row_writes, map_writes, writes, map_reads, reads}
+use Rattle.realization.proofs.WordLaws.{length-words_of}
 use Rattle.pipe_core.specs.HostRuns.Fits.{IsHostClock, LoadsFit}
-use Rattle.pipe_core.proofs.HostRuns.Words.{length-words_of}
 use Rattle.pipe_core.proofs.HostRuns.Filling.{all_bytes}
 
 abbrev Fit : List Inputs → Type 0
@@ -182,10 +183,6 @@ row_short : (k : MapKind) (d : MapDecl) → IsWithinLimits d → row_length_as k
 row_short Hash d limits = omega (arith, limits.key_short, limits.value_short)
 row_short Array d limits = omega (arith, limits.value_short)
 
-cap_short : (k : MapKind) (d : MapDecl) → limits_as k d → d.cap ≤ 65536
-cap_short Hash d h = omega (arith, h)
-cap_short Array d h = h.1
-
 reads_from : (m : ℕ) (d : MapDecl) → m < 16 → row_length d ≤ 16 → (a n : ℕ) → a + n ≤ 65536 → Fit (flat_map (λ i. map_list (asked m i) (range_with_len 0 (row_length d))) (range_with_len a n))
 reads_from m d l short a zero le = tt
 reads_from m d l short a (suc n) le =
@@ -198,7 +195,7 @@ reads_all [] m le limits = tt
 reads_all (d ∷ ds) m le limits =
     let h = limits 0 (omega arith) in
     all_fit (map_reads m d) (reads (m + 1) ds)
-    (reads_from m d (omega (arith, le)) (row_short d.kind d h) 0 d.cap (omega (arith, cap_short d.kind d h.by_kind)))
+    (reads_from m d (omega (arith, le)) (row_short d.kind d h) 0 d.cap (omega (arith, few_slots d.kind d h.by_kind)))
     (reads_all ds (m + 1) (omega (arith, le)) (λ n l. limits (suc n) (omega (arith, l))))
 
 pub loads_fit : ((d : MapDecl) (c : Contents) → PairLaws d c) → LoadsFit

@@ -39,10 +39,6 @@ record IsAt (decls : List MapDecl) (before : Tables) (m : ℕ) (d : MapDecl) : T
   decl : decl_of decls m ≡ d
 
 module _ (decls : List MapDecl) (before after : Tables) (m : ℕ) (d : MapDecl) (at : IsAt decls before m d) where
-  -- the tables with these slots in map m
-  abbrev with_table : List Slot → TableState
-  with_table slots = record { decls = decls; tables = before ++ slots ∷ after }
-
   table_is : (slots : List Slot) → table_at (record { decls = decls; tables = before ++ slots ∷ after }) m ≡ slots
   table_is slots = get_or_at before slots after [] m at.tables
 

@@ -101,14 +101,6 @@ pub words_fill : (old new : List ℕ) → length old ≡ length new → IsBytes 
 unfolding beats_of
 words_fill old new long h = filled_from (beat_count (length new)) 0 [] old new (omega arith) (omega arith) (λ some. refl) long h
 
-pub length-words_of : (xs : List ℕ) → length (words_of xs) ≡ beat_count (length xs)
-unfolding beats_of first_beats
-length-words_of xs = counted (beat_count (length xs)) xs
-  where
-    counted : (n : ℕ) (ys : List ℕ) → length (map_list (λ (b : Beat). b.word) (first_beats n ys)) ≡ n
-    counted zero ys = refl
-    counted (suc n) ys = ap suc (counted n (drop 8 ys))
-
 -- ---- words that are read
 
 back_from : (n w : ℕ) (bytes : List ℕ) → IsBytes bytes → length bytes ≤ 8 * (w + n) → take (length bytes - 8 * w) (flat_map (low_bytes 8) (map_list (word_at bytes) (range_with_len w n))) ≡ drop (8 * w) bytes

@@ -5,7 +5,7 @@ use Rattle.hazard_core.specs.xdp_maps.State.{IsSound}
 use Rattle.hazard_core.specs.Tables.{TableState, decl_of, table_at, slot_at, maps_of}
 use Rattle.hazard_core.specs.Tabled.{AreTables}
 use Rattle.realization.specs.HostHistory.Host.{dump, dumped}
-use Rattle.pipe_core.specs.Machine.{State, Build, is_calm, inside}
+use Rattle.pipe_core.specs.Machine.{State, Build, is_idle, inside}
 use Rattle.pipe_core.specs.HostRuns.Runs.{after, outputs, shown_words}
 
 -- the value of a used slot has the length that its map declares
@@ -22,4 +22,4 @@ pub record IsDumped (b : Build) (s : State) : Type 0 where
   pub stays : (after b (dump s.tables.decls) s).tables ≡ s.tables
 
 abbrev pub DumpsMaps : Type 0
-DumpsMaps = (b : Build) (s : State) → AreTables s.tables → HoldValues s.tables → is_calm s ≡ true → inside s.places ≤ length s.frames → IsDumped b s
+DumpsMaps = (b : Build) (s : State) → AreTables s.tables → HoldValues s.tables → is_idle s ≡ true → inside s.places ≤ length s.frames → IsDumped b s

@@ -3,7 +3,7 @@ use Rattle.std.specs.Prelude.{◌≡◌, ◌≤◌, false, length}
 use Rattle.std.specs.List.{AllByRecursion}
 use Rattle.hazard_core.specs.xdp_maps.State.{MapState, IsSound}
 use Rattle.realization.specs.net_core.declared.ports.Inputs.{Inputs}
-use Rattle.realization.specs.net_core.History.{IsInput}
+use Rattle.realization.specs.net_core.Trace.{IsInput}
 use Rattle.realization.specs.HostHistory.Host.{load, dump}
 
 -- each number fits its port, and no beat is offered or taken

@@ -1,14 +1,14 @@
--- The maps of a draft as their blocks see them.
+-- The maps of a pipeline plan as their blocks see them.
 use Rattle.std.proofs.Common.{◌≡◌, ◌∙◌, ℕ, ◌<◌, length, get_or, ap, arith}
 use Rattle.std.proofs.lemmas.List.{length-map, get_or-map}
 use Rattle.hazard_core.specs.xdp_maps.declared.decl.MapDecl.{MapDecl}
 use Rattle.hazard_core.specs.xdp_maps.State.{no_decl}
 use Rattle.hazard_core.specs.Tables.{decl_of}
 use Rattle.commit_net.specs.declared.map_block.form.MapForm.{MapForm}
-use Rattle.commit_net.specs.MapBlock.Forms.{IsSuited}
+use Rattle.commit_net.specs.MapBlock.Forms.{FormFits}
 use Rattle.pipe_net.specs.declared.parts.Sizes.{Sizes}
-use Rattle.pipe_parts.specs.declared.pipe_draft.draft.Draft.{Draft}
-use Rattle.pipe_parts.specs.PipeDraft.Draft.{decls_in, IsDraft}
+use Rattle.pipe_parts.specs.declared.pipe_draft.pipeline_plan.PipelinePlan.{PipelinePlan}
+use Rattle.pipe_parts.specs.PipeDraft.PipelinePlan.{decls_in, IsPipelinePlan}
 
 -- forms are the same where all of them is
 pub form_is : (f g : MapForm) → f.number ≡ g.number → f.bits ≡ g.bits → f.decl ≡ g.decl → f ≡ g
@@ -16,7 +16,7 @@ form_is f g n b e =
     ap (λ (k : ℕ). record { number = k; bits = f.bits; decl = f.decl }) n ∙ ap (λ (k : ℕ). record { number = g.number; bits = k; decl = f.decl }) b
     ∙ ap (λ (d : MapDecl). record { number = g.number; bits = g.bits; decl = d }) e
 
-module _ (d : Draft) (is : IsDraft d) where
+module _ (d : PipelinePlan) (is : IsPipelinePlan d) where
   pub many : length (decls_in d) ≡ length d.forms.items
   many = length-map d.forms.items (λ (f : MapForm). f.decl)
 
@@ -24,8 +24,8 @@ module _ (d : Draft) (is : IsDraft d) where
   maps_are = ap (λ (z : Sizes). z.maps) is.sizes
 
   module _ (m : ℕ) (known : m < length d.forms.items) where
-    pub suited : (f : MapForm) → IsSuited (get_or d.forms.items m f)
-    suited f = is.forms.suited m f known
+    pub form_fits : (f : MapForm) → FormFits (get_or d.forms.items m f)
+    form_fits f = is.forms.form_fits m f known
 
     pub number_is : (f : MapForm) → (get_or d.forms.items m f).number ≡ m
     number_is f = is.forms.number m f known

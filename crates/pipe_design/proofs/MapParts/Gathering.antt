@@ -6,7 +6,7 @@ use Rattle.block_core.specs.declared.name.Name.TheVariants as name
 use Rattle.overlay_net.specs.declared.site_operands.SiteNets.{SiteNets}
 use Rattle.commit_net.specs.declared.change_net.change.ChangePart.{ChangePart}
 use Rattle.pipe_net.specs.declared.parts.Part.{Part}
-use Rattle.pipe_parts.specs.declared.pipe_draft.draft.Draft.{Draft}
+use Rattle.pipe_parts.specs.declared.pipe_draft.pipeline_plan.PipelinePlan.{PipelinePlan}
 use Rattle.pipe_design.specs.declared.map_parts.committing.MapCommits.{MapCommits}
 use Rattle.pipe_design.specs.declared.map_parts.committing.Committing.{Committing}
 use Rattle.pipe_design.specs.declared.map_parts.parts.PartsOfMap.{PartsOfMap}
@@ -17,7 +17,7 @@ use Rattle.pipe_design.proofs.MapParts.Listing.{pair_next}
 abbrev pub none_said : MapCommits
 none_said = record { commits = name.Port 0; targets = record { ref_ptr = (0, 0); now = [] } }
 
-module _ (d : Draft) (sites : List (SiteNets (Name Part))) (c : Committing) where
+module _ (d : PipelinePlan) (sites : List (SiteNets (Name Part))) (c : Committing) where
   -- the parts of the map of a number
   abbrev ArePartsAt : ℕ → PartsOfMap → ChangePart (Name Part) → Type 0
   ArePartsAt m x y = (on : MapCommits) → ArePartsOfMap d sites c.chosen.now (get_or c.maps.now m on) m x y

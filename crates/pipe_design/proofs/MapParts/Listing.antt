@@ -1,18 +1,7 @@
 -- Lists from the front on: what passes a test, and one more at the end.
-use Rattle.std.specs.Prelude.{◌≤◌}
 use Rattle.std.specs.List.{filter}
-use Rattle.std.proofs.Common.{◌≡◌, ◌∙◌, ℕ, zero, suc, ◌+◌, ◌<◌, Bool, true, false, cond, All, List, [], ◌∷◌, ◌++◌, length, take, get_or, refl, sym, ap, subst, arith}
-use Rattle.std.proofs.lemmas.List.Elements.{All-nil, All-cons, All-filter}
+use Rattle.std.proofs.Common.{◌≡◌, ◌∙◌, ℕ, zero, suc, ◌+◌, ◌<◌, Bool, true, false, cond, List, [], ◌∷◌, ◌++◌, length, take, get_or, refl, sym, ap, subst, arith}
 use Rattle.std.proofs.lemmas.List.Filters.{length-filter_more}
-use Rattle.hazard_core.specs.cell_core.Rows.{numbers}
-
--- ---- numbers below one that pass a test
-numbers_below : (most n from : ℕ) → from + n ≤ most → All (λ k. k < most) (numbers from n)
-numbers_below most zero from h = All-nil (λ k. k < most)
-numbers_below most (suc n) from h = All-cons (λ k. k < most) from (numbers (suc from) n) (omega arith) (numbers_below most n (suc from) (omega arith))
-
-pub passed_below : (q : ℕ → Bool) (n : ℕ) → All (λ k. k < n) (filter q (numbers 0 n))
-passed_below q n = All-filter q (λ k. k < n) (numbers 0 n) (numbers_below n n 0 (omega arith))
 
 -- ---- where a front ends, all go on with this number
 abbrev Joins : List ℕ → List ℕ → ℕ → Type 0
@@ -62,11 +51,3 @@ pub pair_next :
     → (i : ℕ) (d : A) (e : B) → i < n + 1 → P i (get_or (xs ++ a ∷ []) i d) (get_or (ys ++ b ∷ []) i e)
 pair_next P n xs ys a b long long_ys each here i d e lt =
     pair_more P xs ys a b (long ∙ sym long_ys) (λ m u v l. each m u v (omega (arith, l, long))) (subst (λ m. P m a b) (sym long) here) i d e (omega (arith, lt, long))
-
-pub each_next : {A : Type 0} (P : ℕ → A → Type 0) (n : ℕ) (xs : List A) (x : A) → length xs ≡ n → ((i : ℕ) (d : A) → i < n → P i (get_or xs i d)) → P n x → (i : ℕ) (d : A) → i < n + 1 → P i (get_or (xs ++ x ∷ []) i d)
-each_next {A} P n xs x long each here i d lt = pair_next (λ k u (v : A). P k u) n xs xs x x long long (λ k u v l. each k u l) here i d d lt
-
--- an element of a list that has one
-pub some_of : {A : Type 0} (xs : List A) (n : ℕ) → n < length xs → A
-some_of [] n lt = absurd (omega (arith, lt))
-some_of (x ∷ xs) n lt = x

@@ -8,7 +8,7 @@ use Rattle.hazard_core.specs.xdp_maps.declared.decl.MapDecl.{MapDecl}
 use Rattle.block_core.specs.declared.name.Name.{Name}
 use Rattle.hazard_core.specs.cell_core.declared.site.Act.{Act}
 use Rattle.hazard_core.specs.cell_core.Formed.{HasWords, IsInside, FitsMap}
-use Rattle.hazard_core.specs.cell_core.Sites.{ProgramView, site_at, records}
+use Rattle.hazard_core.specs.cell_core.Sites.{ProgramView, site_at}
 use Rattle.overlay_net.specs.cell_nets.declared.operand.Operand.{Operand}
 use Rattle.overlay_net.specs.cell_nets.declared.operand.Operand.TheVariants.{Known}
 use Rattle.overlay_net.specs.cell_nets.Operands.{IsOperand}
@@ -21,32 +21,29 @@ use Rattle.commit_net.specs.declared.choosing.CommitNets.{CommitNets}
 use Rattle.commit_net.specs.Choosing.{HasOperands}
 use Rattle.commit_net.specs.Words.{IsFitting}
 use Rattle.commit_net.specs.declared.map_block.form.MapForm.{MapForm}
-use Rattle.turn_net.specs.Turns.{record_sites}
+use Rattle.turn_net.specs.Actions.{record_sites}
 use Rattle.turn_net.specs.declared.target_net.targets.Target.{Target}
 use Rattle.turn_net.specs.TargetNet.Targets as targets
 use Rattle.pipe_net.specs.declared.parts.Part.{Part}
 use Rattle.pipe_net.specs.PipeTurns.Maps.{records_on}
-use Rattle.pipe_parts.specs.declared.pipe_draft.draft.Draft.{Draft}
-use Rattle.pipe_parts.specs.declared.pipe_draft.places.Behind.{Behind}
-use Rattle.pipe_parts.specs.PipeDraft.Draft.{program_in, plan_in, decls_in, IsDraft}
-use Rattle.pipe_parts.specs.PipeDraft.Places.{IsBehind}
+use Rattle.pipe_parts.specs.declared.pipe_draft.pipeline_plan.PipelinePlan.{PipelinePlan}
+use Rattle.pipe_parts.specs.declared.pipe_draft.places.StageSources.{StageSources}
+use Rattle.pipe_parts.specs.PipeDraft.PipelinePlan.{program_in, plan_in, decls_in, IsPipelinePlan}
+use Rattle.pipe_parts.specs.PipeDraft.Places.{AreStageSources}
+use Rattle.pipe_parts.proofs.TurnParts.SiteLaws.{record_known}
 use Rattle.pipe_design.specs.MapParts.Operations.{AreChosen, AreTargetsOn, IsOperation, AreOperations}
-use Rattle.pipe_design.proofs.MapParts.Listing.{passed_below}
 use Rattle.pipe_design.proofs.MapParts.Forming.{decl_is}
 
 -- ---- record sites
 abbrev pub is_on : ProgramView → ℕ → ℕ → Bool
 is_on p m j = (site_at p.sites j).map == m
 
-pub records_below : (p : ProgramView) → All (λ j. j < length p.sites) (record_sites p)
-records_below p = passed_below (λ j. records (site_at p.sites j).act) (length p.sites)
-
 module _ (p : ProgramView) (m n : ℕ) (there : n < length (records_on p m)) where
   abbrev pub site_on : ℕ
   site_on = slice_index (records_on p m) n
 
   pub on_below : site_on < length p.sites
-  on_below = All-filter (is_on p m) (λ j. j < length p.sites) (record_sites p) (records_below p) n 0 there
+  on_below = All-filter (is_on p m) (λ j. j < length p.sites) (record_sites p) (record_known p) n 0 there
 
   pub on_map : (site_at p.sites site_on).map ≡ m
   on_map = eqb-true (site_at p.sites site_on).map m (filter_passes (is_on p m) (record_sites p) n 0 there)
@@ -64,7 +61,7 @@ target_at (t ∷ ts) all (suc n) d lt = target_at ts (λ k e l. all (suc (suc k)
 no_target : Target (Name Part)
 no_target = record { slot = Known 0; makes = Known 0 }
 
-module _ (d : Draft) (is : IsDraft d) (at : Behind) (b : IsBehind d (plan_in d).commit at) where
+module _ (d : PipelinePlan) (is : IsPipelinePlan d) (at : StageSources) (b : AreStageSources d (plan_in d).commit at) where
   abbrev p : ProgramView
   p = program_in d
 

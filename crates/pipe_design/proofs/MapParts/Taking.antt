@@ -5,29 +5,31 @@ use Rattle.std.proofs.Common.{◌≡◌, ◌∙◌, ℕ, ◌+◌, ◌<◌, true,
 use Rattle.std.proofs.lemmas.Bool.{eq-eqb, ne_eqb}
 use Rattle.std.proofs.lemmas.Grind.{get_or_default_zero}
 use Rattle.std.proofs.lemmas.List.{length-map, length_push, take_all}
+use Rattle.block_core.proofs.list_laws_laws.PlaceLaws.{each_more}
 use Rattle.block_core.specs.declared.name.Name.{Name}
 use Rattle.hazard_core.specs.cell_core.Sites.{ProgramView, site_at}
 use Rattle.hazard_core.specs.cell_core.View.{site_of}
 use Rattle.overlay_net.specs.cell_nets.declared.operand.Operand.{Operand}
 use Rattle.overlay_net.specs.declared.site_operands.SiteNets.{SiteNets}
 use Rattle.commit_net.specs.declared.choosing.CommitNets.{CommitNets}
-use Rattle.turn_net.specs.Turns.{record_sites}
+use Rattle.turn_net.specs.Actions.{record_sites}
 use Rattle.turn_net.specs.declared.target_net.targets.Target.{Target}
 use Rattle.pipe_net.specs.declared.parts.Part.{Part}
 use Rattle.pipe_net.specs.PipeTurns.Maps.{records_on}
-use Rattle.pipe_parts.specs.declared.pipe_draft.draft.Draft.{Draft}
-use Rattle.pipe_parts.specs.PipeDraft.Draft.{program_in, IsDraft}
+use Rattle.pipe_parts.specs.declared.pipe_draft.pipeline_plan.PipelinePlan.{PipelinePlan}
+use Rattle.pipe_parts.specs.PipeDraft.PipelinePlan.{program_in, IsPipelinePlan}
+use Rattle.pipe_parts.proofs.TurnParts.SiteLaws.{record_known}
 use Rattle.pipe_design.specs.MapParts.Operations.{IsOperation, AreOperations}
-use Rattle.pipe_design.proofs.MapParts.Listing.{passed, passed_more, passed_same, next_is, each_next}
-use Rattle.pipe_design.proofs.MapParts.Operating.{is_on, records_below}
+use Rattle.pipe_design.proofs.MapParts.Listing.{passed, passed_more, passed_same, next_is}
+use Rattle.pipe_design.proofs.MapParts.Operating.{is_on}
 
--- ---- the i-th record site of a draft is one of its program
-module _ (d : Draft) (is : IsDraft d) (i n : ℕ) (lt : i < length d.records.items) (at : n ≡ get_or d.records.items i n) where
+-- ---- the i-th record site of a pipeline plan is one of its program
+module _ (d : PipelinePlan) (is : IsPipelinePlan d) (i n : ℕ) (lt : i < length d.records.items) (at : n ≡ get_or d.records.items i n) where
   pub number_is : n ≡ get_or (record_sites (program_in d)) i 0
   number_is = at ∙ get_or_default_zero d.records.items i n lt ∙ ap (λ js. get_or js i 0) is.records
 
   pub number_known : n < length d.program.now.sites.items
-  number_known = omega (arith, number_is, records_below (program_in d) i 0 (omega (arith, lt, ap length is.records)), length-map d.program.now.sites.items site_of)
+  number_known = omega (arith, number_is, record_known (program_in d) i 0 (omega (arith, lt, ap length is.records)), length-map d.program.now.sites.items site_of)
 
   pub number_on : (m s : ℕ) → s ≡ (site_at (program_in d).sites n).map → s ≡ m → is_on (program_in d) m (get_or (record_sites (program_in d)) i 0) ≡ true
   number_on m s e h = eq-eqb (site_at (program_in d).sites (get_or (record_sites (program_in d)) i 0)).map m (ap (λ j. (site_at (program_in d).sites j).map) (sym number_is) ∙ sym e ∙ h)
@@ -75,7 +77,7 @@ module _ (p : ProgramView) (sites : List (SiteNets (Name Part))) (chosen : List 
           let long : length (all ++ x ∷ []) ≡ length all + 1 = length_push all x in
           record {
             count = omega (arith, long, taken.count, passed_more (is_on p m) js i lt on);
-            each = λ n c l. each_next (IsOperation p sites chosen outs m) (length all) all x (omega arith) taken.each operation n c (omega (arith, l, long));
+            each = λ n c l. each_more (IsOperation p sites chosen outs m) all (length all) x (omega arith) taken.each operation n c (omega (arith, l, long));
           }
 
     -- ---- it is not
@@ -88,6 +90,6 @@ module _ (p : ProgramView) (sites : List (SiteNets (Name Part))) (chosen : List 
 
 -- of a record site on the map there is still something among what its operations write
 pub room :
-    (d : Draft) (is : IsDraft d) (i n : ℕ) (lt : i < length d.records.items) (at : n ≡ get_or d.records.items i n) (sites : List (SiteNets (Name Part))) (chosen : List (Operand (Name Part))) (outs : List (Target (Name Part))) (m s : ℕ) (all : List (CommitNets (Name Part)))
+    (d : PipelinePlan) (is : IsPipelinePlan d) (i n : ℕ) (lt : i < length d.records.items) (at : n ≡ get_or d.records.items i n) (sites : List (SiteNets (Name Part))) (chosen : List (Operand (Name Part))) (outs : List (Target (Name Part))) (m s : ℕ) (all : List (CommitNets (Name Part)))
     → HaveTaken (program_in d) sites chosen outs m i all → length outs ≡ length (records_on (program_in d) m) → s ≡ (site_at (program_in d).sites n).map → s ≡ m → length all < length outs
 room d is i n lt at sites chosen outs m s all taken count e h = omega (arith, there (program_in d) sites chosen outs m i all taken (omega (arith, lt, ap length is.records)) (number_on d is i n lt at m s e h), count)

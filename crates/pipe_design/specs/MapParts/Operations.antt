@@ -7,13 +7,13 @@ use Rattle.overlay_net.specs.cell_nets.declared.operand.Operand.{Operand}
 use Rattle.overlay_net.specs.cell_nets.Operands.{IsOperand}
 use Rattle.overlay_net.specs.declared.site_operands.SiteNets.{SiteNets}
 use Rattle.commit_net.specs.declared.choosing.CommitNets.{CommitNets}
-use Rattle.turn_net.specs.Turns.{record_sites}
+use Rattle.turn_net.specs.Actions.{record_sites}
 use Rattle.turn_net.specs.declared.target_net.targets.Target.{Target}
 use Rattle.turn_net.specs.TargetNet.Targets.{all_of}
 use Rattle.pipe_net.specs.declared.parts.Part.{Part}
 use Rattle.pipe_net.specs.PipeTurns.Maps.{records_on}
-use Rattle.pipe_parts.specs.declared.pipe_draft.draft.Draft.{Draft}
-use Rattle.pipe_parts.specs.PipeDraft.Draft.{program_in, decls_in}
+use Rattle.pipe_parts.specs.declared.pipe_draft.pipeline_plan.PipelinePlan.{PipelinePlan}
+use Rattle.pipe_parts.specs.PipeDraft.PipelinePlan.{program_in, decls_in}
 use Rattle.pipe_design.specs.declared.map_parts.committing.MapCommits.{MapCommits}
 use Rattle.pipe_design.specs.declared.map_parts.committing.Committing.{Committing}
 
@@ -26,7 +26,7 @@ pub record AreTargetsOn (p : ProgramView) (m : ℕ) (targets : List (Target (Nam
   pub count : length targets ≡ length (records_on p m)
   pub operands : All IsOperand (all_of targets)
 
-pub record IsCommitting (d : Draft) (c : Committing) : Type 0 where
+pub record IsCommitting (d : PipelinePlan) (c : Committing) : Type 0 where
   pub chosen : AreChosen (program_in d) c.chosen.now
   pub maps : length c.maps.now ≡ length (decls_in d)
   pub targets : (m : ℕ) (x : MapCommits) → m < length (decls_in d) → AreTargetsOn (program_in d) m (get_or c.maps.now m x).targets.now

@@ -1,4 +1,4 @@
--- The parts of all maps of a draft.
+-- The parts of all maps of a pipeline plan.
 use Rattle.std.specs.Prelude.{◌≡◌, ℕ, ◌<◌, List, length}
 use Rattle.std.proofs.Common.{get_or}
 use Rattle.block_core.specs.declared.name.Name.{Name}
@@ -9,8 +9,8 @@ use Rattle.commit_net.specs.declared.change_net.change.ChangePart.{ChangePart}
 use Rattle.pipe_net.specs.declared.parts.Part.{Part}
 use Rattle.pipe_net.specs.declared.parts.Sizes.{Sizes}
 use Rattle.pipe_net.specs.Parts as part
-use Rattle.pipe_parts.specs.declared.pipe_draft.draft.Draft.{Draft}
-use Rattle.pipe_parts.specs.PipeDraft.Draft.{decls_in}
+use Rattle.pipe_parts.specs.declared.pipe_draft.pipeline_plan.PipelinePlan.{PipelinePlan}
+use Rattle.pipe_parts.specs.PipeDraft.PipelinePlan.{decls_in}
 use Rattle.pipe_design.specs.declared.map_parts.committing.MapCommits.{MapCommits}
 use Rattle.pipe_design.specs.declared.map_parts.committing.Committing.{Committing}
 use Rattle.pipe_design.specs.declared.map_parts.parts.PartsOfMap.{PartsOfMap}
@@ -18,8 +18,8 @@ use Rattle.pipe_design.specs.declared.map_parts.parts.MapParts.{MapParts}
 use Rattle.pipe_design.specs.MapParts.Parts.{ArePartsOfMap}
 use Rattle.pipe_design.specs.MapParts.Words.{IsValueOver}
 
--- They are those of each map, by the operands of all sites behind the commit place and what is said of the operations that commit.
-pub record AreMapPartsFor (d : Draft) (sites : List (SiteNets (Name Part))) (c : Committing) (r : MapParts) : Type 0 where
+-- They are those of each map, by the operands of all sites after the commit place and what is said of the operations that commit.
+pub record AreMapPartsFor (d : PipelinePlan) (sites : List (SiteNets (Name Part))) (c : Committing) (r : MapParts) : Type 0 where
   pub count : length r.maps.items ≡ length (decls_in d)
   pub changes : length r.changes.items ≡ length (decls_in d)
   pub each :

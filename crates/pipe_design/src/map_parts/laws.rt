@@ -2,13 +2,13 @@
 
 ghost use Rattle.pipe_design.specs.MapParts.Laws.{PartsAreOfMaps, ChangesAreForMarks};
 
-use pipe_parts::pipe_draft::laws::drafted_are_laid;
+use pipe_parts::pipe_draft::laws::pipeline_planned_are_laid;
 
-/// In a pipeline that is laid out by the draft the parts are those of its maps.
+/// In a pipeline that is laid out by the pipeline plan the parts are those of its maps.
 pub fn parts_are_of_maps()
     ensures { PartsAreOfMaps }
 {
-    drafted_are_laid();
+    pipeline_planned_are_laid();
 }
 
 /// What stands for the changes of maps has the operands that marks ask.

@@ -1,8 +1,8 @@
 //! The parts of maps.
 
 ghost use Rattle.std.specs.Prelude.{◌≡◌, ◌<◌, IfOk, length};
-ghost use Rattle.pipe_parts.specs.PipeDraft.Draft.{program_in, IsDraft};
-ghost use Rattle.pipe_parts.specs.PipeDraft.Places.{IsBehind};
+ghost use Rattle.pipe_parts.specs.PipeDraft.PipelinePlan.{program_in, IsPipelinePlan};
+ghost use Rattle.pipe_parts.specs.PipeDraft.Places.{AreStageSources};
 ghost use Rattle.pipe_design.specs.MapParts.Operations.{AreTargetsOn, IsCommitting, AreChosen};
 ghost use Rattle.pipe_design.specs.MapParts.Parts.{ArePartsOfMap};
 ghost use Rattle.pipe_design.specs.MapParts.Whole.{AreMapPartsFor};
@@ -18,7 +18,7 @@ use commit_net::change_net::pointed::PointedWords;
 use commit_net::map_block::MapBlocks;
 use overlay_net::cell_nets::operand::Operand;
 use pipe_net::parts::Part;
-use pipe_parts::pipe_draft::{Behind, Draft};
+use pipe_parts::pipe_draft::{PipelinePlan, StageSources};
 use std::alloc::{AllocError, Global};
 
 /// The parts of a map: those of its table, and the one that gives the slot that a clock writes and the key there.
@@ -43,52 +43,59 @@ struct OneMap {
     change: ChangePart<Name<Part>>,
 }
 
-// The parts of the map of a number, by what stands behind the commit place.
+// The parts of the map of a number, by what stands after the commit place.
 fn one_map(
     alloc: Global,
-    draft: &Draft<'_>,
-    at: &Behind,
+    pipeline_plan: &PipelinePlan<'_>,
+    at: &StageSources,
     chosen: &[Operand<Name<Part>>],
     on: &MapCommits<'_>,
     m: usize,
 ) -> Result<OneMap, AllocError>
-    requires draft { IsDraft draft.now }
-    requires at { IsBehind draft.now draft.now.plan.now.commit at.now }
-    requires known { m < length draft.now.forms.items }
-    requires chosen { AreChosen (program_in draft.now) chosen.now }
-    requires targets { AreTargetsOn (program_in draft.now) m on.now.targets.now }
-    ensures { IfOk result (λ r. ArePartsOfMap draft.now at.now.sites.items chosen.now on.now m r.parts r.change) }
+    requires pipeline_plan { IsPipelinePlan pipeline_plan.now }
+    requires at { AreStageSources pipeline_plan.now pipeline_plan.now.plan.now.commit at.now }
+    requires known { m < length pipeline_plan.now.forms.items }
+    requires chosen { AreChosen (program_in pipeline_plan.now) chosen.now }
+    requires targets { AreTargetsOn (program_in pipeline_plan.now) m on.now.targets.now }
+    ensures { IfOk result (λ r. ArePartsOfMap pipeline_plan.now at.now.sites.items chosen.now on.now m r.parts r.change) }
 {
-    let form = &draft.forms[m];
-    let sizes = &draft.sizes;
+    let form = &pipeline_plan.forms[m];
+    let sizes = &pipeline_plan.sizes;
     let commits = on.commits;
-    let operations = operations(alloc, draft, &at.sites, chosen, on.targets, m as u32)?;
+    let operations = operations(
+        alloc,
+        pipeline_plan,
+        &at.sites,
+        chosen,
+        on.targets,
+        m as u32,
+    )?;
     let parts = parts_of_map(alloc, sizes, form, commits, &operations)?;
     let change = change_of_map(alloc, sizes, form, commits, &operations, &parts)?;
     Ok(OneMap { parts, change })
 }
 
-/// The parts of all maps, by what stands behind the commit place and what other parts say of the operations that commit.
+/// The parts of all maps, by what stands after the commit place and what other parts say of the operations that commit.
 pub fn map_parts(
     alloc: Global,
-    draft: &Draft<'_>,
-    at: &Behind,
+    pipeline_plan: &PipelinePlan<'_>,
+    at: &StageSources,
     committing: &Committing<'_>,
 ) -> Result<MapParts, AllocError>
-    requires draft { IsDraft draft.now }
-    requires at { IsBehind draft.now draft.now.plan.now.commit at.now }
-    requires committing { IsCommitting draft.now committing.now }
-    ensures { IfOk result (AreMapPartsFor draft.now at.now.sites.items committing.now) }
+    requires pipeline_plan { IsPipelinePlan pipeline_plan.now }
+    requires at { AreStageSources pipeline_plan.now pipeline_plan.now.plan.now.commit at.now }
+    requires committing { IsCommitting pipeline_plan.now committing.now }
+    ensures { IfOk result (AreMapPartsFor pipeline_plan.now at.now.sites.items committing.now) }
 {
     let mut maps = Vec::new(alloc);
     let mut changes = Vec::new(alloc);
-    for m in 0..draft.forms.len() {
+    for m in 0..pipeline_plan.forms.len() {
         let on = &committing.maps[m];
-        let made = one_map(alloc, draft, at, committing.chosen, on, m)?;
+        let made = one_map(alloc, pipeline_plan, at, committing.chosen, on, m)?;
         maps.push(made.parts)?;
         changes.push(made.change)?;
     }
-    let value = value_block(alloc, draft)?;
+    let value = value_block(alloc, pipeline_plan)?;
     Ok(MapParts {
         maps,
         changes,

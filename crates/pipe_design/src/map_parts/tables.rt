@@ -4,7 +4,7 @@ ghost use Rattle.std.specs.Prelude.{◌≡◌, ◌<◌, All, IfOk, length};
 ghost use Rattle.commit_net.specs.Choosing.{HasOperands};
 ghost use Rattle.commit_net.specs.Words.{IsFitting};
 ghost use Rattle.commit_net.specs.ChangeNet.Written.{key_count};
-ghost use Rattle.commit_net.specs.MapBlock.Forms.{IsSuited};
+ghost use Rattle.commit_net.specs.MapBlock.Forms.{FormFits};
 ghost use Rattle.commit_net.specs.MapBlock.Parts.{trees_of};
 ghost use Rattle.commit_net.specs.MapBlock.Block.{IsMapBlock};
 ghost use Rattle.pipe_net.specs.Parts.{IsSmall};
@@ -46,7 +46,7 @@ fn control(sizes: &Sizes, commits: Name<Part>) -> ControlNets<Name<Part>>
     ControlNets {
         commits,
         writes: wire_name(sizes.host(), Wire::Writes),
-        calm: wire_name(sizes.host(), Wire::Calm),
+        idle: wire_name(sizes.host(), Wire::Idle),
     }
 }
 
@@ -58,7 +58,7 @@ fn table(
     control: ControlNets<Name<Part>>,
     operations: &[CommitNets<'_, Name<Part>>],
 ) -> Result<MapBlocks<Name<Part>>, AllocError>
-    requires suited { IsSuited form.now }
+    requires form_fits { FormFits form.now }
     requires operands { All HasOperands operations.now }
     requires fitting { All (IsFitting form.now.decl) operations.now }
     ensures { IfOk result (λ r. IsMapBlock form.now parts control operations.now (trees_of r)) }
@@ -89,7 +89,7 @@ pub(crate) fn parts_of_map(
 ) -> Result<PartsOfMap, AllocError>
     requires small { IsSmall sizes.now }
     requires map { form.now.number < sizes.now.maps }
-    requires suited { IsSuited form.now }
+    requires form_fits { FormFits form.now }
     requires operands { All HasOperands operations.now }
     requires fitting { All (IsFitting form.now.decl) operations.now }
     ensures parts { IfOk result (ArePartsOver sizes.now form.now commits operations.now) }
@@ -115,7 +115,7 @@ pub(crate) fn change_of_map(
 ) -> Result<ChangePart<Name<Part>>, AllocError>
     requires small { IsSmall sizes.now }
     requires map { form.now.number < sizes.now.maps }
-    requires suited { IsSuited form.now }
+    requires form_fits { FormFits form.now }
     requires operands { All HasOperands operations.now }
     requires keys { length parts.now.written.words.items ≡ key_count form.now.decl }
     ensures { IfOk result (IsChangeOver sizes.now form.now commits operations.now parts.now) }

@@ -5,7 +5,7 @@ ghost use Rattle.block_core.specs.View.{block_of};
 ghost use Rattle.commit_net.specs.MapBlock.Stored.{host_word};
 ghost use Rattle.pipe_net.specs.Parts as part;
 ghost use Rattle.pipe_net.specs.Parts.{IsSmall};
-ghost use Rattle.pipe_parts.specs.PipeDraft.Draft.{IsDraft};
+ghost use Rattle.pipe_parts.specs.PipeDraft.PipelinePlan.{IsPipelinePlan};
 ghost use Rattle.pipe_design.specs.MapParts.Words.{AreHostWords, IsValueOver};
 
 use block_core::block::Block;
@@ -13,7 +13,7 @@ use block_core::name::Name;
 use commit_net::map_block::MapForm;
 use hazard_core::cell_core::xdp_state::xdp_maps::decl::MapKind;
 use pipe_net::parts::{Part, Sizes};
-use pipe_parts::pipe_draft::Draft;
+use pipe_parts::pipe_draft::PipelinePlan;
 use std::alloc::{AllocError, Global};
 use turn_net::host_net::names::{Wire, wire_name};
 use turn_net::host_net::value::value;
@@ -32,24 +32,30 @@ fn host_word(sizes: &Sizes, form: &MapForm) -> Name<Part>
 }
 
 // Those of all maps.
-fn host_words(alloc: Global, draft: &Draft<'_>) -> Result<Vec<Name<Part>>, AllocError>
-    requires { IsDraft draft.now }
-    ensures { IfOk result (λ words. AreHostWords draft.now words.items) }
+fn host_words(
+    alloc: Global,
+    pipeline_plan: &PipelinePlan<'_>,
+) -> Result<Vec<Name<Part>>, AllocError>
+    requires { IsPipelinePlan pipeline_plan.now }
+    ensures { IfOk result (λ words. AreHostWords pipeline_plan.now words.items) }
 {
     let mut words = Vec::new(alloc);
-    for m in 0..draft.forms.len() {
-        words.push(host_word(&draft.sizes, &draft.forms[m]))?;
+    for m in 0..pipeline_plan.forms.len() {
+        words.push(host_word(&pipeline_plan.sizes, &pipeline_plan.forms[m]))?;
     }
     Ok(words)
 }
 
 /// The block with the word that the host reads.
-pub(crate) fn value_block(alloc: Global, draft: &Draft<'_>) -> Result<Block<Name<Part>>, AllocError>
-    requires { IsDraft draft.now }
-    ensures { IfOk result (λ b. IsValueOver draft.now (block_of b)) }
+pub(crate) fn value_block(
+    alloc: Global,
+    pipeline_plan: &PipelinePlan<'_>,
+) -> Result<Block<Name<Part>>, AllocError>
+    requires { IsPipelinePlan pipeline_plan.now }
+    ensures { IfOk result (λ b. IsValueOver pipeline_plan.now (block_of b)) }
 {
-    let words = host_words(alloc, draft)?;
-    let ready = wire_name(draft.sizes.host(), Wire::Ready);
-    let block = value(alloc, draft.sizes.value(), ready, &words)?;
+    let words = host_words(alloc, pipeline_plan)?;
+    let ready = wire_name(pipeline_plan.sizes.host(), Wire::Ready);
+    let block = value(alloc, pipeline_plan.sizes.value(), ready, &words)?;
     Ok(block)
 }

@@ -5,14 +5,14 @@ use Rattle.block_core.specs.net_core.declared.ports.Inputs.{Inputs}
 use Rattle.block_core.specs.net_core.Ports.{port_list, words_of}
 use Rattle.block_core.specs.net_core.Value.{Env}
 use Rattle.block_core.specs.net_core.Clock.{Stored, done}
-use Rattle.block_core.specs.net_core.History.{IsInput}
+use Rattle.block_core.specs.net_core.Trace.{IsInput}
 use Rattle.block_core.specs.declared.name.Name.{Name}
 use Rattle.block_core.specs.Blocks.{Whole}
 use Rattle.block_core.specs.Parts.{Sees}
 use Rattle.block_core.specs.Formed.{names_scope, IsThere, IsFormed}
 use Rattle.hazard_core.specs.cell_core.Formed.{AllFit}
 use Rattle.turn_net.specs.Nets.{signals, all_read}
-use Rattle.pipe_net.specs.PipeTurns.Parts.{turn_nets}
+use Rattle.pipe_net.specs.PipeTurns.Parts.{action_nets}
 use Rattle.pipe_core.specs.Machine.{State, clock}
 use Rattle.pipe_core.specs.History.{Trace, IsInOrder}
 use Rattle.pipe_core.specs.Computed.{IsComputed}
@@ -20,14 +20,14 @@ use Rattle.pipe_net.specs.declared.parts.Part.{Part}
 use Rattle.pipe_net.specs.Machine.{input_of, MayCome}
 use Rattle.pipe_net.specs.Layout.{Layout, program_of, last_of, commit_of}
 use Rattle.pipe_net.specs.Relation.{HoldMaps, Relates}
-use Rattle.pipe_net.specs.Saying.{ShowDues, ShowReturns, ShowChanges, ShowAnswers}
+use Rattle.pipe_net.specs.Saying.{ShowReloads, ShowReturns, ShowChanges, ShowAnswers}
 use Rattle.pipe_net.specs.Standing.{ShowPackets}
 use Rattle.pipe_net.specs.PipeFrames.Returning.{PlacesReturn}
 use Rattle.pipe_net.specs.PipeFrames.Following.{OthersSay, ShowFrames, FramesGo, FramesFollow}
-use Rattle.pipe_net.specs.PipeMarks.Following.{MarksAreFit, DuesAreShown, MarksFollow}
+use Rattle.pipe_net.specs.PipeMarks.Following.{MarksAreFit, ReloadsAreShown, MarksFollow}
 use Rattle.pipe_net.specs.PipeTurns.Hosting.{ShowsHost, HostIsShown}
-use Rattle.pipe_net.specs.PipeTurns.Turning.{TurnsAreFit, ShowsTurn, ShowsTargets, TurnIsShown, TargetsAreShown}
-use Rattle.pipe_net.specs.PipeTurns.Following.{TurnFollows}
+use Rattle.pipe_net.specs.PipeTurns.Acting.{ActionsAreFit, ShowsAction, ShowsTargets, ActionIsShown, TargetsAreShown}
+use Rattle.pipe_net.specs.PipeTurns.Following.{ActionFollows}
 use Rattle.pipe_net.specs.PipeMaps.Premises.{MapsAreFit, IsMapClock, HasMaps}
 use Rattle.pipe_net.specs.PipeMaps.Tables.{TablesFollow}
 use Rattle.pipe_net.specs.PipeMaps.Saying.{ChangesAreShown, ValueIsShown, MapsLetWrite}
@@ -40,7 +40,7 @@ use Rattle.pipe_net.specs.PipeForms.Forming.{PipelinesAreFormed}
 use Rattle.pipe_net.specs.PipeClocks.Following.{IsPipeline, IsFollowable}
 use Rattle.pipe_net.proofs.PipeClocks.Fitting.{AreOfWidths, all_fit, stored_stays}
 use Rattle.pipe_net.proofs.PipeClocks.Fits.{are_fit, fit_behind}
-use Rattle.pipe_net.proofs.PipeClocks.Some.{sources_some, word_some, place_some, targets_some, turn_some, chosen_some, operations_some, written_some, change_some, marks_some, dues_some}
+use Rattle.pipe_net.proofs.PipeClocks.Some.{sources_some, word_some, place_some, targets_some, action_some, chosen_some, operations_some, written_some, change_some, marks_some, reloads_some}
 use Rattle.pipe_net.proofs.PipeClocks.Inputs.{inputs_fit}
 
 -- the laws of the parts, and of what is first
@@ -48,11 +48,11 @@ pub record ClockLaws : Type 0 where
   pub declared : AllAreDeclared
   pub formed : PipelinesAreFormed
   pub packets : PacketsAreShown
-  pub dues : DuesAreShown
+  pub reloads : ReloadsAreShown
   pub returns : PlacesReturn
   pub allow : MapsLetWrite
   pub host : HostIsShown
-  pub turn : TurnIsShown
+  pub action : ActionIsShown
   pub targets : TargetsAreShown
   pub changes : ChangesAreShown
   pub value : ValueIsShown
@@ -60,7 +60,7 @@ pub record ClockLaws : Type 0 where
   pub frames : FramesFollow
   pub packets_follow : PacketsFollow
   pub marks_follow : MarksFollow
-  pub turn_follows : TurnFollows
+  pub action_follows : ActionFollows
   pub tables_follow : TablesFollow
 
 -- A clock in which the parts store what a state of the machine says.
@@ -91,16 +91,16 @@ module _ (laws : ClockLaws) (l : Layout) (d : Whole Part) (i : Inputs) (t : Trac
   widths = all_fit d port_list (words_of i) ss v h.sees h.related.stored (inputs_fit i h.fits) formed.blocks formed.ordered
 
   pub marks_fit : MarksAreFit l d parts.marks v
-  marks_fit k w = (are_fit d v widths _ (all.marks k w).marks (marks_some l d parts formed k w), are_fit d v widths _ (all.marks k w).dues (dues_some l d parts formed k w))
+  marks_fit k w = (are_fit d v widths _ (all.marks k w).marks (marks_some l d parts formed k w), are_fit d v widths _ (all.marks k w).reloads (reloads_some l d parts formed k w))
 
-  pub turns_fit : TurnsAreFit l d parts.turns v
-  turns_fit = record {
-    records = fit_behind v (signals (turn_nets l)) (all_read l.records) (are_fit d v widths _ all.turn (turn_some l d parts formed));
+  pub actions_fit : ActionsAreFit l d parts.actions v
+  actions_fit = record {
+    records = fit_behind v (signals (action_nets l)) (all_read l.records) (are_fit d v widths _ all.action (action_some l d parts formed));
     chosen = are_fit d v widths _ all.chosen (chosen_some l d parts formed);
     targets = λ m w. are_fit d v widths _ (all.maps m w).targets (targets_some l d parts formed m w);
   }
 
-  pub maps_fit : MapsAreFit l d parts.turns parts.maps v
+  pub maps_fit : MapsAreFit l d parts.actions parts.maps v
   maps_fit m w = record {
     operations = are_fit d v widths _ (all.maps m w).operations (operations_some l d parts formed m w);
     written = are_fit d v widths _ (all.maps m w).written (written_some l d parts formed m w);
@@ -118,42 +118,42 @@ module _ (laws : ClockLaws) (l : Layout) (d : Whole Part) (i : Inputs) (t : Trac
   packets : ShowPackets l s v
   packets = laws.packets l d parts.sized parts.stages.laid parts.parts i t ss v h.computed h.related.packets h.sees
 
-  dues : ShowDues l s v
-  dues = laws.dues l d parts.sized parts.marks parts.parts i s ss v h.related.marks h.sees h.related.stored marks_fit packets
+  reloads : ShowReloads l s v
+  reloads = laws.reloads l d parts.sized parts.marks parts.parts i s ss v h.related.marks h.sees h.related.stored marks_fit packets
 
   pub returns : ShowReturns l s v
-  returns = laws.returns l d parts.sized parts.frames parts.parts i s ss v h.related.given h.related.packet_numbers h.related.frames h.sees dues
+  returns = laws.returns l d parts.sized parts.frames parts.parts i s ss v h.related.given h.related.packet_numbers h.related.frames h.sees reloads
 
   fit_sites : AllFit l.decls (program_of l).sites
   fit_sites = parts.stages.laid.staged.fits
 
-  pub has_maps : HasMaps l d parts.turns
+  pub has_maps : HasMaps l d parts.actions
   has_maps = record { sized = parts.sized; parts = parts.maps; places = parts.parts; within = commits_within; fits = fit_sites }
     where
       commits_within : commit_of l ≤ last_of l
       commits_within = let a = parts.sized.small.commit in let b = parts.sized.commit in let c = parts.sized.last in omega (arith, a, b, c)
 
   pub host : ShowsHost l i s v
-  host = laws.host l d parts.sized parts.turns parts.parts (laws.allow l d parts.turns has_maps) i s ss v h.related.given h.related.packet_numbers h.related.frames h.related.maps h.sees returns
+  host = laws.host l d parts.sized parts.actions parts.parts (laws.allow l d parts.actions has_maps) i s ss v h.related.given h.related.packet_numbers h.related.frames h.related.maps h.sees returns
 
-  turn : ShowsTurn l d parts.turns i s v
-  turn = laws.turn l d parts.sized parts.turns parts.parts i s ss v h.related.maps h.sees turns_fit returns host packets
+  action : ShowsAction l d parts.actions i s v
+  action = laws.action l d parts.sized parts.actions parts.parts i s ss v h.related.maps h.sees actions_fit returns host packets
 
-  targets : ShowsTargets l d parts.turns i s v
-  targets = laws.targets l d parts.sized parts.turns parts.parts i s ss v h.related.maps h.sees turns_fit packets h.follow.right
+  targets : ShowsTargets l d parts.actions i s v
+  targets = laws.targets l d parts.sized parts.actions parts.parts i s ss v h.related.maps h.sees actions_fit packets h.follow.right
 
-  map_clock : IsMapClock l d parts.turns has_maps.parts i s ss v
+  map_clock : IsMapClock l d parts.actions has_maps.parts i s ss v
   unfolding has_maps
-  map_clock = record { held = h.related.maps; sees = h.sees; fit = maps_fit; packets = packets; host = host; turns = turn; targets = targets; right = h.follow.right; keys = h.follow.keys }
+  map_clock = record { held = h.related.maps; sees = h.sees; fit = maps_fit; packets = packets; host = host; actions = action; targets = targets; right = h.follow.right; keys = h.follow.keys }
 
   changes : ShowChanges l (input_of i) s v
-  changes = laws.changes l d parts.turns has_maps i s ss v map_clock
+  changes = laws.changes l d parts.actions has_maps i s ss v map_clock
 
   answers : ShowAnswers l s v
   answers = laws.answers l d parts.sized parts.stages parts.parts i s ss v h.sees h.related.stored packets
 
   others : OthersSay l i s v
-  others = record { due = dues; stays = turn.stays; answer = answers }
+  others = record { reload = reloads; stays = action.stays; answer = answers }
 
   frames_follow : ShowFrames l i s (length l.words) v × (MayCome l.build s i → FramesGo l d i s ss v)
   frames_follow = laws.frames l d parts.sized (record { answer = parts.stages.laid.has_answer; changed = h.pipe.changed }) parts.frames parts.parts i s ss v h.related.given h.related.packet_numbers h.related.stored h.related.frames h.sees others
@@ -161,15 +161,15 @@ module _ (laws : ClockLaws) (l : Layout) (d : Whole Part) (i : Inputs) (t : Trac
   pub frames : ShowFrames l i s (length l.words) v
   frames = frames_follow.0
 
-  -- ---- what is stored behind it
+  -- ---- what is stored after it
   abbrev next : Part → Stored
   next p = done v (d.block p).statement (ss p)
 
   maps_then : HoldMaps l (clock l.build (input_of i) s) next
   maps_then =
-      let a = laws.turn_follows l d parts.sized parts.turns parts.parts i s ss v h.related.maps h.sees turns_fit returns host packets h.follow.right in
-      let b = laws.tables_follow l d parts.turns has_maps i s ss v map_clock in
-      record { decls = b.decls; long = a.long; turn = a.turn; tables = b.tables }
+      let a = laws.action_follows l d parts.sized parts.actions parts.parts i s ss v h.related.maps h.sees actions_fit returns host packets h.follow.right in
+      let b = laws.tables_follow l d parts.actions has_maps i s ss v map_clock in
+      record { decls = b.decls; long = a.long; action = a.action; tables = b.tables }
 
   pub related_then : MayCome l.build s i → Relates l d (clock l.build (input_of i) s) next
   related_then come =

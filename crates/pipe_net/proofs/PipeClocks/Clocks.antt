@@ -3,7 +3,7 @@ use Rattle.std.specs.Prelude.{ℕ, List}
 use Rattle.block_core.specs.net_core.declared.ports.Inputs.{Inputs}
 use Rattle.block_core.specs.net_core.Ports.{port_list, words_of}
 use Rattle.block_core.specs.net_core.Clock.{Stored, done, shown}
-use Rattle.block_core.specs.net_core.History.{IsInput}
+use Rattle.block_core.specs.net_core.Trace.{IsInput}
 use Rattle.block_core.specs.Blocks.{Whole, first_of}
 use Rattle.block_core.specs.Parts.{ClockOfParts, stored_of}
 use Rattle.block_core.proofs.LinkedLaws.{linked, starts_as_parts}
@@ -16,7 +16,7 @@ use Rattle.pipe_net.specs.Layout.{Layout}
 use Rattle.pipe_net.specs.Relation.{Relates}
 use Rattle.pipe_net.specs.PipeFrames.Following.{FramesBegin}
 use Rattle.pipe_net.specs.PipeMarks.Following.{MarksBegin}
-use Rattle.pipe_net.specs.PipeTurns.Following.{TurnBegins}
+use Rattle.pipe_net.specs.PipeTurns.Following.{ActionBegins}
 use Rattle.pipe_net.specs.PipeMaps.Tables.{TablesBegin}
 use Rattle.pipe_net.specs.PipePlaces.Following.{PacketsBegin}
 use Rattle.pipe_net.specs.PipeForms.Forming.{PipelinesAreFormed}
@@ -68,14 +68,14 @@ pub record FirstLaws : Type 0 where
   pub frames : FramesBegin
   pub packets : PacketsBegin
   pub marks : MarksBegin
-  pub turn : TurnBegins
+  pub action : ActionBegins
   pub tables : TablesBegin
 
 pub begin_related : FirstLaws → BeginRelated
 begin_related laws l d names maps pipe decls empty =
     let f = laws.frames l d maps pipe.parts.sized pipe.parts.frames in
-    let a = laws.turn l d maps pipe.parts.turns in
-    let b = laws.tables l d pipe.parts.turns maps pipe.parts.maps decls empty in
+    let a = laws.action l d maps pipe.parts.actions in
+    let b = laws.tables l d pipe.parts.actions maps pipe.parts.maps decls empty in
     record {
       first = λ p. first_of (d.block p);
       stored = starts_as_parts Part d names port_list (outputs_of l);
@@ -86,6 +86,6 @@ begin_related laws l d names maps pipe decls empty =
         frames = f.1;
         packets = laws.packets l d maps;
         marks = laws.marks l maps (λ p. first_of (d.block p));
-        maps = record { decls = b.decls; long = a.long; turn = a.turn; tables = b.tables };
+        maps = record { decls = b.decls; long = a.long; action = a.action; tables = b.tables };
       };
     }

@@ -14,7 +14,7 @@ use Rattle.block_core.specs.net_core.Width.{Scope, op_width, unary_width, part_s
 use Rattle.block_core.specs.net_core.Suits.{IsOfWidth}
 use Rattle.block_core.specs.net_core.Value.{word, nothing, Env, apply, apply_unary, concatenated, part_select, value, concatenated_parts, right_value}
 use Rattle.block_core.specs.net_core.Clock.{Stored, done, all_done}
-use Rattle.block_core.proofs.net_core_laws.WidthLaws.{same_parts, op_parts, unary_parts, part_select_parts, memory_word_parts, conditional_parts, concatenation_parts, const_parts, apply_fits, apply_unary_fits, part_select_fit, concatenated_fit}
+use Rattle.block_core.proofs.net_core_laws.WidthLaws.{same_parts, op_parts, unary_parts, part_select_parts, memory_word_parts, conditional_parts, concatenation_parts, const_parts, apply_fits, apply_unary_fits, part_select_fit, concatenated_fit, conditional_fits}
 use Rattle.block_core.specs.declared.name.Name.{Name}
 use Rattle.block_core.specs.declared.name.Name.TheVariants as name
 use Rattle.block_core.specs.declared.block.BlockMemory.{BlockMemory}
@@ -47,10 +47,6 @@ of_width x a b f e = record { width = f.width ∙ sym e; fits = f.fits }
 select_some : (a hi lo : ℕ) → 0 < part_select_width a hi lo → 0 < a
 select_some a hi lo h = let p = (part_select_parts a hi lo h).some in omega (arith, p)
 
-choice_fits : (w : ℕ) (t : Bool) (a b : Word) → IsOfWidth w a → IsOfWidth w b → IsOfWidth w (if t then b else a)
-choice_fits w true a b f g = g
-choice_fits w false a b f g = f
-
 -- the nets and memories that may be read have words of their widths
 pub record AreOfWidths {N : Type 0} (s : Scope N) (q : N → Type 0) (v : Env N) : Type 0 where
   pub net : (n : N) → q n → 0 < s.net n → IsOfWidth (s.net n) (v.net n)
@@ -77,7 +73,7 @@ module _ {N : Type 0} (s : Scope N) (q : N → Type 0) (v : Env N) (fit : AreOfW
         let some : 0 < width_of s a = subst (λ k. 0 < k) p.is h in
         let x = value_fits a r.1 some in
         let y = value_fits b r.2 (subst (λ k. 0 < k) p.sides some) in
-        of_width _ _ _ (choice_fits (width_of s a) ((value v c).value == 0) (value v a) (value v b) x (of_width _ _ _ y p.sides)) p.is
+        of_width _ _ _ (conditional_fits (width_of s a) ((value v c).value == 0) (value v a) (value v b) x (of_width _ _ _ y p.sides)) p.is
     value_fits (TConcatenation ps) r h = parts_fit ps r h
 
     pub parts_fit : (ps : Trees N) → AllRead q ps → 0 < parts_width s ps → IsOfWidth (parts_width s ps) (concatenated_parts v ps)

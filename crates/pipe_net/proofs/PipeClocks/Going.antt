@@ -12,20 +12,20 @@ use Rattle.block_core.specs.Parts.{Solve, Goes}
 use Rattle.commit_net.specs.MapBlock.Parts.{SolveAll, Each, AreParts as AreMapParts}
 use Rattle.pipe_core.specs.Machine.{State, place_at, some_send}
 use Rattle.pipe_core.specs.History.{Trace}
-use Rattle.turn_net.specs.Turns.{Signals}
-use Rattle.turn_net.specs.Turn.{SeesTurn}
+use Rattle.turn_net.specs.Actions.{Signals}
+use Rattle.turn_net.specs.Action.{SeesAction}
 use Rattle.pipe_net.specs.declared.parts.Part.{Part}
 use Rattle.pipe_net.specs.Parts as part
 use Rattle.pipe_net.specs.Parts.{part_count}
 use Rattle.pipe_net.specs.Machine.{input_of}
 use Rattle.pipe_net.specs.Layout.{Layout, program_of, commit_of, last_of}
-use Rattle.pipe_net.specs.Saying.{turn_in, is_host}
+use Rattle.pipe_net.specs.Saying.{action_in, is_host}
 use Rattle.pipe_net.specs.PipeTurns.Maps.{decl_at, IsSlotsPart}
-use Rattle.pipe_net.specs.PipeTurns.Parts.{turn_nets}
+use Rattle.pipe_net.specs.PipeTurns.Parts.{action_nets}
 use Rattle.pipe_net.specs.PipeMaps.Parts.{ArePartsOfMap, parts_at}
 use Rattle.pipe_net.specs.PipePlaces.Layout.{load_sites}
 use Rattle.pipe_net.specs.PipeForms.Parts.{AreParts}
-use Rattle.pipe_net.proofs.PipeForms.SortLaws.{Sort, Scatter, Due, Returns, Sources, Slots, Word, Place, Targets, Host, Turn, Commits, OfMap, Control, Marks, Value, Gather, Exit, PartOfMap, Finder, Fetcher, Asker, Own, Written, Change, sort, is_there}
+use Rattle.pipe_net.proofs.PipeForms.SortLaws.{Sort, Scatter, Reload, Returns, Sources, Slots, Word, Place, Targets, Host, Action, Commits, OfMap, Control, Marks, Value, Gather, Exit, PartOfMap, Finder, Fetcher, Asker, Own, Written, Change, sort, is_there}
 use Rattle.pipe_net.proofs.PipeClocks.Fits.{are_fit}
 use Rattle.pipe_net.proofs.PipeClocks.Some.{fetched_some}
 use Rattle.pipe_net.proofs.PipeClocks.Clock as clock
@@ -44,27 +44,27 @@ module _ (laws : ClockLaws) (l : Layout) (d : Whole Part) (i : Inputs) (t : Trac
   has : (k : ℕ) → k < part_count l.sizes → Among (part.part k) d.parts
   has k lt = is_there l.sizes d parts.parts k lt
 
-  -- ---- the turn
+  -- ---- the action
   abbrev signals : Signals
   signals = record {
     present = is_some (place_at s.places (commit_of l));
     back = some_send l.build (commit_of l) (drop (commit_of l) s.places);
-    host = is_host (turn_in l.build (input_of i) s);
+    host = is_host (action_in l.build (input_of i) s);
   }
 
-  turn_goes : Among (part.turn l.sizes) d.parts → PartGoes (part.turn l.sizes)
-  turn_goes a =
+  action_goes : Among (part.action l.sizes) d.parts → PartGoes (part.action l.sizes)
+  action_goes a =
       let r = clock.returns laws l d i t ss v h in
       let low : commit_of l ≤ last_of l = (clock.has_maps laws l d i t ss v h).within in
-      let sees : SeesTurn (part.turn l.sizes) (turn_nets l) l.records (d.block (part.turn l.sizes)) signals (ss (part.turn l.sizes)) v = record {
+      let sees : SeesAction (part.action l.sizes) (action_nets l) l.records (d.block (part.action l.sizes)) signals (ss (part.action l.sizes)) v = record {
         present = r.holds (commit_of l) low;
         back = r.back (commit_of l) (omega arith);
         host = (clock.host laws l d i t ss v h).writes;
-        fit = (clock.turns_fit laws l d i t ss v h).records;
-        registers = λ k lt. h.sees.register (part.turn l.sizes) k a lt;
-        wires = h.sees.wires (part.turn l.sizes) a;
+        fit = (clock.actions_fit laws l d i t ss v h).records;
+        registers = λ k lt. h.sees.register (part.action l.sizes) k a lt;
+        wires = h.sees.wires (part.action l.sizes) a;
       } in
-      parts.turns.turn.goes signals s.done s.taken (ss (part.turn l.sizes)) v h.related.maps.turn sees
+      parts.actions.action.goes signals s.done s.taken (ss (part.action l.sizes)) v h.related.maps.action sees
 
   -- ---- the parts of a map
   slots_go : (m : ℕ) → IsSlotsPart l d m → PartGoes (part.slots l.sizes m)
@@ -75,7 +75,7 @@ module _ (laws : ClockLaws) (l : Layout) (d : Whole Part) (i : Inputs) (t : Trac
       by Array e = subst (λ (b : BlockTree (Name Part)). Goes v b.wires) (sym (is.array e)) tt
 
   module _ (m : ℕ) (in_maps : m < l.sizes.maps) (w : m < length l.decls) where
-    abbrev of_map : ArePartsOfMap l d parts.turns m
+    abbrev of_map : ArePartsOfMap l d parts.actions m
     of_map = parts.maps.maps m w
 
     has_at : (at : ℕ) → at < 6 → Among (part.of_map l.sizes m at) d.parts
@@ -129,12 +129,12 @@ module _ (laws : ClockLaws) (l : Layout) (d : Whole Part) (i : Inputs) (t : Trac
 
   one_goes : (p : Part) → Among p d.parts → Sort l.sizes p → PartGoes p
   one_goes p a (Scatter e) = subst PartGoes (sym e) (parts.frames.scatter.goes v)
-  one_goes p a (Due k le e) =
+  one_goes p a (Reload k le e) =
       let w = in_commit k le in
-      subst PartGoes (sym e) ((parts.marks k w).due.wiring.goes v (clock.marks_fit laws l d i t ss v h k w).1 (h.sees.wires (part.due k) (subst (λ q. Among q d.parts) e a)))
+      subst PartGoes (sym e) ((parts.marks k w).reload.wiring.goes v (clock.marks_fit laws l d i t ss v h k w).1 (h.sees.wires (part.reload k) (subst (λ q. Among q d.parts) e a)))
   one_goes p a (Returns e) = subst PartGoes (sym e) (parts.frames.returns.goes v)
   one_goes p a (Sources e) = subst PartGoes (sym e) (parts.frames.sources.goes v)
-  one_goes p a (Slots m lt e) = subst PartGoes (sym e) (slots_go m (parts.turns.writes m (in_decls m lt)).slots)
+  one_goes p a (Slots m lt e) = subst PartGoes (sym e) (slots_go m (parts.actions.writes m (in_decls m lt)).slots)
   one_goes p a (Word j lt e) =
       let w = in_loads j lt in
       subst PartGoes (sym e) ((parts.stages.words j w).block.goes v ((clock.places_fit laws l d i t ss v h).words j w) (h.sees.wires (part.word l.sizes j) (subst (λ q. Among q d.parts) e a)))
@@ -143,11 +143,11 @@ module _ (laws : ClockLaws) (l : Layout) (d : Whole Part) (i : Inputs) (t : Trac
       subst PartGoes (sym e) ((parts.stages.places k w).block.goes v ((clock.places_fit laws l d i t ss v h).places k w) (h.sees.wires (part.place l.sizes k) (subst (λ q. Among q d.parts) e a)))
   one_goes p a (Targets m lt e) =
       let w = in_decls m lt in
-      subst PartGoes (sym e) ((parts.turns.writes m w).block.wiring.goes v ((clock.turns_fit laws l d i t ss v h).targets m w) (h.sees.wires (part.targets l.sizes m) (subst (λ q. Among q d.parts) e a)))
-  one_goes p a (Host e) = subst PartGoes (sym e) (parts.turns.host.goes v)
-  one_goes p a (Turn e) = subst PartGoes (sym e) (turn_goes (subst (λ q. Among q d.parts) e a))
+      subst PartGoes (sym e) ((parts.actions.writes m w).block.wiring.goes v ((clock.actions_fit laws l d i t ss v h).targets m w) (h.sees.wires (part.targets l.sizes m) (subst (λ q. Among q d.parts) e a)))
+  one_goes p a (Host e) = subst PartGoes (sym e) (parts.actions.host.goes v)
+  one_goes p a (Action e) = subst PartGoes (sym e) (action_goes (subst (λ q. Among q d.parts) e a))
   one_goes p a (Commits e) =
-      subst PartGoes (sym e) (parts.turns.says.wiring.goes v (clock.turns_fit laws l d i t ss v h).chosen (h.sees.wires (part.commits l.sizes) (subst (λ q. Among q d.parts) e a)))
+      subst PartGoes (sym e) (parts.actions.says.wiring.goes v (clock.actions_fit laws l d i t ss v h).chosen (h.sees.wires (part.commits l.sizes) (subst (λ q. Among q d.parts) e a)))
   one_goes p a (OfMap m at lt one e) = subst PartGoes (sym e) (map_goes m lt (in_decls m lt) at one)
   one_goes p a (Control e) = subst PartGoes (sym e) (parts.frames.control.goes v)
   one_goes p a (Marks k le e) =

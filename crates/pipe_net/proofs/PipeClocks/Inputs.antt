@@ -7,7 +7,7 @@ use Rattle.block_core.specs.net_core.Suits.{IsOfWidth}
 use Rattle.block_core.specs.net_core.Value.{nothing, number_of}
 use Rattle.block_core.specs.net_core.Width.{port_width}
 use Rattle.block_core.specs.net_core.Ports.{port_list, input_width, numbers_of, words_by, words_of}
-use Rattle.block_core.specs.net_core.History.{IsInput}
+use Rattle.block_core.specs.net_core.Trace.{IsInput}
 
 -- each number is below 2 to the width of its port
 abbrev AreBelow : List Port → List ℕ → Type 0

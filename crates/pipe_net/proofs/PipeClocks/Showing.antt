@@ -1,7 +1,7 @@
 -- The outputs show what the machine does.
 use Rattle.std.specs.Prelude.{◌≡◌, ℕ, Some}
 use Rattle.std.proofs.Common.{ap, ◌∙◌, arith}
-use Rattle.block_core.specs.beat_core.declared.beat.Beat.{Beat}
+use Rattle.beat_core.specs.declared.beat.Beat.{Beat}
 use Rattle.block_core.specs.net_core.declared.tree.Word.{Word}
 use Rattle.block_core.specs.net_core.declared.ports.Inputs.{Inputs}
 use Rattle.block_core.specs.net_core.Value.{bit, Env}
@@ -41,7 +41,7 @@ module _ (laws : ClockLaws) (l : Layout) (d : Whole Part) (i : Inputs) (t : Trac
         valid = f.shown;
         beat = shows_beat;
         reload = (clock.returns laws l d i t ss v h).back 0 (omega arith) ∙ ap bit (reloaded l.build s.places);
-        host_value = laws.value l d h.pipe.parts.turns (clock.has_maps laws l d i t ss v h) i s ss v h.related.maps h.sees (clock.host laws l d i t ss v h).ready;
+        host_value = laws.value l d h.pipe.parts.actions (clock.has_maps laws l d i t ss v h) i s ss v h.related.maps h.sees (clock.host laws l d i t ss v h).ready;
         host_ready = (clock.host laws l d i t ss v h).ready;
         passed = f.passed;
       }

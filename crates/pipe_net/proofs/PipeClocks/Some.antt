@@ -49,7 +49,7 @@ use Rattle.read_net.specs.TouchNet.Marking.{guard_operands, mark_operands}
 use Rattle.read_net.specs.declared.mark_net.nets.MarkSite.{MarkSite}
 use Rattle.read_net.specs.MarkNet.Sites.{site_operands, all_operands as mark_site_operands, outside as mark_outside}
 use Rattle.turn_net.specs.declared.nets.RecordNets.{RecordNets}
-use Rattle.turn_net.specs.Nets.{kept, sites_of, read_of, all_read, outside as turn_outside}
+use Rattle.turn_net.specs.Nets.{kept, sites_of, read_of, all_read, outside as action_outside}
 use Rattle.turn_net.specs.declared.target_net.targets.Target.{Target}
 use Rattle.turn_net.specs.TargetNet.Targets.{all_of as all_targets, outside_of as target_outside}
 use Rattle.pipe_net.specs.declared.parts.Part.{Part}
@@ -60,7 +60,7 @@ use Rattle.pipe_net.specs.Relation.{read_sites}
 use Rattle.pipe_net.specs.Standing.{held_registers, IsAtPlace}
 use Rattle.pipe_net.specs.PipeMarks.Parts.{advances, IsMarkOf, Unread, Read, IsMarkBefore, IsOwnAt, IsMarkAt, IsMarkNets}
 use Rattle.pipe_net.specs.PipeTurns.Maps.{decl_at, taken_from, taken_slots}
-use Rattle.pipe_net.specs.PipeTurns.Parts.{turn_nets, writes_net, IsTargetOf}
+use Rattle.pipe_net.specs.PipeTurns.Parts.{action_nets, writes_net, IsTargetOf}
 use Rattle.pipe_net.specs.PipeMaps.Parts.{commits_net, IsOperation}
 use Rattle.pipe_net.specs.PipePlaces.Layout.{load_sites}
 use Rattle.pipe_net.specs.PipeForms.Reading.{before_place, map_shown, map_shown_as, IsReadAt, Advance, Before, OfMap, OfWord}
@@ -102,7 +102,7 @@ cons = All-cons IsSome
 both : (xs ys : List (Operand (Name Part))) → AreSome xs → AreSome ys → AreSome (xs ++ ys)
 both = All-append IsSome
 
--- of two lists, one behind the other
+-- of two lists, one after the other
 left_of : (xs ys : List (Operand (Name Part))) → AreSome (xs ++ ys) → AreSome xs
 left_of [] ys h = none
 left_of (x ∷ xs) ys h = cons x xs (All-head IsSome x (xs ++ ys) h) (left_of xs ys (All-tail IsSome x (xs ++ ys) h))
@@ -146,11 +146,11 @@ of_pointers p bits at [] h = none
 of_pointers p bits at (k ∷ ks) h =
     cons (Net (name.Register p at) bits) (pointer_registers p bits (suc at) ks) (All-head Wide bits (map (λ (k : ℕ). bits) ks) h) (of_pointers p bits (suc at) ks (All-tail Wide bits (map (λ (k : ℕ). bits) ks) h))
 
-taken_registers : (l : Layout) (at : ℕ) (rs : List (RecordNets (Name Part))) → All Wide (map (λ (r : RecordNets (Name Part)). l.turn_shape.slot_bits) rs) → AreSome (taken_operands (taken_from l at rs))
+taken_registers : (l : Layout) (at : ℕ) (rs : List (RecordNets (Name Part))) → All Wide (map (λ (r : RecordNets (Name Part)). l.action_shape.slot_bits) rs) → AreSome (taken_operands (taken_from l at rs))
 taken_registers l at [] h = none
 taken_registers l at (r ∷ rs) h =
-    let ws = map (λ (r : RecordNets (Name Part)). l.turn_shape.slot_bits) rs in
-    cons (Net (name.Register (part.turn l.sizes) at) l.turn_shape.slot_bits) (taken_operands (taken_from l (suc at) rs)) (All-head Wide l.turn_shape.slot_bits ws h) (taken_registers l (suc at) rs (All-tail Wide l.turn_shape.slot_bits ws h))
+    let ws = map (λ (r : RecordNets (Name Part)). l.action_shape.slot_bits) rs in
+    cons (Net (name.Register (part.action l.sizes) at) l.action_shape.slot_bits) (taken_operands (taken_from l (suc at) rs)) (All-head Wide l.action_shape.slot_bits ws h) (taken_registers l (suc at) rs (All-tail Wide l.action_shape.slot_bits ws h))
 
 -- ---- what is shown of frames
 kept_some : (x : Kept) → 0 < kept_width x
@@ -224,16 +224,16 @@ module _ (l : Layout) (d : Whole Part) (parts : AreParts l d) (formed : IsFormed
   map_within j lt = (parts.stages.laid.staged.fits j lt).map
 
   bits_some : (m : ℕ) → m < length l.decls → 0 < l.slot_bits m
-  bits_some m w = let s = (parts.maps.maps m w).suited.some in omega (arith, s)
+  bits_some m w = let s = (parts.maps.maps m w).form_fits.some in omega (arith, s)
 
   shown_some : (m : ℕ) → m < length l.decls → AreSome (map_shown l m)
   shown_some m w = by (decl_at l m).kind refl
     where
       by : (k : MapKind) → (decl_at l m).kind ≡ k → AreSome (map_shown_as k l m)
       by Hash e =
-          let of = (parts.turns.writes m w).map in
+          let of = (parts.actions.writes m w).map in
           let count : Operand (Name Part) = Net (count_name (part.own l.sizes m)) (l.slot_bits m + 1) in
-          cons count (slot_operands (shown_slots (part.slots l.sizes m) (decl_at l m))) (omega arith) (subst (λ ss. AreSome (slot_operands ss)) (of.slots e) (slots_some (parts.turns.maps m).decl.now.key (slots_of (parts.turns.maps m).slots.now) of.is.slots))
+          cons count (slot_operands (shown_slots (part.slots l.sizes m) (decl_at l m))) (omega arith) (subst (λ ss. AreSome (slot_operands ss)) (of.slots e) (slots_some (parts.actions.maps m).decl.now.key (slots_of (parts.actions.maps m).slots.now) of.is.slots))
       by Array e = none
 
   -- ---- words and places
@@ -260,56 +260,56 @@ module _ (l : Layout) (d : Whole Part) (parts : AreParts l d) (formed : IsFormed
 
   taken_some : AreSome (taken_operands (taken_slots l))
   taken_some =
-      let all : All Wide (l.turn_shape.bits ∷ map (λ (r : RecordNets (Name Part)). l.turn_shape.slot_bits) (kept l.records)) = subst (All Wide) parts.turns.turn.registers (wide_registers _ (omega arith)) in
-      taken_registers l 1 (kept l.records) (All-tail Wide l.turn_shape.bits (map (λ (r : RecordNets (Name Part)). l.turn_shape.slot_bits) (kept l.records)) all)
+      let all : All Wide (l.action_shape.bits ∷ map (λ (r : RecordNets (Name Part)). l.action_shape.slot_bits) (kept l.records)) = subst (All Wide) parts.actions.action.registers (wide_registers _ (omega arith)) in
+      taken_registers l 1 (kept l.records) (All-tail Wide l.action_shape.bits (map (λ (r : RecordNets (Name Part)). l.action_shape.slot_bits) (kept l.records)) all)
 
-  pub targets_some : (m : ℕ) → m < length l.decls → AreSome (target_outside (parts.turns.maps m) (parts.turns.own m) (taken_slots l))
+  pub targets_some : (m : ℕ) → m < length l.decls → AreSome (target_outside (parts.actions.maps m) (parts.actions.own m) (taken_slots l))
   targets_some m w =
-      let of = parts.turns.writes m w in
-      let nets = parts.turns.maps m in
+      let of = parts.actions.writes m w in
+      let nets = parts.actions.maps m in
       let slots = slot_operands (slots_of nets.slots.now) in
       let taken = taken_operands (taken_slots l) in
-      both (all_cells (parts.turns.own m)) (nets.used ∷ slots ++ taken) (sites_some (parts.turns.own m) of.cells)
+      both (all_cells (parts.actions.own m)) (nets.used ∷ slots ++ taken) (sites_some (parts.actions.own m) of.cells)
       (cons nets.used (slots ++ taken) (of_operand nets.used of.map.is.used) (both slots taken (slots_some nets.decl.now.key (slots_of nets.slots.now) of.map.is.slots) taken_some))
 
-  target_some : (m : ℕ) → m < length l.decls → (n : ℕ) → IsSomeTarget (get_or (parts.turns.targets m) n none_target)
-  target_some m w n = target_at (parts.turns.targets m) n (of_operands (all_targets (parts.turns.targets m)) (parts.turns.writes m w).block.has.operands)
+  target_some : (m : ℕ) → m < length l.decls → (n : ℕ) → IsSomeTarget (get_or (parts.actions.targets m) n none_target)
+  target_some m w n = target_at (parts.actions.targets m) n (of_operands (all_targets (parts.actions.targets m)) (parts.actions.writes m w).block.has.operands)
 
   -- ---- records
-  records_from : (rs : List (RecordNets (Name Part))) → All (λ j. j < length (program_of l).sites) (sites_of rs) → All (λ r. IsAtPlace l (commit_of l) r.number (operands_of r.nets.now)) rs → All (IsTargetOf l parts.turns.own parts.turns.targets) rs → AreSome (all_read rs)
+  records_from : (rs : List (RecordNets (Name Part))) → All (λ j. j < length (program_of l).sites) (sites_of rs) → All (λ r. IsAtPlace l (commit_of l) r.number (operands_of r.nets.now)) rs → All (IsTargetOf l parts.actions.own parts.actions.targets) rs → AreSome (all_read rs)
   records_from [] low cells written = none
   records_from (r ∷ rs) low cells written =
       let j = All-head (λ j. j < length (program_of l).sites) r.number (sites_of rs) low in
-      let t = All-head (IsTargetOf l parts.turns.own parts.turns.targets) r rs written in
+      let t = All-head (IsTargetOf l parts.actions.own parts.actions.targets) r rs written in
       both (read_of r) (all_read rs)
       (cons r.target (all_of (operands_of r.nets.now)) (subst IsSome (t.target none_target) (target_some (site_at (program_of l).sites r.number).map (map_within r.number j) t.at).slot) (of_operands (all_of (operands_of r.nets.now)) (All-head (λ (r : RecordNets (Name Part)). IsAtPlace l (commit_of l) r.number (operands_of r.nets.now)) r rs cells).operands))
       (records_from rs (All-tail (λ j. j < length (program_of l).sites) r.number (sites_of rs) low) (All-tail (λ (r : RecordNets (Name Part)). IsAtPlace l (commit_of l) r.number (operands_of r.nets.now)) r rs cells)
-      (All-tail (IsTargetOf l parts.turns.own parts.turns.targets) r rs written))
+      (All-tail (IsTargetOf l parts.actions.own parts.actions.targets) r rs written))
 
   records_some : AreSome (all_read l.records)
-  records_some = records_from l.records (subst (All (λ j. j < length (program_of l).sites)) (sym parts.turns.sites) (sites_below _ (length (program_of l).sites))) parts.turns.cells parts.turns.written
+  records_some = records_from l.records (subst (All (λ j. j < length (program_of l).sites)) (sym parts.actions.sites) (sites_below _ (length (program_of l).sites))) parts.actions.cells parts.actions.written
 
-  pub turn_some : AreSome (turn_outside (turn_nets l) l.records)
-  turn_some =
-      let n = turn_nets l in
+  pub action_some : AreSome (action_outside (action_nets l) l.records)
+  action_some =
+      let n = action_nets l in
       cons (Net n.present 1) (Net n.back 1 ∷ Net n.host 1 ∷ all_read l.records) (omega arith) (cons (Net n.back 1) (Net n.host 1 ∷ all_read l.records) (omega arith) (cons (Net n.host 1) (all_read l.records) (omega arith) records_some))
 
-  pub chosen_some : AreSome parts.turns.chosen
-  chosen_some = of_operands parts.turns.chosen parts.turns.turn.operands
+  pub chosen_some : AreSome parts.actions.chosen
+  chosen_some = of_operands parts.actions.chosen parts.actions.action.operands
 
   -- ---- operations on a map, and what a clock changes in it
   module _ (m : ℕ) (w : m < length l.decls) where
     asked_some : (s : SiteOperands (Name Part)) → AreSome (all_of s) → AreSome (s.key ++ s.operands)
     asked_some s h = right_of (s.guard ∷ s.found ∷ s.answer ∷ s.pointer ∷ []) (s.key ++ s.operands) h
 
-    operation_some : (n : ℕ) (c : CommitNets (Name Part)) → IsOperation l d parts.turns m n c → AreSome (operation_read c)
+    operation_some : (n : ℕ) (c : CommitNets (Name Part)) → IsOperation l d parts.actions m n c → AreSome (operation_read c)
     operation_some n c is =
         let t = target_some m w n in
         let asked = c.nets.now.key.items ++ c.nets.now.operands.items in
-        cons c.chosen (c.target ∷ c.makes ∷ asked) (subst IsSome (sym (is.chosen (Known 0))) (at_or parts.turns.chosen is.place chosen_some))
+        cons c.chosen (c.target ∷ c.makes ∷ asked) (subst IsSome (sym (is.chosen (Known 0))) (at_or parts.actions.chosen is.place chosen_some))
         (cons c.target (c.makes ∷ asked) (subst IsSome (sym (is.target none_target)) t.slot) (cons c.makes asked (subst IsSome (sym (is.makes none_target)) t.makes) (asked_some (operands_of c.nets.now) (of_operands (all_of (operands_of c.nets.now)) is.nets.operands))))
 
-    operations_from : (at : ℕ → ℕ) (ns : List (CommitNets (Name Part))) → ((i : ℕ) (c : CommitNets (Name Part)) → i < length ns → IsOperation l d parts.turns m (at i) (get_or ns i c)) → AreSome (operations_read ns)
+    operations_from : (at : ℕ → ℕ) (ns : List (CommitNets (Name Part))) → ((i : ℕ) (c : CommitNets (Name Part)) → i < length ns → IsOperation l d parts.actions m (at i) (get_or ns i c)) → AreSome (operations_read ns)
     operations_from at [] h = none
     operations_from at (c ∷ ns) h = both (operation_read c) (operations_read ns) (operation_some (at 0) c (h 0 c (omega arith))) (operations_from (λ i. at (suc i)) ns (λ i e lt. h (suc i) e (omega (arith, lt))))
 
@@ -321,23 +321,23 @@ module _ (l : Layout) (d : Whole Part) (parts : AreParts l d) (formed : IsFormed
         let words = fetched_words (part.fetcher l.sizes m) (word_count (decl_at l m).value) in
         both (word_operands words) (operations_read (parts.maps.maps m w).operations) (words_some words) operations_some
 
-    pub written_some : AreSome (written_outside (l.slot_bits m) (commits_net l d parts.turns m) (parts.maps.maps m w).trees.slot)
+    pub written_some : AreSome (written_outside (l.slot_bits m) (commits_net l d parts.actions m) (parts.maps.maps m w).trees.slot)
     written_some =
         let index : Operand (Name Part) = Net (name.Port HOST_INDEX) 16 in
         let slot : Operand (Name Part) = Net (parts.maps.maps m w).trees.slot (l.slot_bits m) in
-        cons (Net (commits_net l d parts.turns m) 1) (slot ∷ index ∷ []) (omega arith) (cons slot (index ∷ []) (bits_some m w) (cons index [] (omega arith) none))
+        cons (Net (commits_net l d parts.actions m) 1) (slot ∷ index ∷ []) (omega arith) (cons slot (index ∷ []) (bits_some m w) (cons index [] (omega arith) none))
 
-    pub change_some : AreSome (change_outside (l.slot_bits m) (commits_net l d parts.turns m) (writes_net l) (parts.maps.maps m w).slot (parts.maps.maps m w).keys (parts.maps.maps m w).operations)
+    pub change_some : AreSome (change_outside (l.slot_bits m) (commits_net l d parts.actions m) (writes_net l) (parts.maps.maps m w).slot (parts.maps.maps m w).keys (parts.maps.maps m w).operations)
     change_some =
         let of = parts.maps.maps m w in
         let more = word_operands of.keys ++ operations_read of.operations in
         let slot : Operand (Name Part) = Net of.slot (l.slot_bits m) in
         let host : Operand (Name Part) = Net (writes_net l) 1 in
-        cons (Net (commits_net l d parts.turns m) 1) (host ∷ slot ∷ host_map ∷ more) (omega arith)
+        cons (Net (commits_net l d parts.actions m) 1) (host ∷ slot ∷ host_map ∷ more) (omega arith)
         (cons host (slot ∷ host_map ∷ more) (omega arith)
         (cons slot (host_map ∷ more) (bits_some m w) (cons host_map more (omega arith) (both (word_operands of.keys) (operations_read of.operations) (words_some of.keys) operations_some))))
 
-    -- slot, presence, and behind two nets the key
+    -- slot, presence, and after two nets the key
     given_some : AreSome (change_given (l.changes m).slot (l.changes m).key (l.changes m).presence (l.changes m).any (l.changes m).by_host)
     given_some = let c = l.changes m in of_operands (change_given c.slot c.key c.presence c.any c.by_host) (parts.maps.maps m w).change.offers.operands
 
@@ -402,14 +402,14 @@ module _ (l : Layout) (d : Whole Part) (parts : AreParts l d) (formed : IsFormed
   guard_some None h = none
   guard_some (Some a) h = cons a [] (h a refl) none
 
-  dues_from : (k : ℕ) (at : ℕ → ℕ) (ms : List (MarkNets (Name Part))) → ((i : ℕ) (m : MarkNets (Name Part)) → i < length ms → IsMarkNets l k (at i) (get_or ms i m)) → AreSome (mark_operands ms)
-  dues_from k at [] h = none
-  dues_from k at (m ∷ ms) h =
+  reloads_from : (k : ℕ) (at : ℕ → ℕ) (ms : List (MarkNets (Name Part))) → ((i : ℕ) (m : MarkNets (Name Part)) → i < length ms → IsMarkNets l k (at i) (get_or ms i m)) → AreSome (mark_operands ms)
+  reloads_from k at [] h = none
+  reloads_from k at (m ∷ ms) h =
       let is = h 0 m (omega arith) in
       cons m.marked (guard_operands m.guard ++ mark_operands ms) (subst IsSome (sym is.marked) (omega arith))
       (both (guard_operands m.guard) (mark_operands ms)
       (guard_some m.guard (λ a e. let x = is.guard a e in subst IsSome (sym x.2) (All-head IsSome x.0.guard (x.0.found ∷ x.0.answer ∷ x.0.pointer ∷ x.0.key ++ x.0.operands) (of_operands (all_of x.0) x.1.operands))))
-      (dues_from k (λ i. at (suc i)) ms (λ i e lt. h (suc i) e (omega (arith, lt)))))
+      (reloads_from k (λ i. at (suc i)) ms (λ i e lt. h (suc i) e (omega (arith, lt)))))
 
-  pub dues_some : (k : ℕ) (w : k ≤ commit_of l) → AreSome (mark_operands (parts.marks k w).dues)
-  dues_some k w = dues_from k (λ i. i) (parts.marks k w).dues (parts.marks k w).nets
+  pub reloads_some : (k : ℕ) (w : k ≤ commit_of l) → AreSome (mark_operands (parts.marks k w).reloads)
+  reloads_some k w = reloads_from k (λ i. i) (parts.marks k w).reloads (parts.marks k w).nets

@@ -7,14 +7,15 @@ use Rattle.hazard_core.specs.xdp_maps.Contents.{IsBytes}
 use Rattle.block_core.specs.net_core.declared.ports.Inputs.{Inputs}
 use Rattle.block_core.specs.net_core.Ports.{words_of}
 use Rattle.block_core.specs.net_core.Clock.{Stored, shown}
-use Rattle.block_core.specs.net_core.History.{IsInput}
+use Rattle.block_core.specs.net_core.Trace.{IsInput}
 use Rattle.block_core.specs.Blocks.{Whole}
 use Rattle.block_core.specs.Parts.{stored_of}
 use Rattle.hazard_core.specs.cell_core.Formed.{AllFit}
 use Rattle.hazard_core.specs.Tables.{decl_of, table_at, slot_at}
-use Rattle.pipe_core.specs.Machine.{State, output, swept, host_ready, is_calm, host_writes}
+use Rattle.pipe_core.specs.Machine.{State, output, flushed, host_ready, is_idle, host_writes}
 use Rattle.pipe_core.specs.History.{Trace, next, begin, KeepsOrder, IsAlwaysInOrder}
 use Rattle.pipe_core.specs.Computed.{KeepsComputed, IsAlwaysComputed}
+use Rattle.pipe_core.proofs.FlushLaws.{flushed_at}
 use Rattle.pipe_net.specs.declared.parts.Part.{Part}
 use Rattle.pipe_net.specs.Machine.{input_of, MayCome, Shows}
 use Rattle.pipe_net.specs.Layout.{Layout, program_of, last_of, commit_of}
@@ -22,12 +23,12 @@ use Rattle.pipe_net.specs.Relation.{most_slots}
 use Rattle.pipe_net.specs.PipePlaces.Layout.{IsLaidOut}
 use Rattle.pipe_net.specs.PipePlaces.Following.{AreServed}
 use Rattle.pipe_net.specs.PipePlaces.Entries.{AccessesLead, EntriesFollow, EntriesBegin, EntriesServe}
-use Rattle.pipe_net.specs.PipeTurns.Turning.{IsRightTurn}
+use Rattle.pipe_net.specs.PipeTurns.Acting.{IsRightAction}
 use Rattle.pipe_net.specs.PipeForms.Parts.{design}
 use Rattle.pipe_net.specs.PipeMaps.Keys.{KeysFollow, KeysBegin}
 use Rattle.pipe_net.specs.PipeClocks.Following.{IsPipeline, IsFollowable, ClocksShow, ClocksFollow, BeginRelated}
 use Rattle.pipe_net.specs.PipeClocks.Standing.{Stands, IsRightClock, GoesOn, ClocksGoOn, PipelinesStart, FollowsAll, PipelinesFollow}
-use Rattle.pipe_net.proofs.PipeClocks.Turns.{kept_was, commits_at}
+use Rattle.pipe_net.proofs.PipeClocks.Actions.{commits_at}
 
 pub record StandingLaws : Type 0 where
   pub show : ClocksShow
@@ -79,16 +80,16 @@ module _ (laws : StandingLaws) (l : Layout) (d : Whole Part) (names : List (List
     commit_within : commit_of l ≤ last_of l
     commit_within = let a = pipe.parts.sized.small.commit in let b = pipe.parts.sized.commit in let c = pipe.parts.sized.last in omega (arith, a, b, c)
 
-    right_turn : IsRightTurn l i s
-    right_turn = record {
+    right_action : IsRightAction l i s
+    right_action = record {
       tables = λ j x e.
           right.tables (commit_of l) x commit_within
-          (kept_was l.build 0 s.places (commit_of l) x (commits_at l.build s (swept l.build 0 s.places) j x (host_writes (host_ready l.build s) (is_calm s) s.tables (input_of i).host) e));
+          (flushed_at l.build 0 s.places (commit_of l) x (commits_at l.build s (flushed l.build 0 s.places) j x (host_writes (host_ready l.build s) (is_idle s) s.tables (input_of i).host) e));
       commits = right.commits;
     }
 
     followable : IsFollowable l i s
-    followable = record { served = served; right = right_turn; keys = h.keys }
+    followable = record { served = served; right = right_action; keys = h.keys }
 
     fits : AllFit s.tables.decls (program_of l).sites
     fits = subst (λ ds. AllFit ds (program_of l).sites) (sym decls) laid.staged.fits

@@ -13,14 +13,14 @@ use Rattle.commit_net.specs.ChangeNet.Changes.{change_outside}
 use Rattle.turn_net.specs.TargetNet.Targets.{outside_of}
 use Rattle.read_net.specs.TouchNet.Marking.{mark_operands}
 use Rattle.read_net.specs.MarkNet.Sites.{outside as mark_outside}
-use Rattle.turn_net.specs.Nets.{outside as turn_outside}
+use Rattle.turn_net.specs.Nets.{outside as action_outside}
 use Rattle.pipe_net.specs.declared.parts.Part.{Part}
 use Rattle.pipe_net.specs.Parts as part
 use Rattle.pipe_net.specs.Parts.{behind_maps, part_count}
 use Rattle.pipe_net.specs.Layout.{Layout, program_of, last_of}
 use Rattle.pipe_net.specs.Standing.{held_registers}
 use Rattle.pipe_net.specs.PipeTurns.Maps.{taken_slots}
-use Rattle.pipe_net.specs.PipeTurns.Parts.{turn_nets, writes_net}
+use Rattle.pipe_net.specs.PipeTurns.Parts.{action_nets, writes_net}
 use Rattle.pipe_net.specs.PipePlaces.Layout.{load_sites}
 use Rattle.pipe_net.specs.PipeMaps.Parts.{commits_net}
 use Rattle.pipe_net.specs.PipeMarks.Parts.{advances}
@@ -30,9 +30,9 @@ use Rattle.pipe_net.specs.PipeForms.Declared.{Declares, AreAllDeclared, AllAreDe
 use Rattle.pipe_net.proofs.PipeForms.EarlierLemmas.{IsReady, AreReady, ready_declared, ready_is_there, ready_available, ready_there}
 use Rattle.pipe_net.proofs.PipeForms.HeldLemmas.{among, before_ready, held_ready, sources_ready, answer_ready}
 use Rattle.pipe_net.proofs.PipeForms.MapLemmas.{number_within, map_shown_ready}
-use Rattle.pipe_net.proofs.PipeForms.TurnLemmas.{told_ready, targets_read, turn_ready, chosen_ready}
+use Rattle.pipe_net.proofs.PipeForms.ActionLemmas.{told_ready, targets_read, action_ready, chosen_ready}
 use Rattle.pipe_net.proofs.PipeForms.ChangeLemmas.{pointed_ready, operations_ready, written_read, change_read}
-use Rattle.pipe_net.proofs.PipeForms.MarkLemmas.{marks_ready, dues_ready}
+use Rattle.pipe_net.proofs.PipeForms.MarkLemmas.{marks_ready, reloads_ready}
 use Rattle.std.proofs.lemmas.List.Elements.{All-contains}
 
 module _ (l : Layout) (d : Whole Part) (parts : AreParts l d) where
@@ -65,7 +65,7 @@ module _ (l : Layout) (d : Whole Part) (parts : AreParts l d) where
   declares : (n : ℕ) → n ≤ part_count l.sizes → (ins : List (Operand (Name Part))) → AreReady d n ins → Declares d ins
   declares n le ins h = record { widths = ready_declared d n ins h; there = ready_is_there d (part_count l.sizes) (among l d parts) n le ins h }
 
-  -- ---- all of it, before a part behind all
+  -- ---- all of it, before a part after all
   abbrev end : ℕ
   end = behind_maps l.sizes + 1
 
@@ -78,17 +78,17 @@ module _ (l : Layout) (d : Whole Part) (parts : AreParts l d) where
     };
     words = λ i there. declares end (omega arith) (parts.stages.words i there).outside (word_read i there end (omega arith));
     places = λ k there. declares end (omega arith) (parts.stages.places k there).outside (place_read end (omega arith) k there);
-    turn = declares end (omega arith) (turn_outside (turn_nets l) l.records) (turn_ready l d parts end (omega arith));
-    chosen = declares end (omega arith) parts.turns.chosen (chosen_ready l d parts end (omega arith));
+    action = declares end (omega arith) (action_outside (action_nets l) l.records) (action_ready l d parts end (omega arith));
+    chosen = declares end (omega arith) parts.actions.chosen (chosen_ready l d parts end (omega arith));
     maps = λ m there. record {
-      targets = declares end (omega arith) (outside_of (parts.turns.maps m) (parts.turns.own m) (taken_slots l)) (targets_read l d parts end (omega arith) m there);
+      targets = declares end (omega arith) (outside_of (parts.actions.maps m) (parts.actions.own m) (taken_slots l)) (targets_read l d parts end (omega arith) m there);
       operations = declares end (omega arith) (all_read (parts.maps.maps m there).operations) (operations_ready l d parts m there end (omega arith));
-      written = declares (late m) (late_within m there) (written_outside (l.slot_bits m) (commits_net l d parts.turns m) (parts.maps.maps m there).trees.slot) (written_read l d parts m there (late m) (omega arith));
-      change = declares (late m) (late_within m there) (change_outside (l.slot_bits m) (commits_net l d parts.turns m) (writes_net l) (parts.maps.maps m there).slot (parts.maps.maps m there).keys (parts.maps.maps m there).operations) (change_read l d parts m there (late m) (omega arith));
+      written = declares (late m) (late_within m there) (written_outside (l.slot_bits m) (commits_net l d parts.actions m) (parts.maps.maps m there).trees.slot) (written_read l d parts m there (late m) (omega arith));
+      change = declares (late m) (late_within m there) (change_outside (l.slot_bits m) (commits_net l d parts.actions m) (writes_net l) (parts.maps.maps m there).slot (parts.maps.maps m there).keys (parts.maps.maps m there).operations) (change_read l d parts m there (late m) (omega arith));
     };
     marks = λ k there. record {
       marks = declares end (omega arith) (mark_outside (advances l) (parts.marks k there).sites) (marks_ready l d parts end (omega arith) k there);
-      dues = declares end (omega arith) (mark_operands (parts.marks k there).dues) (dues_ready l d parts end k there);
+      reloads = declares end (omega arith) (mark_operands (parts.marks k there).reloads) (reloads_ready l d parts end k there);
     };
   }
     where

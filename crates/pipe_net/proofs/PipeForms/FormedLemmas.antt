@@ -3,9 +3,9 @@ use Rattle.std.specs.Prelude.{◌≡◌, ℕ, zero, suc, ◌+◌, ◌*◌, ◌<�
 use Rattle.std.proofs.Common.{get_or, refl, sym, ap, ◌∙◌, subst, arith}
 use Rattle.std.proofs.lemmas.List.{get_or-replicate}
 use Rattle.block_core.specs.net_core.Ports.{port_list}
-use Rattle.block_core.specs.net_core.ProductRules.Products.{products_apart}
+use Rattle.block_core.specs.net_core.ProductRules.Products.{no_product_chains}
 use Rattle.block_core.proofs.ProductBlocks.AloneLaws.{alone_apart}
-use Rattle.block_core.proofs.ProductBlocks.ApartLaws.{linked_are_apart}
+use Rattle.block_core.proofs.ProductBlocks.ApartLaws.{linked_has_no_product_chains}
 use Rattle.block_core.specs.Blocks.{Whole, PlacedFrom, IsPlaced, Among}
 use Rattle.block_core.specs.Order.{AllInOrder}
 use Rattle.block_core.specs.Formed.{names_scope, name_width, block_registers, block_wires, outputs_typed, IsFormed}
@@ -18,14 +18,14 @@ use Rattle.pipe_net.specs.Parts as part
 use Rattle.pipe_net.specs.Parts.{part_place, parts_of, part_count, behind_words}
 use Rattle.pipe_net.specs.Layout.{Layout}
 use Rattle.pipe_net.specs.PipeForms.Parts.{outputs_of, design, AreParts}
-use Rattle.pipe_net.specs.PipeForms.Forming.{PipelinesAreFormed, ProductsAreApart}
-use Rattle.pipe_net.proofs.PipeForms.SortLaws.{Sort, Scatter, Due, Returns, Sources, Slots, Word, Targets, Host, Turn, Commits, OfMap, Control, Marks, Value, Gather, Exit, Place, PartOfMap, Finder, Fetcher, Asker, Own, Written, Change, sort_of, below}
+use Rattle.pipe_net.specs.PipeForms.Forming.{PipelinesAreFormed, HaveNoProductChains}
+use Rattle.pipe_net.proofs.PipeForms.SortLaws.{Sort, Scatter, Reload, Returns, Sources, Slots, Word, Targets, Host, Action, Commits, OfMap, Control, Marks, Value, Gather, Exit, Place, PartOfMap, Finder, Fetcher, Asker, Own, Written, Change, sort_of, below}
 use Rattle.pipe_net.proofs.PipeForms.EarlierLemmas.{earlier}
 use Rattle.pipe_net.proofs.PipeForms.HeldLemmas.{among}
-use Rattle.pipe_net.proofs.PipeForms.TurnLemmas.{control_there, told_width, back_width}
-use Rattle.pipe_net.proofs.PipeForms.FrameForms.{scatter_there, scatter_good, due_good, returns_good, sources_good, control_good, gather_good, exit_good}
+use Rattle.pipe_net.proofs.PipeForms.ActionLemmas.{control_there, told_width, back_width}
+use Rattle.pipe_net.proofs.PipeForms.FrameForms.{scatter_there, scatter_good, reload_good, returns_good, sources_good, control_good, gather_good, exit_good}
 use Rattle.pipe_net.proofs.PipeForms.MapForms.{slots_good, word_good, finder_good, fetcher_good, asker_good, own_good, written_good, change_good}
-use Rattle.pipe_net.proofs.PipeForms.TurnForms.{targets_good, turn_good, commits_good, host_good}
+use Rattle.pipe_net.proofs.PipeForms.ActionForms.{targets_good, action_good, commits_good, host_good}
 use Rattle.pipe_net.proofs.PipeForms.PlaceForms.{marks_good, value_good, place_good}
 use Rattle.pipe_net.proofs.PipeForms.GoodLemmas.{IsGood}
 
@@ -52,14 +52,14 @@ module _ (l : Layout) (d : Whole Part) (parts : AreParts l d) where
 
   by_sort : (n : ℕ) → Sort l.sizes (part.part n) → IsGood d n
   by_sort n (Scatter e) = same_good n _ e (scatter_good l d parts)
-  by_sort n (Due k q e) = let c = parts.sized.commit in same_good n _ e (due_good l d parts k (omega (arith, q, c)))
+  by_sort n (Reload k q e) = let c = parts.sized.commit in same_good n _ e (reload_good l d parts k (omega (arith, q, c)))
   by_sort n (Returns e) = same_good n _ e (returns_good l d parts)
   by_sort n (Sources e) = same_good n _ e (sources_good l d parts)
   by_sort n (Slots m lt e) = let c = parts.sized.maps in same_good n _ e (slots_good l d parts m (omega (arith, lt, c)))
   by_sort n (Word i lt e) = let c = parts.stages.laid.loads in same_good n _ e (word_good l d parts i (omega (arith, lt, c)))
   by_sort n (Targets m lt e) = let c = parts.sized.maps in same_good n _ e (targets_good l d parts m (omega (arith, lt, c)))
   by_sort n (Host e) = same_good n _ e (host_good l d parts)
-  by_sort n (Turn e) = same_good n _ e (turn_good l d parts)
+  by_sort n (Action e) = same_good n _ e (action_good l d parts)
   by_sort n (Commits e) = same_good n _ e (commits_good l d parts)
   by_sort n (OfMap m at lt one e) = let c = parts.sized.maps in same_good n _ e (by_map m at (omega (arith, lt, c)) one)
   by_sort n (Control e) = same_good n _ e (control_good l d parts)
@@ -107,7 +107,7 @@ module _ (l : Layout) (d : Whole Part) (parts : AreParts l d) where
       let h : scatter_width 6 ≡ 32 = ap (λ ws. get_or ws 6 0) parts.frames.scatter.wires in
       let j : name_width d port_list (back_name l.shape (part.returns l.sizes) 0) ≡ 1 = back_width l d parts 0 (omega arith) in
       let m : get_or (block_wires (d.block (part.value l.sizes))) 0 0 ≡ 64 = ap (λ ws. get_or ws 0 0) parts.maps.value.block.wires in
-      let n : get_or (block_wires (d.block (part.host l.sizes))) 1 0 ≡ 1 = ap (λ ws. get_or ws 1 0) parts.turns.host.wires in
+      let n : get_or (block_wires (d.block (part.host l.sizes))) 1 0 ≡ 1 = ap (λ ws. get_or ws 1 0) parts.actions.host.wires in
       let k : get_or (block_registers (d.block (part.control l.sizes))) 8 0 ≡ 32 = ap (λ ws. get_or ws 8 0) parts.frames.control.registers in
       rw (a, b, c, e, f, g, h, j, m, n, k) refl
 
@@ -131,11 +131,11 @@ module _ (l : Layout) (d : Whole Part) (parts : AreParts l d) where
   spelled = record { wires = λ p a. (good_part p a).wires_spelled; statements = λ p a. (good_part p a).spelled; shows = refl; once = refl }
 
   -- products stand apart
-  pub apart : (names : List (List ℕ)) → products_apart (design l d names) ≡ true
-  apart names = linked_are_apart Part d names port_list (outputs_of l) formed (alone_apart d (outputs_of l) is_placed (λ p a. (good_part p a).alone) (λ made. refl))
+  pub apart : (names : List (List ℕ)) → no_product_chains (design l d names) ≡ true
+  apart names = linked_has_no_product_chains Part d names port_list (outputs_of l) formed (alone_apart d (outputs_of l) is_placed (λ p a. (good_part p a).alone) (λ made. refl))
 
 pub pipelines_are_formed : PipelinesAreFormed
 pipelines_are_formed l d parts = (formed l d parts, spelled l d parts)
 
-pub products_are_apart : ProductsAreApart
-products_are_apart l d parts names = apart l d parts names
+pub have_no_product_chains : HaveNoProductChains
+have_no_product_chains l d parts names = apart l d parts names

@@ -16,7 +16,7 @@ use Rattle.turn_net.specs.cell_nets.declared.operand.Operand.TheVariants.{Net}
 use Rattle.control_net.specs.declared.ring_net.names.Counter.{Counter}
 use Rattle.control_net.specs.declared.ring_net.names.Counter.TheVariants.{Given, Answered, Injected, Gathered}
 use Rattle.control_net.specs.Block.{AreNets}
-use Rattle.control_net.specs.Returns.{due_name}
+use Rattle.control_net.specs.Returns.{reload_name}
 use Rattle.commit_net.specs.frame_net.ScatterNet.Scatter.{last_name}
 use Rattle.stage_net.specs.row_net.PlaceNet.Exit.{output_operands}
 use Rattle.read_net.specs.TouchNet.Marking.{mark_operands}
@@ -28,8 +28,8 @@ use Rattle.pipe_net.specs.PipeFrames.Parts.{next_slot, has_begun, read_by_contro
 use Rattle.pipe_net.specs.PipeForms.Parts.{AreParts}
 use Rattle.pipe_net.proofs.PipeForms.EarlierLemmas.{earlier, IsEarly, IsReady, among_earlier, early_there, ready_declared, ready_is_there, ready_offers}
 use Rattle.pipe_net.proofs.PipeForms.HeldLemmas.{among, commit_within, answer_ready}
-use Rattle.pipe_net.proofs.PipeForms.TurnLemmas.{commit_shape, control_there, told_width, holds_width, back_ready, stays_ready}
-use Rattle.pipe_net.proofs.PipeForms.MarkLemmas.{dues_ready}
+use Rattle.pipe_net.proofs.PipeForms.ActionLemmas.{commit_shape, control_there, told_width, holds_width, back_ready, stays_ready}
+use Rattle.pipe_net.proofs.PipeForms.MarkLemmas.{reloads_ready}
 use Rattle.pipe_net.proofs.PipeForms.GoodLemmas.{IsGood, within_idle, good_wiring}
 
 module _ (l : Layout) (d : Whole Part) (parts : AreParts l d) where
@@ -76,14 +76,14 @@ module _ (l : Layout) (d : Whole Part) (parts : AreParts l d) where
         alone = free_alone part.scatter (d.block part.scatter) is.free;
       }
 
-  -- ---- which packets are due
-  pub due_good : (k : ℕ) → k ≤ commit_of l → IsGood d (1 + k)
-  due_good k q = good_wiring d (1 + k) (mark_operands (parts.marks k q).dues) (parts.marks k q).due.wiring (dues_ready l d parts (1 + k) k q)
+  -- ---- which packets must reload
+  pub reload_good : (k : ℕ) → k ≤ commit_of l → IsGood d (1 + k)
+  reload_good k q = good_wiring d (1 + k) (mark_operands (parts.marks k q).reloads) (parts.marks k q).reload.wiring (reloads_ready l d parts (1 + k) k q)
 
-  due_ready : (n : ℕ) → 2 + l.sizes.commit ≤ n → (k : ℕ) → k ≤ commit_of l → IsReady d n (Net (due_name l.due k) 1)
-  due_ready n late k q =
+  reload_ready : (n : ℕ) → 2 + l.sizes.commit ≤ n → (k : ℕ) → k ≤ commit_of l → IsReady d n (Net (reload_name l.reload k) 1)
+  reload_ready n late k q =
       let e = parts.sized.commit in
-      ready_offers d (1 + k) n (omega (arith, late, q, e)) (mark_operands (parts.marks k q).dues) (Net (due_name l.due k) 1 ∷ []) (parts.marks k q).due.offers (dues_ready l d parts (1 + k) k q) (Net (due_name l.due k) 1) (0, omega arith, refl)
+      ready_offers d (1 + k) n (omega (arith, late, q, e)) (mark_operands (parts.marks k q).reloads) (Net (reload_name l.reload k) 1 ∷ []) (parts.marks k q).reload.offers (reloads_ready l d parts (1 + k) k q) (Net (reload_name l.reload k) 1) (0, omega arith, refl)
 
   -- ---- who is sent back
   abbrev returns_at : ℕ
@@ -99,8 +99,8 @@ module _ (l : Layout) (d : Whole Part) (parts : AreParts l d) where
   returns_good =
       let is = parts.frames.returns in
       record {
-        typed = is.typed d refl (λ k q. holds_width l d parts k (in_last k (in_commit k q))) (λ k q. (due_ready returns_at (omega arith) k (in_commit k q)).1);
-        ordered = is.ordered d (earlier returns_at) (control_there l d parts) (λ k q. (due_ready returns_at (omega arith) k (in_commit k q)).0);
+        typed = is.typed d refl (λ k q. holds_width l d parts k (in_last k (in_commit k q))) (λ k q. (reload_ready returns_at (omega arith) k (in_commit k q)).1);
+        ordered = is.ordered d (earlier returns_at) (control_there l d parts) (λ k q. (reload_ready returns_at (omega arith) k (in_commit k q)).0);
         reads = is.reads d;
         within = within_idle (d.block (part.returns l.sizes)) is.registers is.memories is.within;
         wires_spelled = is.wires_spelled;

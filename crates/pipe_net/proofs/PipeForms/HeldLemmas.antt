@@ -8,11 +8,12 @@ use Rattle.block_core.specs.declared.name.Name.TheVariants as name
 use Rattle.block_core.specs.Blocks.{Whole, Among, wires_of}
 use Rattle.block_core.specs.Formed.{block_registers, block_wires, block_wire_width}
 use Rattle.turn_net.specs.cell_nets.declared.operand.Operand.{Operand}
-use Rattle.turn_net.specs.cell_nets.declared.operand.Operand.TheVariants.{Known, Net, Part as Bits}
+use Rattle.turn_net.specs.cell_nets.declared.operand.Operand.TheVariants.{Net}
 use Rattle.turn_net.specs.cell_nets.Operands.{IsAvailable}
 use Rattle.read_net.specs.overlay_net.SiteOperands.Sites.{SiteOperands, all_of}
 use Rattle.commit_net.specs.frame_net.declared.held.Kept.{Kept}
 use Rattle.commit_net.specs.frame_net.Gather.{kept_width}
+use Rattle.turn_net.proofs.cell_nets_laws.AvailableLaws.{available}
 use Rattle.stage_net.specs.row_net.PlaceNet.Place.{width_at, widths_of, registers_from}
 use Rattle.stage_net.specs.row_net.PlaceNet.Sources.{kept_operands, source_operands}
 use Rattle.stage_net.specs.row_net.PlaceNet.Exit.{byte_operand, output_operands}
@@ -29,10 +30,6 @@ use Rattle.pipe_net.proofs.PipeForms.SortLaws.{is_there}
 use Rattle.pipe_net.proofs.PipeForms.EarlierLemmas.{IsReady, AreReady, among_earlier, ready_none, ready_cons, ready_append, ready_there, ready_available, ready_all}
 
 -- ---- operands of a list are there
-pub available : {N : Type 0} (ins : List (Operand N)) (a : Operand N) → Contains ins a → IsAvailable ins a
-available ins (Known n) c = tt
-available ins (Net n w) c = c
-available ins (Bits n of from w) c = inr (from, w, c)
 
 module _ (l : Layout) (d : Whole Part) (parts : AreParts l d) where
   pub among : (k : ℕ) → k < part_count l.sizes → Among (part.part k) d.parts

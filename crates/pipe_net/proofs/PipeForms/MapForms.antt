@@ -30,14 +30,14 @@ use Rattle.pipe_net.specs.Parts as part
 use Rattle.pipe_net.specs.Parts.{part_count, behind_words}
 use Rattle.pipe_net.specs.Layout.{Layout, program_of}
 use Rattle.pipe_net.specs.PipeTurns.Maps.{decl_at}
-use Rattle.pipe_net.specs.PipeTurns.Parts.{calm_net, writes_net}
+use Rattle.pipe_net.specs.PipeTurns.Parts.{idle_net, writes_net}
 use Rattle.pipe_net.specs.PipePlaces.Layout.{load_sites}
 use Rattle.pipe_net.specs.PipeMaps.Parts.{commits_net, parts_at}
 use Rattle.pipe_net.specs.PipeForms.Parts.{AreParts}
 use Rattle.pipe_net.proofs.PipeForms.EarlierLemmas.{earlier, IsEarly, AreReady, IsReady, early_there, ready_declared, ready_early, ready_is_there}
 use Rattle.pipe_net.proofs.PipeForms.HeldLemmas.{among}
 use Rattle.pipe_net.proofs.PipeForms.MapLemmas.{number_within, of_map_there, map_parts, own_table, own_values}
-use Rattle.pipe_net.proofs.PipeForms.TurnLemmas.{sites_below, map_within, writes_ready, calm_ready, commits_ready}
+use Rattle.pipe_net.proofs.PipeForms.ActionLemmas.{sites_below, map_within, writes_ready, idle_ready, commits_ready}
 use Rattle.pipe_net.proofs.PipeForms.ChangeLemmas.{operations_ready, written_read, change_read}
 use Rattle.pipe_net.proofs.PipeForms.DeclaredLemmas.{word_read}
 use Rattle.pipe_net.proofs.PipeForms.GoodLemmas.{IsGood, within_idle, good_wiring, good_empty}
@@ -69,7 +69,7 @@ module _ (l : Layout) (d : Whole Part) (parts : AreParts l d) where
   module _ (m : ℕ) (there : m < length l.decls) where
     slots_by : (kind : MapKind) → (decl_at l m).kind ≡ kind → IsGood d (4 + l.sizes.commit + m)
     slots_by Hash e =
-        let is = (parts.turns.writes m there).slots.hash e in
+        let is = (parts.actions.writes m there).slots.hash e in
         record {
           typed = is.typed d (own_table l d parts m there e);
           ordered = is.ordered d (earlier (4 + l.sizes.commit + m)) (of_map_there l d parts m there 3 (omega arith));
@@ -79,7 +79,7 @@ module _ (l : Layout) (d : Whole Part) (parts : AreParts l d) where
           spelled = is.spelled;
           alone = free_alone (part.slots l.sizes m) (d.block (part.slots l.sizes m)) is.free;
         }
-    slots_by Array e = good_empty d (4 + l.sizes.commit + m) ((parts.turns.writes m there).slots.array e)
+    slots_by Array e = good_empty d (4 + l.sizes.commit + m) ((parts.actions.writes m there).slots.array e)
 
     pub slots_good : IsGood d (4 + l.sizes.commit + m)
     slots_good = slots_by (decl_at l m).kind refl
@@ -137,17 +137,17 @@ module _ (l : Layout) (d : Whole Part) (parts : AreParts l d) where
     operations : AreReady d (first + 0) (all_read (parts.maps.maps m there).operations)
     operations = operations_ready l d parts m there (first + 0) (omega arith)
 
-    commits : IsReady d (first + 0) (Net (commits_net l d parts.turns m) 1)
+    commits : IsReady d (first + 0) (Net (commits_net l d parts.actions m) 1)
     commits = commits_ready l d parts (first + 0) (omega arith) m there
 
     writes : IsReady d (first + 0) (Net (writes_net l) 1)
     writes = writes_ready l d parts (first + 0) (omega arith)
 
-    calm : IsReady d (first + 0) (Net (calm_net l) 1)
-    calm = calm_ready l d parts (first + 0) (omega arith)
+    idle : IsReady d (first + 0) (Net (idle_net l) 1)
+    idle = idle_ready l d parts (first + 0) (omega arith)
 
     typed : Each (λ p b. IsTypedBlock d port_list b) (parts_at l m) trees
-    typed = (parts.maps.maps m there).map.formed.typed d of (ready_declared d (first + 0) (all_read (parts.maps.maps m there).operations) operations) (commits.1, writes.1, calm.1)
+    typed = (parts.maps.maps m there).map.formed.typed d of (ready_declared d (first + 0) (all_read (parts.maps.maps m there).operations) operations) (commits.1, writes.1, idle.1)
 
     within_count : first + 0 ≤ part_count l.sizes
     within_count = omega (arith, low)
@@ -158,10 +158,10 @@ module _ (l : Layout) (d : Whole Part) (parts : AreParts l d) where
     reads : Each (λ p b. StatementReads (IsThere d) b.statement) (parts_at l m) trees
     reads =
         (parts.maps.maps m there).map.formed.reads d of (ready_is_there d (part_count l.sizes) (among l d parts) (first + 0) within_count (all_read (parts.maps.maps m there).operations) operations)
-        (here (commits_net l d parts.turns m) commits.0, here (writes_net l) writes.0, here (calm_net l) calm.0)
+        (here (commits_net l d parts.actions m) commits.0, here (writes_net l) writes.0, here (idle_net l) idle.0)
 
     ordered : AllInOrder d (earlier (first + 0)) (in_order (parts_at l m))
-    ordered = (parts.maps.maps m there).map.formed.ordered d (earlier (first + 0)) of (ready_early d (first + 0) (all_read (parts.maps.maps m there).operations) operations) (commits.0, writes.0, calm.0)
+    ordered = (parts.maps.maps m there).map.formed.ordered d (earlier (first + 0)) of (ready_early d (first + 0) (all_read (parts.maps.maps m there).operations) operations) (commits.0, writes.0, idle.0)
 
     texts : Each (λ p b. IsText b) (parts_at l m) trees
     texts = (parts.maps.maps m there).map.formed.texts
@@ -207,7 +207,7 @@ module _ (l : Layout) (d : Whole Part) (parts : AreParts l d) where
     pub written_good : IsGood d (first + 4)
     written_good =
         let is = (parts.maps.maps m there).written in
-        let outside = written_outside (l.slot_bits m) (commits_net l d parts.turns m) trees.slot in
+        let outside = written_outside (l.slot_bits m) (commits_net l d parts.actions m) trees.slot in
         let ready = written_read l d parts m there (first + 4) (omega arith) in
         record {
           typed = is.typed d refl (own_table l d parts m there) (ready_declared d (first + 4) outside ready);

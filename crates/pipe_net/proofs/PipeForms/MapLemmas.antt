@@ -112,9 +112,9 @@ module _ (l : Layout) (d : Whole Part) (parts : AreParts l d) (m : ℕ) (there :
   module _ (n : ℕ) (late : 4 + l.sizes.commit + l.sizes.maps ≤ n) where
     slots_ready : (decl_at l m).kind ≡ Hash → AreReady d n (operands_of (shown_slots (part.slots l.sizes m) (decl_at l m)))
     slots_ready is a c =
-        let of = parts.turns.writes m there in
+        let of = parts.actions.writes m there in
         let h = number_within in
-        let each : All (IsSlot (decl_at l m).key) (shown_slots (part.slots l.sizes m) (decl_at l m)) = subst (All (IsSlot (decl_at l m).key)) (of.map.slots is) (subst (λ e. All (IsSlot e.key) (slots_of (parts.turns.maps m).slots.now)) of.map.decl of.map.is.slots) in
+        let each : All (IsSlot (decl_at l m).key) (shown_slots (part.slots l.sizes m) (decl_at l m)) = subst (All (IsSlot (decl_at l m).key)) (of.map.slots is) (subst (λ e. All (IsSlot e.key) (slots_of (parts.actions.maps m).slots.now)) of.map.decl of.map.is.slots) in
         wire_ready d (4 + l.sizes.commit + m) n (omega (arith, h, late)) a (slots_are_wires 0 (decl_at l m).cap a c) (slots_are_operands (shown_slots (part.slots l.sizes m) (decl_at l m)) each a c) ((of.slots.hash is).declared d refl a c)
       where
         slots_are_wires : (from count : ℕ) → AreWiresOf (part.slots l.sizes m) (operands_of (map_list (shown_slot (part.slots l.sizes m) (decl_at l m)) (range_with_len from count)))
@@ -139,15 +139,15 @@ module _ (l : Layout) (d : Whole Part) (parts : AreParts l d) (m : ℕ) (there :
     map_shown_ready = shown_by (decl_at l m).kind refl
 
     -- so is what targets read of it
-    cells_by : (kind : MapKind) → (decl_at l m).kind ≡ kind → AreReady d n (slot_cells (parts.turns.maps m))
+    cells_by : (kind : MapKind) → (decl_at l m).kind ≡ kind → AreReady d n (slot_cells (parts.actions.maps m))
     cells_by Hash is =
-        let of = (parts.turns.writes m there).map in
-        subst (λ u. AreReady d n (u ∷ operands_of (slots_of (parts.turns.maps m).slots.now))) (sym (of.used is))
+        let of = (parts.actions.writes m there).map in
+        subst (λ u. AreReady d n (u ∷ operands_of (slots_of (parts.actions.maps m).slots.now))) (sym (of.used is))
         (subst (λ ss. AreReady d n (Net (count_name (part.own l.sizes m)) (l.slot_bits m + 1) ∷ operands_of ss)) (sym (of.slots is)) (shown_by Hash is))
     cells_by Array is =
-        let of = (parts.turns.writes m there).map in
-        subst (λ u. AreReady d n (u ∷ operands_of (slots_of (parts.turns.maps m).slots.now))) (sym (parts.uncounted m there is))
+        let of = (parts.actions.writes m there).map in
+        subst (λ u. AreReady d n (u ∷ operands_of (slots_of (parts.actions.maps m).slots.now))) (sym (parts.uncounted m there is))
         (subst (λ ss. AreReady d n (Known 0 ∷ operands_of (slots_of ss))) (sym (of.none is)) (ready_cons d n (Known 0) [] tt (ready_none d n)))
 
-    pub slot_cells_ready : AreReady d n (slot_cells (parts.turns.maps m))
+    pub slot_cells_ready : AreReady d n (slot_cells (parts.actions.maps m))
     slot_cells_ready = cells_by (decl_at l m).kind refl

@@ -25,7 +25,7 @@ use Rattle.pipe_net.specs.PipeForms.Parts.{AreParts}
 use Rattle.pipe_net.proofs.PipeForms.EarlierLemmas.{IsReady, AreReady, ready_none, ready_cons, ready_list, ready_append}
 use Rattle.pipe_net.proofs.PipeForms.HeldLemmas.{among, commit_within, site_ready}
 use Rattle.pipe_net.proofs.PipeForms.MapLemmas.{number_within}
-use Rattle.pipe_net.proofs.PipeForms.TurnLemmas.{each_same, sites_below, map_within, told_ready}
+use Rattle.pipe_net.proofs.PipeForms.ActionLemmas.{each_same, sites_below, map_within, told_ready}
 use Rattle.pipe_net.proofs.PipeForms.ChangeLemmas.{change_ready}
 
 module _ (l : Layout) (d : Whole Part) (parts : AreParts l d) where
@@ -114,27 +114,27 @@ module _ (l : Layout) (d : Whole Part) (parts : AreParts l d) where
         ready_cons d n (Net (advances l) 1) (all_operands m.sites) (told_ready l d parts n late 3 (omega arith))
         (marks_from 0 m.sites (omega (arith, count)) (λ i e lt. let z : 0 + i ≡ i = omega arith in subst (λ j. IsMarkAt l k j (get_or m.sites i e)) (sym z) (m.each i e lt)))
 
-  -- ---- which packets are due
+  -- ---- which packets must reload
   module _ (n k : ℕ) (q : k ≤ commit_of l) where
-    due_at : k ≤ last_of l
-    due_at = let c = commit_within l d parts in omega (arith, q, c)
+    reload_at : k ≤ last_of l
+    reload_at = let c = commit_within l d parts in omega (arith, q, c)
 
     guard_ready : (i : ℕ) (guard : Option (Operand (Name Part))) → ((g : Operand (Name Part)) → guard ≡ Some g → AreReady d n (g ∷ [])) → AreReady d n (guard_operands guard)
     guard_ready i None h = ready_none d n
     guard_ready i (Some g) h = h g refl
 
-    dues_from : (at : ℕ) (ms : List (MarkNets (Name Part))) → at + length ms ≤ length (read_sites l k) → ((i : ℕ) (m : MarkNets (Name Part)) → i < length ms → IsMarkNets l k (at + i) (get_or ms i m)) → AreReady d n (mark_operands ms)
-    dues_from at [] few h = ready_none d n
-    dues_from at (m ∷ ms) few h =
+    reloads_from : (at : ℕ) (ms : List (MarkNets (Name Part))) → at + length ms ≤ length (read_sites l k) → ((i : ℕ) (m : MarkNets (Name Part)) → i < length ms → IsMarkNets l k (at + i) (get_or ms i m)) → AreReady d n (mark_operands ms)
+    reloads_from at [] few h = ready_none d n
+    reloads_from at (m ∷ ms) few h =
         let z : at + 0 ≡ at = omega arith in
         let is = subst (λ i. IsMarkNets l k i m) z (h 0 m (omega arith)) in
         ready_cons d n m.marked (guard_operands m.guard ++ mark_operands ms) (subst (IsReady d n) (sym is.marked) (mark_ready n k at q (omega (arith, few))))
         (ready_append d n (guard_operands m.guard) (mark_operands ms)
-        (guard_ready at m.guard (λ g e. let x = is.guard g e in ready_cons d n g [] (subst (IsReady d n) (sym x.2) (site_ready l d parts k due_at n (slice_index (read_sites l k) at) x.0 x.1 x.0.guard (0, omega arith, refl))) (ready_none d n)))
-        (dues_from (suc at) ms (omega (arith, few)) (λ i e lt. let y : at + suc i ≡ suc at + i = omega arith in subst (λ j. IsMarkNets l k j (get_or ms i e)) y (h (suc i) e (omega (arith, lt))))))
+        (guard_ready at m.guard (λ g e. let x = is.guard g e in ready_cons d n g [] (subst (IsReady d n) (sym x.2) (site_ready l d parts k reload_at n (slice_index (read_sites l k) at) x.0 x.1 x.0.guard (0, omega arith, refl))) (ready_none d n)))
+        (reloads_from (suc at) ms (omega (arith, few)) (λ i e lt. let y : at + suc i ≡ suc at + i = omega arith in subst (λ j. IsMarkNets l k j (get_or ms i e)) y (h (suc i) e (omega (arith, lt))))))
 
-    pub dues_ready : AreReady d n (mark_operands (parts.marks k q).dues)
-    dues_ready =
+    pub reloads_ready : AreReady d n (mark_operands (parts.marks k q).reloads)
+    reloads_ready =
         let m = parts.marks k q in
         let count = m.known.count in
-        dues_from 0 m.dues (omega (arith, count)) (λ i e lt. let z : 0 + i ≡ i = omega arith in subst (λ j. IsMarkNets l k j (get_or m.dues i e)) (sym z) (m.nets i e lt))
+        reloads_from 0 m.reloads (omega (arith, count)) (λ i e lt. let z : 0 + i ≡ i = omega arith in subst (λ j. IsMarkNets l k j (get_or m.reloads i e)) (sym z) (m.nets i e lt))

@@ -16,7 +16,7 @@ use Rattle.pipe_net.specs.PipeForms.Parts.{AreParts}
 use Rattle.pipe_net.proofs.PipeForms.EarlierLemmas.{earlier, IsReady, ready_declared, ready_early, ready_is_there}
 use Rattle.pipe_net.proofs.PipeForms.HeldLemmas.{among, place_there}
 use Rattle.pipe_net.proofs.PipeForms.MapLemmas.{number_within}
-use Rattle.pipe_net.proofs.PipeForms.TurnLemmas.{heard_ready}
+use Rattle.pipe_net.proofs.PipeForms.ActionLemmas.{heard_ready}
 use Rattle.pipe_net.proofs.PipeForms.ChangeLemmas.{word_ready}
 use Rattle.pipe_net.proofs.PipeForms.MarkLemmas.{marks_ready}
 use Rattle.pipe_net.proofs.PipeForms.DeclaredLemmas.{place_read}

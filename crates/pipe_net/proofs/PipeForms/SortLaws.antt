@@ -21,14 +21,14 @@ pub data PartOfMap (at : ℕ) : Type 0 where
 
 pub data Sort (z : Sizes) (p : Part) : Type 0 where
   Scatter : p ≡ part.scatter → Sort z p
-  Due : (k : ℕ) → k ≤ z.commit → p ≡ part.due k → Sort z p
+  Reload : (k : ℕ) → k ≤ z.commit → p ≡ part.reload k → Sort z p
   Returns : p ≡ part.returns z → Sort z p
   Sources : p ≡ part.sources z → Sort z p
   Slots : (m : ℕ) → m < z.maps → p ≡ part.slots z m → Sort z p
   Word : (i : ℕ) → i < z.loads → p ≡ part.word z i → Sort z p
   Targets : (m : ℕ) → m < z.maps → p ≡ part.targets z m → Sort z p
   Host : p ≡ part.host z → Sort z p
-  Turn : p ≡ part.turn z → Sort z p
+  Action : p ≡ part.action z → Sort z p
   Commits : p ≡ part.commits z → Sort z p
   OfMap : (m at : ℕ) → m < z.maps → PartOfMap at → p ≡ part.of_map z m at → Sort z p
   Control : p ≡ part.control z → Sort z p
@@ -108,7 +108,7 @@ module _ (z : Sizes) where
     | inr h ↦ elim (cases_eq n (behind_words z + z.maps)) [
       | inl e ↦ Host (at n _ e)
       | inr o ↦ elim (cases_eq n (behind_words z + z.maps + 1)) [
-        | inl e ↦ Turn (at n _ e)
+        | inl e ↦ Action (at n _ e)
         | inr p ↦ elim (cases_eq n (behind_words z + z.maps + 2)) [
           | inl e ↦ Commits (at n _ e)
           | inr q ↦ elim (cases_lt n (behind_maps z)) [
@@ -124,7 +124,7 @@ module _ (z : Sizes) where
   sort_of n high = elim (cases_eq n 0) [
     | inl e ↦ Scatter (at n _ e)
     | inr o ↦ elim (cases_lt n (2 + z.commit)) [
-      | inl l ↦ Due (n - 1) (omega (arith, l, o)) (at n _ (omega (arith, o)))
+      | inl l ↦ Reload (n - 1) (omega (arith, l, o)) (at n _ (omega (arith, o)))
       | inr h ↦ elim (cases_eq n (2 + z.commit)) [
         | inl e ↦ Returns (at n _ e)
         | inr p ↦ elim (cases_eq n (3 + z.commit)) [

@@ -4,8 +4,8 @@ use Rattle.std.proofs.Common.{get_or, refl, sym, ap, ◌∙◌, subst, arith, in
 use Rattle.std.proofs.lemmas.Bool.{cases_lt}
 use Rattle.std.proofs.lemmas.List.{nil_from_length, length-map, get_or-map, get_or-drop, get_or_append_left}
 use Rattle.std.proofs.Math.Seq.{get_or-append_right}
-use Rattle.block_core.specs.beat_core.declared.answer.Answer.{Answer}
-use Rattle.block_core.specs.beat_core.Ports.{Arrival}
+use Rattle.beat_core.specs.declared.answer.Answer.{Answer}
+use Rattle.beat_core.specs.Ports.{Arrival}
 use Rattle.block_core.specs.net_core.declared.tree.Word.{Word}
 use Rattle.block_core.specs.net_core.declared.ports.Inputs.{Inputs}
 use Rattle.block_core.specs.net_core.Value.{bit, Env}
@@ -22,7 +22,8 @@ use Rattle.control_net.specs.Block.{Shows}
 use Rattle.commit_net.specs.frame_net.declared.held.Kept.{Kept}
 use Rattle.commit_net.specs.frame_net.Frames.{HoldsFrame}
 use Rattle.commit_net.specs.frame_net.Answers.{answer_widths, word_widths, HoldsAnswer}
-use Rattle.pipe_core.specs.Machine.{Packet, State, swept, inside, no_frame, answer_of}
+use Rattle.pipe_core.specs.Machine.{Packet, State, flushed, inside, no_frame, answer_of}
+use Rattle.pipe_core.proofs.FlushLaws.{flushed_inside}
 use Rattle.stage_net.specs.row_net.PlaceNet.Exit.{byte_numbers, KeepsAnswers, SeesExit, HasLeft}
 use Rattle.pipe_net.specs.declared.parts.Part.{Part}
 use Rattle.pipe_net.specs.Parts as part
@@ -32,7 +33,6 @@ use Rattle.pipe_net.specs.Relation.{HoldsAnswered, HoldsAnswers, no_answer}
 use Rattle.pipe_net.specs.Saying.{moves_in, ShowsAnswer}
 use Rattle.pipe_net.specs.PipeFrames.Parts.{told_by, next_slot}
 use Rattle.pipe_net.proofs.PipeFrames.Cases.{same_some, none_some}
-use Rattle.pipe_net.proofs.PipeFrames.Sweeping.{fewer_inside}
 use Rattle.pipe_net.proofs.PipeFrames.Clocking.{leaver, leaver_was}
 use Rattle.pipe_net.proofs.PipeFrames.Tests.{leaver_inside}
 use Rattle.pipe_net.proofs.PipeFrames.Telling.{exits_is}
@@ -57,12 +57,12 @@ widths_index bits words (suc (suc i)) h = ap (λ (x : ℕ × ℕ). x.0) (get_or-
 
 -- the packet that leaves in a clock
 abbrev pub leaver_in : Layout → Inputs → State → Option Packet
-leaver_in l i s = leaver (moves_in l.build (input_of i) s) l.build (swept l.build 0 s.places)
+leaver_in l i s = leaver (moves_in l.build (input_of i) s) l.build (flushed l.build 0 s.places)
 
 pub some_inside : (l : Layout) (i : Inputs) (s : State) (x : Packet) → leaver_in l i s ≡ Some x → 1 ≤ inside s.places
 some_inside l i s x e =
-    let one : 1 ≤ inside (swept l.build 0 s.places) = subst (λ o. bit_of (is_some o) ≤ inside (swept l.build 0 s.places)) e (leaver_inside (moves_in l.build (input_of i) s) l.build (swept l.build 0 s.places)) in
-    let few = fewer_inside l.build 0 s.places in
+    let one : 1 ≤ inside (flushed l.build 0 s.places) = subst (λ o. bit_of (is_some o) ≤ inside (flushed l.build 0 s.places)) e (leaver_inside (moves_in l.build (input_of i) s) l.build (flushed l.build 0 s.places)) in
+    let few = flushed_inside l.build 0 s.places in
     omega (arith, one, few)
 
 -- What a clock makes of what the exit stores: answers stay in their slots, and that of a packet that leaves is added.
@@ -143,7 +143,7 @@ module _ (l : Layout) (d : Whole Part) (i : Inputs) (s : State) (ss : Part → S
       record { frame = get_or s.frames 0 no_frame; held = stays _ f; answer = step.left x e; changes = changes l h.has_bytes v x (shown_of x e) (get_or s.frames 0 no_frame) f.frame }
 
 -- ---- answers that are not given, where the first may go and one may come
--- some answers, and the rest of them behind the first that are given
+-- some answers, and the rest of them after the first that are given
 pub given_on : (kept : List Kept) (bytes words : List ℕ) (n : ℕ) (ms es : List (List Word)) (from gone : ℕ) (rs : List Answer) → HoldsAnswers kept bytes words n ms es from rs → HoldsAnswers kept bytes words n ms es (from + gone) (drop gone rs)
 given_on kept bytes words n ms es from gone rs h j lt =
     let e = get_or-drop gone rs j no_answer in
@@ -151,7 +151,7 @@ given_on kept bytes words n ms es from gone rs h j lt =
     let size = length-drop gone rs in
     rw (e, k) (h (gone + j) (omega (arith, size, lt)))
 
--- answers, and more behind them
+-- answers, and more after them
 pub more_answers : (kept : List Kept) (bytes words : List ℕ) (n : ℕ) (ms es : List (List Word)) (from : ℕ) (rs more : List Answer) → HoldsAnswers kept bytes words n ms es from rs → HoldsAnswers kept bytes words n ms es (from + length rs) more
     → HoldsAnswers kept bytes words n ms es from (rs ++ more)
 more_answers kept bytes words n ms es from rs more h g j lt =

@@ -3,7 +3,8 @@ use Rattle.std.specs.Prelude.{◌≡◌, ◌≢◌, ℕ, zero, suc, ◌%◌, ◌
 use Rattle.std.proofs.Common.{get_or, refl, sym, ap, ◌∙◌, arith, inl, inr, length-set, get_or-set_other, get_or-set_same}
 use Rattle.std.proofs.lemmas.Bool.{cases_eq, cases_lt}
 use Rattle.std.proofs.Math.Nat.{mod-eq_of_lt}
-use Rattle.block_core.specs.list_laws.Bytes.{IsBytes}
+use Rattle.std.proofs.lemmas.List.{get_or_default}
+use Rattle.beat_core.specs.list_laws.Bytes.{IsBytes}
 use Rattle.hazard_core.specs.cell_core.declared.program.FrameByte.{FrameByte}
 use Rattle.hazard_core.specs.cell_core.Cells.{bits_from}
 use Rattle.hazard_core.specs.cell_core.Sites.{with_bytes}
@@ -11,10 +12,6 @@ use Rattle.hazard_core.specs.cell_core.Sites.{with_bytes}
 -- a number that fits is its low bits
 pub bits_small : (n k : ℕ) → n < 2 ^ k → bits_from n 0 k ≡ n
 bits_small n k h = let e : n / 2 ^ 0 ≡ n = omega arith in ap (λ m. m % 2 ^ k) e ∙ mod-eq_of_lt h
-
-pub with_bytes_length : (v : ℕ → ℕ) (frame : List ℕ) (bs : List FrameByte) → length (with_bytes v frame bs) ≡ length frame
-with_bytes_length v frame [] = refl
-with_bytes_length v frame (b ∷ bs) = with_bytes_length v (slice_set frame b.at (v b.cell)) bs ∙ length-set frame b.at (v b.cell)
 
 -- a byte that none of them is
 pub with_bytes_other : (v : ℕ → ℕ) (frame : List ℕ) (bs : List FrameByte) (at : ℕ) → ((j : ℕ) (d : FrameByte) → j < length bs → (get_or bs j d).at ≢ at) → get_or (with_bytes v frame bs) at 0 ≡ get_or frame at 0
@@ -38,28 +35,12 @@ with_bytes_at v frame (b ∷ bs) once zero d lt m =
 with_bytes_at v frame (b ∷ bs) once (suc j) d lt m =
     with_bytes_at v (slice_set frame b.at (v b.cell)) bs (once_more b bs once) j d (omega arith) (let n = length-set frame b.at (v b.cell) in omega (arith, n, m))
 
--- ---- bytes stay bytes
-set_bytes : (xs : List ℕ) (k x : ℕ) → x < 256 → IsBytes xs → IsBytes (slice_set xs k x)
-set_bytes [] k x h b i = b i
-set_bytes (y ∷ ys) zero x h b zero = h
-set_bytes (y ∷ ys) zero x h b (suc i) = b (suc i)
-set_bytes (y ∷ ys) (suc k) x h b zero = b 0
-set_bytes (y ∷ ys) (suc k) x h b (suc i) = set_bytes ys k x h (λ j. b (suc j)) i
-
-pub with_bytes_bytes : (v : ℕ → ℕ) (frame : List ℕ) (bs : List FrameByte) → ((j : ℕ) (d : FrameByte) → j < length bs → v (get_or bs j d).cell < 256) → IsBytes frame → IsBytes (with_bytes v frame bs)
-with_bytes_bytes v frame [] h b = b
-with_bytes_bytes v frame (x ∷ bs) h b = with_bytes_bytes v (slice_set frame x.at (v x.cell)) bs (λ j d lt. h (suc j) d (omega arith)) (set_bytes frame x.at (v x.cell) (h 0 x (omega arith)) b)
-
 -- ---- no two bytes are in the same place
-get_or_any : {X : Type 0} (xs : List X) (n : ℕ) (d e : X) → n < length xs → get_or xs n d ≡ get_or xs n e
-get_or_any [] n d e lt = absurd (omega arith)
-get_or_any (x ∷ xs) zero d e lt = refl
-get_or_any (x ∷ xs) (suc n) d e lt = get_or_any xs n d e (omega arith)
 
 pub same_byte : (bs : List FrameByte) → AreOnce bs → (x y : FrameByte) → Contains bs x → Contains bs y → x.at ≡ y.at → x ≡ y
 same_byte bs once x y p q e =
-    let there : get_or bs p.0 y ≡ x = get_or_any bs p.0 y x p.1 ∙ p.2 in
-    let here : get_or bs q.0 x ≡ y = get_or_any bs q.0 x y q.1 ∙ q.2 in
+    let there : get_or bs p.0 y ≡ x = get_or_default bs p.0 y x p.1 ∙ p.2 in
+    let here : get_or bs q.0 x ≡ y = get_or_default bs q.0 x y q.1 ∙ q.2 in
     elim (cases_eq p.0 q.0) [
       | inl same ↦ sym there ∙ ap (λ n. get_or bs n y) same ∙ q.2
       | inr other ↦ elim (cases_lt p.0 q.0) [

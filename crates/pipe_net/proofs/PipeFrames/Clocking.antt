@@ -2,23 +2,25 @@
 use Rattle.std.specs.Prelude.{◌≡◌, ℕ, suc, ◌+◌, ◌%◌, ◌^◌, if◌then◌else◌, Bool, true, false, Option, Some, None, is_some, List, [], ◌∷◌, ◌++◌, drop, map}
 use Rattle.std.proofs.Common.{refl, sym, ap, ◌∙◌}
 use Rattle.std.proofs.lemmas.List.{append-nil}
-use Rattle.block_core.specs.beat_core.declared.beat.Beat.{Beat}
-use Rattle.block_core.specs.beat_core.Ports.{Arrival}
+use Rattle.beat_core.specs.declared.beat.Beat.{Beat}
+use Rattle.beat_core.specs.Ports.{Arrival}
 use Rattle.hazard_core.specs.cell_core.Cells.{bit}
 use Rattle.hazard_core.specs.Commits.{change_by, host_change}
-use Rattle.pipe_core.specs.Machine.{Packet, State, Input, Build, Turn, Commits, Writes, Moves, place_at, some_send, swept, newcomer, answers_by, worked, work, came_with, beat_over, gathered, taken_beat, scattered, clock}
+use Rattle.pipe_core.specs.Machine.{Packet, State, Input, Build, Action, Commits, Writes, Moves, place_at, some_send, flushed, newcomer, answers_by, worked, work, came_with, beat_over, gathered, taken_beat, scattered, clock}
 use Rattle.pipe_core.specs.History.{came_in}
 use Rattle.control_net.specs.Control.{shifted}
-use Rattle.pipe_net.specs.Saying.{moves, turn_in, moves_in}
+use Rattle.pipe_core.proofs.ClockLaws.{part_after}
+use Rattle.pipe_core.proofs.FlushLaws.{flushed_at}
+use Rattle.pipe_net.specs.Saying.{moves, action_in, moves_in}
 use Rattle.pipe_net.proofs.PipeFrames.Cases.{none_some, by_bool}
-use Rattle.pipe_net.proofs.PipeFrames.Sweeping.{kept_was, struck_holds, moved_holds}
+use Rattle.pipe_net.proofs.PipeFrames.Flushing.{marked_by_holds, moved_holds}
 
 -- the packet that leaves the last place, where packets move on
 abbrev pub leaver : Bool → Build → List (Option Packet) → Option Packet
 leaver goes b rest = if goes then place_at rest b.plan.last else None
 
-pub leaver_was : (goes : Bool) (b : Build) (places : List (Option Packet)) (x : Packet) → leaver goes b (swept b 0 places) ≡ Some x → place_at places b.plan.last ≡ Some x
-leaver_was true b places x e = kept_was b 0 places b.plan.last x e
+pub leaver_was : (goes : Bool) (b : Build) (places : List (Option Packet)) (x : Packet) → leaver goes b (flushed b 0 places) ≡ Some x → place_at places b.plan.last ≡ Some x
+leaver_was true b places x e = flushed_at b 0 places b.plan.last x e
 leaver_was false b places x e = none_some x e
 
 -- the places that hold packets then
@@ -37,13 +39,13 @@ record Works (b : Build) (s : State) (back : Bool) (rest : List (Option Packet))
   holds : map is_some w.places ≡ holds_after goes (is_some (newcomer b back s.frames rest)) rest
   passed : w.passed ≡ passed_after goes b rest s.passed
 
-works : (b : Build) (s : State) (back : Bool) (rest : List (Option Packet)) (turn : Turn) → Works b s back rest (moves turn) (worked b s back rest turn)
+works : (b : Build) (s : State) (back : Bool) (rest : List (Option Packet)) (action : Action) → Works b s back rest (moves action) (worked b s back rest action)
 works b s back rest (Commits j x) = record {
   answers = sym (append-nil s.answers);
   pos = refl;
   frames = refl;
   part = refl;
-  holds = struck_holds b.plan.commit b s.tables (change_by b.program s.tables s.taken x.held j) 0 rest;
+  holds = marked_by_holds b.plan.commit b s.tables (change_by b.program s.tables s.taken x.held j) 0 rest;
   passed = refl;
 }
 works b s back rest (Writes a n) = record {
@@ -51,7 +53,7 @@ works b s back rest (Writes a n) = record {
   pos = refl;
   frames = refl;
   part = refl;
-  holds = struck_holds (suc b.plan.commit) b s.tables (host_change s.tables a) 0 rest;
+  holds = marked_by_holds (suc b.plan.commit) b s.tables (host_change s.tables a) 0 rest;
   passed = refl;
 }
 works b s back rest Moves = record { answers = refl; pos = refl; frames = refl; part = refl; holds = moved_holds b s.tables s.frames 0 (newcomer b back s.frames rest) rest; passed = refl }
@@ -61,10 +63,6 @@ works b s back rest Moves = record { answers = refl; pos = refl; frames = refl; 
 abbrev pub ends_with : Option Beat → Bool
 ends_with None = false
 ends_with (Some x) = x.last
-
-abbrev pub part_after : Option Arrival → Input → Option Beat → Option Arrival
-part_after part i None = part
-part_after part i (Some x) = if x.last then None else Some (came_with part i x)
 
 abbrev pub pos_after : Option Beat → ℕ → ℕ
 pos_after None pos = pos
@@ -101,22 +99,22 @@ came_same s w i (Some x) e = ap (λ p. if x.last then came_with p i x ∷ [] els
 
 -- ---- the whole clock
 pub record Clocked (b : Build) (i : Input) (s t : State) : Type 0 where
-  pub answers : t.answers ≡ drop (bit (ends_with (taken_beat s i))) (s.answers ++ answers_by b.program s.frames (leaver (moves_in b i s) b (swept b 0 s.places)))
+  pub answers : t.answers ≡ drop (bit (ends_with (taken_beat s i))) (s.answers ++ answers_by b.program s.frames (leaver (moves_in b i s) b (flushed b 0 s.places)))
   pub pos : t.pos ≡ pos_after (taken_beat s i) s.pos
-  pub frames : t.frames ≡ drop (bit (is_some (leaver (moves_in b i s) b (swept b 0 s.places)))) s.frames ++ came_in s i (beat_over b s i)
+  pub frames : t.frames ≡ drop (bit (is_some (leaver (moves_in b i s) b (flushed b 0 s.places)))) s.frames ++ came_in s i (beat_over b s i)
   pub part : t.part ≡ part_after s.part i (beat_over b s i)
-  pub holds : map is_some t.places ≡ holds_after (moves_in b i s) (is_some (newcomer b (some_send b 0 s.places) s.frames (swept b 0 s.places))) (swept b 0 s.places)
-  pub passed : t.passed ≡ passed_after (moves_in b i s) b (swept b 0 s.places) s.passed
+  pub holds : map is_some t.places ≡ holds_after (moves_in b i s) (is_some (newcomer b (some_send b 0 s.places) s.frames (flushed b 0 s.places))) (flushed b 0 s.places)
+  pub passed : t.passed ≡ passed_after (moves_in b i s) b (flushed b 0 s.places) s.passed
 
 pub clocked : (b : Build) (i : Input) (s : State) → Clocked b i s (clock b i s)
 unfolding clock work
 clocked b i s =
-    let rest = swept b 0 s.places in
-    let turn = turn_in b i s in
-    let w = worked b s (some_send b 0 s.places) rest turn in
+    let rest = flushed b 0 s.places in
+    let action = action_in b i s in
+    let w = worked b s (some_send b 0 s.places) rest action in
     let over = beat_over b s i in
     let taken = taken_beat s i in
-    let k = works b s (some_send b 0 s.places) rest turn in
+    let k = works b s (some_send b 0 s.places) rest action in
     let p = scatters w i (gathered w i over) over taken (gathers w i over) in
     record {
       answers = p.answers ∙ ap (drop (bit (ends_with taken))) k.answers;

@@ -7,13 +7,14 @@ use Rattle.block_core.specs.net_core.Clock.{Stored}
 use Rattle.block_core.specs.declared.name.Name.{Name}
 use Rattle.block_core.specs.Blocks.{Whole}
 use Rattle.hazard_core.specs.cell_core.Cells.{bit}
-use Rattle.pipe_core.specs.Machine.{Packet, State, Build, inside, some_send, swept, newcomer, answers_by, is_ready, beat_over, shown_beat, taken_beat, clock}
+use Rattle.pipe_core.specs.Machine.{Packet, State, Build, inside, some_send, flushed, newcomer, answers_by, is_ready, beat_over, shown_beat, taken_beat, clock}
 use Rattle.pipe_core.specs.History.{came_in}
 use Rattle.control_net.specs.RingNet.Control.{packets}
 use Rattle.control_net.specs.Control as control
 use Rattle.control_net.specs.Control.{Signals, shifted, step, partial_after, IsSound, StaysSound}
 use Rattle.control_net.specs.Block.{Shows}
 use Rattle.commit_net.specs.frame_net.ScatterNet.Scatter.{last_name}
+use Rattle.pipe_core.proofs.FlushLaws.{flushed_inside}
 use Rattle.pipe_net.specs.declared.parts.Part.{Part}
 use Rattle.pipe_net.specs.Parts as part
 use Rattle.pipe_net.specs.Machine.{beat_in, input_of}
@@ -21,7 +22,7 @@ use Rattle.pipe_net.specs.Layout.{Layout}
 use Rattle.pipe_net.specs.Relation.{counts}
 use Rattle.pipe_net.specs.Saying.{moves_in}
 use Rattle.pipe_net.proofs.PipeFrames.Cases.{if_not}
-use Rattle.pipe_net.proofs.PipeFrames.Sweeping.{packets_inside, fewer_inside}
+use Rattle.pipe_net.proofs.PipeFrames.Flushing.{packets_inside}
 use Rattle.pipe_net.proofs.PipeFrames.Clocking.{leaver, ends_with, Clocked, clocked}
 use Rattle.pipe_net.proofs.PipeFrames.Tests.{gone_ends, counted_is, part_some, answers_length, came_length, ends_within, leaver_inside, if_goes, passed_is}
 use Rattle.pipe_net.proofs.PipeFrames.Seeing.{IsSeen, now, signals_with, control_shows}
@@ -53,7 +54,7 @@ module _ (l : Layout) (d : Whole Part) (i : Inputs) (s : State) (ss : Part → S
   goes = moves_in b (input_of i) s
 
   abbrev kept : List (Option Packet)
-  kept = swept b 0 s.places
+  kept = flushed b 0 s.places
 
   abbrev new : Option Packet
   new = newcomer b (some_send b 0 s.places) s.frames kept
@@ -88,7 +89,7 @@ module _ (l : Layout) (d : Whole Part) (i : Inputs) (s : State) (ss : Part → S
   out_few =
       let e = h.held.sound.injected in
       let f = leaver_inside goes b kept in
-      let g = fewer_inside b 0 s.places in
+      let g = flushed_inside b 0 s.places in
       omega (arith, e, f, g)
 
   pub given_is : given_then ≡ h.given + gone

@@ -20,15 +20,15 @@ use Rattle.pipe_net.specs.Parts as part
 use Rattle.pipe_net.specs.Parts.{parts_of}
 use Rattle.pipe_net.specs.Layout.{Layout, IsSized, commit_of}
 use Rattle.pipe_net.specs.Relation.{counts, HoldFrames}
-use Rattle.pipe_net.specs.Saying.{ShowDues, ShowReturns}
+use Rattle.pipe_net.specs.Saying.{ShowReloads, ShowReturns}
 use Rattle.pipe_net.specs.PipeFrames.Parts.{AreFrameParts}
 use Rattle.pipe_net.specs.PipeFrames.Returning.{PlacesReturn}
-use Rattle.pipe_net.proofs.PipeFrames.Due.{due, due_net, due_is}
+use Rattle.pipe_net.proofs.PipeFrames.Reload.{reload, reload_net, reload_is}
 use Rattle.pipe_net.proofs.PipeFrames.Sending.{sends_is}
 use Rattle.pipe_net.proofs.PipeFrames.Parts.{has_returns, has_control, holds_stored, holds_at}
 
 module _ (l : Layout) (d : Whole Part) (sized : IsSized l) (parts : AreFrameParts l d) (listed : d.parts ≡ parts_of l.sizes) (i : Inputs) (s : State) (ss : Part → Stored) (v : Env (Name Part)) (given : ℕ) (ns : List ℕ)
-    (held : HoldFrames l given ns s ss) (sees : Sees d (words_of i) ss v) (dues : ShowDues l s v) where
+    (held : HoldFrames l given ns s ss) (sees : Sees d (words_of i) ss v) (reloads : ShowReloads l s v) where
   pub holds_net : (k : ℕ) → k ≤ l.shape.stages → v.net (register_name (part.control l.sizes) (Holds k)) ≡ bit (get_or (map is_some s.places) k false)
   holds_net k q =
       let c = counts given ns s in
@@ -41,9 +41,9 @@ module _ (l : Layout) (d : Whole Part) (sized : IsSized l) (parts : AreFramePart
   back_net k q =
       let n = sized.commits in
       let w = l.shape.within in
-      parts.returns.shows v (map is_some s.places) (due l s v dues) (sees.wires (part.returns l.sizes) (has_returns l.sizes d listed)) (λ j h. holds_net j (omega (arith, w, h))) (λ j h. due_net l s v dues j (omega (arith, n, h))) k (omega (arith, n, q))
-      ∙ ap (λ hs. bit (some_returns l.shape (due l s v dues) k hs)) (drop-map is_some k s.places)
-      ∙ ap bit (sends_is l.build l.shape sized.commits (due l s v dues) (drop k s.places) k (λ j x e. due_is l s v dues (k + j) x (sym (get_or-drop k s.places j None) ∙ e)))
+      parts.returns.shows v (map is_some s.places) (reload l s v reloads) (sees.wires (part.returns l.sizes) (has_returns l.sizes d listed)) (λ j h. holds_net j (omega (arith, w, h))) (λ j h. reload_net l s v reloads j (omega (arith, n, h))) k (omega (arith, n, q))
+      ∙ ap (λ hs. bit (some_returns l.shape (reload l s v reloads) k hs)) (drop-map is_some k s.places)
+      ∙ ap bit (sends_is l.build l.shape sized.commits (reload l s v reloads) (drop k s.places) k (λ j x e. reload_is l s v reloads (k + j) x (sym (get_or-drop k s.places j None) ∙ e)))
 
   pub returns_shown : ShowReturns l s v
   returns_shown = record {
@@ -52,4 +52,4 @@ module _ (l : Layout) (d : Whole Part) (sized : IsSized l) (parts : AreFramePart
   }
 
 pub places_return : PlacesReturn
-places_return l d sized parts listed i s ss v given ns held sees dues = returns_shown l d sized parts listed i s ss v given ns held sees dues
+places_return l d sized parts listed i s ss v given ns held sees reloads = returns_shown l d sized parts listed i s ss v given ns held sees reloads

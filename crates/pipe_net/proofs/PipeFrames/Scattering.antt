@@ -3,10 +3,10 @@ use Rattle.std.specs.Prelude.{◌≡◌, ℕ, suc, ◌+◌, ◌*◌, ◌<◌, na
 use Rattle.std.proofs.Common.{get_or, refl, sym, ap, ◌∙◌, subst, arith, length-drop}
 use Rattle.std.proofs.lemmas.Bool.Decides.{nat_tests}
 use Rattle.std.proofs.lemmas.List.{nil_from_length, length-map}
-use Rattle.block_core.specs.beat_core.declared.beat.Beat.{Beat}
-use Rattle.block_core.specs.beat_core.declared.answer.Answer.{Answer}
-use Rattle.block_core.specs.beat_core.declared.frame.TheConstants.{BEAT_LIMIT}
-use Rattle.block_core.specs.beat_core.Beats.{beat_count, first_beat}
+use Rattle.beat_core.specs.declared.beat.Beat.{Beat}
+use Rattle.beat_core.specs.declared.answer.Answer.{Answer}
+use Rattle.beat_core.specs.declared.frame.TheConstants.{BEAT_LIMIT}
+use Rattle.beat_core.specs.Beats.{beat_count, first_beat}
 use Rattle.block_core.specs.net_core.declared.tree.Word.{Word}
 use Rattle.block_core.specs.net_core.declared.ports.Inputs.{Inputs}
 use Rattle.block_core.specs.net_core.Value.{word, bit, nothing, Env}

@@ -10,7 +10,7 @@ use Rattle.block_core.specs.declared.name.Name.{Name}
 use Rattle.block_core.specs.declared.name.Name.TheVariants as name
 use Rattle.block_core.specs.Blocks.{Whole, Among, registers_of}
 use Rattle.block_core.specs.Parts.{Sees}
-use Rattle.pipe_core.specs.Machine.{Packet, State, place_at, is_due}
+use Rattle.pipe_core.specs.Machine.{Packet, State, place_at, must_reload}
 use Rattle.control_net.specs.RingNet.Ring.{slot}
 use Rattle.control_net.proofs.RingNet.RingLaws.{slot_small}
 use Rattle.control_net.specs.Control as control
@@ -26,7 +26,7 @@ use Rattle.pipe_net.specs.Relation.{IsStored, counts, HoldFrames}
 use Rattle.pipe_net.specs.Saying.{moves_in}
 use Rattle.pipe_net.specs.PipeFrames.Parts.{AreFrameParts, has_begun, read_by_control}
 use Rattle.pipe_net.specs.PipeFrames.Following.{HasBytes, OthersSay}
-use Rattle.pipe_net.proofs.PipeFrames.Due.{due, due_net, due_is}
+use Rattle.pipe_net.proofs.PipeFrames.Reload.{reload, reload_net, reload_is}
 use Rattle.pipe_net.proofs.PipeFrames.Parts.{has_returns, has_control, has_gather}
 use Rattle.pipe_net.proofs.PipeFrames.Returning.{holds_net}
 
@@ -48,11 +48,11 @@ module _ (l : Layout) (d : Whole Part) (i : Inputs) (s : State) (ss : Part → S
   now = counts h.given h.packet_numbers s
 
   abbrev pub told : ℕ → Bool
-  told = due l s v h.says.due
+  told = reload l s v h.says.reload
 
   -- what control sees, where a shown beat is the last one or not
   abbrev pub signals_with : Bool → Signals
-  signals_with last = record { partial = is_some s.part; in_valid = i.in_valid; in_last = i.in_last; out_ready = i.out_ready; last = last; stalls = not (moves_in l.build (input_of i) s); due = told }
+  signals_with last = record { partial = is_some s.part; in_valid = i.in_valid; in_last = i.in_last; out_ready = i.out_ready; last = last; stalls = not (moves_in l.build (input_of i) s); reload = told }
 
   control_register : (k : ℕ) → k < registers_of (d.block (part.control l.sizes)) → v.net (name.Register (part.control l.sizes) k) ≡ get_or (stored_words l.shape now) k nothing
   control_register k lt =
@@ -80,8 +80,8 @@ module _ (l : Layout) (d : Whole Part) (i : Inputs) (s : State) (ss : Part → S
           stalls = h.says.stays;
           back = λ k q.
               h.parts.returns.shows v now.holds told (h.sees.wires (part.returns l.sizes) (has_returns l.sizes d h.listed))
-              (λ j m. holds_net l d h.sized h.parts h.listed i s ss v h.given h.packet_numbers h.held h.sees h.says.due j (omega (arith, w, m)))
-              (λ j m. due_net l s v h.says.due j (omega (arith, n, m)))
+              (λ j m. holds_net l d h.sized h.parts h.listed i s ss v h.given h.packet_numbers h.held h.sees h.says.reload j (omega (arith, w, m)))
+              (λ j m. reload_net l s v h.says.reload j (omega (arith, n, m)))
               k q;
           wires = h.sees.wires (part.control l.sizes) (has_control l.sizes d h.listed);
         }
@@ -92,8 +92,8 @@ module _ (l : Layout) (d : Whole Part) (i : Inputs) (s : State) (ss : Part → S
     pub control_clock : done v (d.block (part.control l.sizes)).statement (ss (part.control l.sizes)) ≡ code l.shape (step l.shape (signals_with last) now)
     control_clock = ap (done v (d.block (part.control l.sizes)).statement) h.held.control ∙ h.parts.control.clock (signals_with last) now v h.held.sound sees_control
 
-  pub tells : (k : ℕ) (x : Packet) → place_at s.places k ≡ Some x → told (0 + k) ≡ is_due l.build (0 + k) x
-  tells k x e = let z : k ≡ 0 + k = omega arith in subst (λ n. told n ≡ is_due l.build n x) z (due_is l s v h.says.due k x e)
+  pub tells : (k : ℕ) (x : Packet) → place_at s.places k ≡ Some x → told (0 + k) ≡ must_reload l.build (0 + k) x
+  tells k x e = let z : k ≡ 0 + k = omega arith in subst (λ n. told n ≡ must_reload l.build n x) z (reload_is l s v h.says.reload k x e)
 
   -- numbers of slots fit their bits
   pub slot_fits : (k : ℕ) → slot l.shape.slots k < 2 ^ l.shape.slot_bits

@@ -2,7 +2,7 @@
 use Rattle.std.specs.Prelude.{◌≡◌, ℕ, suc, ◌+◌, nat_le, Bool, true, false, ◌&&◌, ◌||◌, if◌then◌else◌, Option, Some, None, is_some, List, [], ◌∷◌, map}
 use Rattle.std.proofs.Common.{not, refl, ap, subst, ◌∙◌, arith}
 use Rattle.std.proofs.lemmas.Bool.{and_right}
-use Rattle.pipe_core.specs.Machine.{Packet, Build, place_at, is_due, sends, some_send, swept}
+use Rattle.pipe_core.specs.Machine.{Packet, Build, place_at, must_reload, sends, some_send, flushed}
 use Rattle.control_net.specs.declared.ring_net.shape.ControlShape.{ControlShape}
 use Rattle.control_net.specs.Control as control
 use Rattle.control_net.specs.Control.{returns, some_returns}
@@ -13,29 +13,29 @@ emptied None false = refl
 emptied (Some x) true = refl
 emptied (Some x) false = refl
 
-module _ (b : Build) (c : ControlShape) (commits : c.commit ≡ b.plan.commit) (due : ℕ → Bool) where
-  -- from place k on each packet is due where the signal of its place says so
+module _ (b : Build) (c : ControlShape) (commits : c.commit ≡ b.plan.commit) (reload : ℕ → Bool) where
+  -- from place k on each packet must reload where the signal of its place says so
   abbrev pub TellFrom : ℕ → List (Option Packet) → Type 0
-  TellFrom k places = (j : ℕ) (x : Packet) → place_at places j ≡ Some x → due (k + j) ≡ is_due b (k + j) x
+  TellFrom k places = (j : ℕ) (x : Packet) → place_at places j ≡ Some x → reload (k + j) ≡ must_reload b (k + j) x
 
   tell_more : (k : ℕ) (x : Option Packet) (xs : List (Option Packet)) → TellFrom k (x ∷ xs) → TellFrom (suc k) xs
-  tell_more k x xs h j y e = let n : k + suc j ≡ suc k + j = omega arith in subst (λ n. due n ≡ is_due b n y) n (h (suc j) y e)
+  tell_more k x xs h j y e = let n : k + suc j ≡ suc k + j = omega arith in subst (λ n. reload n ≡ must_reload b n y) n (h (suc j) y e)
 
-  one_is : (k : ℕ) (x : Option Packet) → ((y : Packet) → x ≡ Some y → due k ≡ is_due b k y) → returns c due k (is_some x) ≡ sends b k x
-  one_is k None h = and_right (nat_le k c.commit) (false && due k) refl
-  one_is k (Some y) h = ap (λ q. nat_le k c.commit && q) (h y refl) ∙ ap (λ n. nat_le k n && is_due b k y) commits
+  one_is : (k : ℕ) (x : Option Packet) → ((y : Packet) → x ≡ Some y → reload k ≡ must_reload b k y) → returns c reload k (is_some x) ≡ sends b k x
+  one_is k None h = and_right (nat_le k c.commit) (false && reload k) refl
+  one_is k (Some y) h = ap (λ q. nat_le k c.commit && q) (h y refl) ∙ ap (λ n. nat_le k n && must_reload b k y) commits
 
-  pub sends_is : (places : List (Option Packet)) (k : ℕ) → TellFrom k places → some_returns c due k (map is_some places) ≡ some_send b k places
+  pub sends_is : (places : List (Option Packet)) (k : ℕ) → TellFrom k places → some_returns c reload k (map is_some places) ≡ some_send b k places
   sends_is [] k h = refl
   sends_is (x ∷ xs) k h =
       let z : k + 0 ≡ k = omega arith in
-      let one = one_is k x (λ y e. subst (λ n. due n ≡ is_due b n y) z (h 0 y e)) in
+      let one = one_is k x (λ y e. subst (λ n. reload n ≡ must_reload b n y) z (h 0 y e)) in
       let rest = sends_is xs (suc k) (tell_more k x xs h) in
       λ i. one i || rest i
 
-  pub swept_is : (places : List (Option Packet)) (k : ℕ) → TellFrom k places → control.swept c due k (map is_some places) ≡ map is_some (swept b k places)
-  swept_is [] k h = refl
-  swept_is (x ∷ xs) k h =
+  pub flushed_is : (places : List (Option Packet)) (k : ℕ) → TellFrom k places → control.flushed c reload k (map is_some places) ≡ map is_some (flushed b k places)
+  flushed_is [] k h = refl
+  flushed_is (x ∷ xs) k h =
       let some = sends_is (x ∷ xs) k h in
-      let rest = swept_is xs (suc k) (tell_more k x xs h) in
-      (λ i. (is_some x && not (some i)) ∷ rest i) ∙ ap (λ q. q ∷ map is_some (swept b (suc k) xs)) (emptied x (some_send b k (x ∷ xs)))
+      let rest = flushed_is xs (suc k) (tell_more k x xs h) in
+      (λ i. (is_some x && not (some i)) ∷ rest i) ∙ ap (λ q. q ∷ map is_some (flushed b (suc k) xs)) (emptied x (some_send b k (x ∷ xs)))

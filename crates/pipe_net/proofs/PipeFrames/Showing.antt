@@ -3,8 +3,8 @@ use Rattle.std.specs.Prelude.{◌≡◌, ℕ, ◌<◌, nat_lt, if◌then◌else�
 use Rattle.std.proofs.Common.{get_or, refl, sym, ap, ◌∙◌, subst, arith}
 use Rattle.std.proofs.lemmas.Bool.{ltb-true, and_parts}
 use Rattle.std.proofs.lemmas.List.{length-map}
-use Rattle.block_core.specs.beat_core.declared.beat.Beat.{Beat}
-use Rattle.block_core.specs.beat_core.declared.answer.Answer.{Answer}
+use Rattle.beat_core.specs.declared.beat.Beat.{Beat}
+use Rattle.beat_core.specs.declared.answer.Answer.{Answer}
 use Rattle.block_core.specs.net_core.declared.ports.Inputs.{Inputs}
 use Rattle.block_core.specs.net_core.Value.{word, bit, Env}
 use Rattle.block_core.specs.net_core.Clock.{Stored}
@@ -17,7 +17,8 @@ use Rattle.control_net.specs.declared.names.Wire.TheVariants as wire
 use Rattle.commit_net.specs.frame_net.Frames.{HoldsFrame}
 use Rattle.commit_net.specs.frame_net.Sources.{SeesHeld, ShowsFrame}
 use Rattle.stage_net.specs.row_net.PlaceNet.Sources.{IsShownIn}
-use Rattle.pipe_core.specs.Machine.{Packet, State, injected, newcomer, some_send, swept, inside, no_frame, shown_beat, first_answer}
+use Rattle.pipe_core.specs.Machine.{Packet, State, injected, newcomer, some_send, flushed, inside, no_frame, shown_beat, first_answer}
+use Rattle.pipe_core.proofs.FlushLaws.{flushed_none}
 use Rattle.pipe_net.specs.declared.parts.Part.{Part}
 use Rattle.pipe_net.specs.Parts as part
 use Rattle.pipe_net.specs.Machine.{input_of}
@@ -27,7 +28,6 @@ use Rattle.pipe_net.specs.Saying.{moves_in}
 use Rattle.pipe_net.specs.PipeFrames.Parts.{next_slot}
 use Rattle.pipe_net.specs.PipeFrames.Following.{ShowsBeat, ShowFrames}
 use Rattle.pipe_net.proofs.PipeFrames.Cases.{none_some, not_not}
-use Rattle.pipe_net.proofs.PipeFrames.Sweeping.{none_swept}
 use Rattle.pipe_net.proofs.PipeFrames.Parts.{has_gather, has_sources}
 use Rattle.pipe_net.proofs.PipeFrames.Telling.{ready_is, shown_is}
 use Rattle.pipe_net.proofs.PipeFrames.Seeing.{IsSeen, now, signals_with, slot_fits}
@@ -72,12 +72,12 @@ module _ (l : Layout) (d : Whole Part) (i : Inputs) (s : State) (ss : Part → S
         within = slot_fits l d i s ss v h next;
       }
 
-  shows_frame : (x : Packet) → newcomer l.build (some_send l.build 0 s.places) s.frames (swept l.build 0 s.places) ≡ Some x
-      → IsShownIn (part.sources l.sizes) l.kept v (get_or s.frames (inside (swept l.build 0 s.places)) no_frame)
+  shows_frame : (x : Packet) → newcomer l.build (some_send l.build 0 s.places) s.frames (flushed l.build 0 s.places) ≡ Some x
+      → IsShownIn (part.sources l.sizes) l.kept v (get_or s.frames (inside (flushed l.build 0 s.places)) no_frame)
   shows_frame x e =
       let send = some_send l.build 0 s.places in
-      let both = and_parts (not send) (nat_lt (inside (swept l.build 0 s.places)) (length s.frames)) (injected_some l (not send && nat_lt (inside (swept l.build 0 s.places)) (length s.frames)) x e) in
-      let same : swept l.build 0 s.places ≡ s.places = none_swept l.build 0 s.places (sym (not_not send) ∙ ap not both.0) in
+      let both = and_parts (not send) (nat_lt (inside (flushed l.build 0 s.places)) (length s.frames)) (injected_some l (not send && nat_lt (inside (flushed l.build 0 s.places)) (length s.frames)) x e) in
+      let same : flushed l.build 0 s.places ≡ s.places = flushed_none l.build 0 s.places (sym (not_not send) ∙ ap not both.0) in
       let lt : inside s.places < length s.frames = subst (λ ps. inside ps < length s.frames) same (ltb-true _ _ both.1) in
       let a = get_or s.frames (inside s.places) no_frame in
       let f : HoldsFrame l.kept (ss (part.gather l.sizes)).memories (slot l.shape.slots next) a = h.held.frames (inside s.places) lt in

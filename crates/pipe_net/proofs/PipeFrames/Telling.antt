@@ -7,7 +7,7 @@ use Rattle.block_core.specs.net_core.Value.{Env}
 use Rattle.block_core.specs.net_core.Clock.{Stored}
 use Rattle.block_core.specs.declared.name.Name.{Name}
 use Rattle.block_core.specs.Blocks.{Whole}
-use Rattle.pipe_core.specs.Machine.{Packet, State, Build, place_at, inside, some_send, swept, newcomer, is_ready, beat_over, shown_beat}
+use Rattle.pipe_core.specs.Machine.{Packet, State, Build, place_at, inside, some_send, flushed, newcomer, is_ready, beat_over, shown_beat}
 use Rattle.control_net.specs.Control as control
 use Rattle.control_net.specs.Control.{Signals, rest}
 use Rattle.pipe_net.specs.declared.parts.Part.{Part}
@@ -15,7 +15,7 @@ use Rattle.pipe_net.specs.Machine.{beat_in, input_of}
 use Rattle.pipe_net.specs.Layout.{Layout}
 use Rattle.pipe_net.specs.Saying.{moves_in}
 use Rattle.pipe_net.proofs.PipeFrames.Cases.{not_not}
-use Rattle.pipe_net.proofs.PipeFrames.Sending.{sends_is, swept_is}
+use Rattle.pipe_net.proofs.PipeFrames.Sending.{sends_is, flushed_is}
 use Rattle.pipe_net.proofs.PipeFrames.Clocking.{leaver, ends_with}
 use Rattle.pipe_net.proofs.PipeFrames.Tests.{less_shifted, over_some, over_ends, shows_some, new_some, leaves_some, and_assoc, enters_same}
 use Rattle.pipe_net.proofs.PipeFrames.Seeing.{IsSeen, now, told, tells, signals_with}
@@ -29,7 +29,7 @@ module _ (l : Layout) (d : Whole Part) (i : Inputs) (s : State) (ss : Part → S
 
   -- the packets that are not sent back
   abbrev kept : List (Option Packet)
-  kept = swept b 0 s.places
+  kept = flushed b 0 s.places
 
   -- the packet that comes in, if there is one
   abbrev new : Option Packet
@@ -41,8 +41,8 @@ module _ (l : Layout) (d : Whole Part) (i : Inputs) (s : State) (ss : Part → S
   abbrev state : control.State
   state = now l d i s ss v h
 
-  abbrev due : ℕ → Bool
-  due = told l d i s ss v h
+  abbrev reload : ℕ → Bool
+  reload = told l d i s ss v h
 
   pub ready_is : control.ready l.shape seen state ≡ is_ready b s
   ready_is =
@@ -63,7 +63,7 @@ module _ (l : Layout) (d : Whole Part) (i : Inputs) (s : State) (ss : Part → S
   taken_is = ap (λ x. x && i.out_ready) shown_is
 
   pub rest_is : rest l.shape seen state ≡ map is_some kept
-  rest_is = swept_is b l.shape h.sized.commits due s.places 0 (tells l d i s ss v h)
+  rest_is = flushed_is b l.shape h.sized.commits reload s.places 0 (tells l d i s ss v h)
 
   pub exits_is : control.exits l.shape seen state ≡ is_some (leaver goes b kept)
   exits_is =
@@ -81,6 +81,6 @@ module _ (l : Layout) (d : Whole Part) (i : Inputs) (s : State) (ss : Part → S
   pub injects_is : control.injects l.shape seen state ≡ goes && is_some new
   injects_is =
       let send = some_send b 0 s.places in
-      (λ j. (not_not goes j && not (sends_is b l.shape h.sized.commits due s.places 0 (tells l d i s ss v h) j)) && less_shifted (h.given + length s.answers) (inside s.places) (length s.frames) j)
+      (λ j. (not_not goes j && not (sends_is b l.shape h.sized.commits reload s.places 0 (tells l d i s ss v h) j)) && less_shifted (h.given + length s.answers) (inside s.places) (length s.frames) j)
       ∙ and_assoc goes (not send) (nat_lt (inside s.places) (length s.frames))
       ∙ ap (λ x. goes && x) (enters_same b s.places (length s.frames) send refl ∙ new_some b.program (not send && nat_lt (inside kept) (length s.frames)))

@@ -3,18 +3,20 @@ use Rattle.std.specs.Prelude.{◌≡◌, ℕ, suc, ◌+◌, ◌%◌, ◌^◌, �
 use Rattle.std.proofs.Common.{refl, sym, ap, ◌∙◌, arith}
 use Rattle.std.proofs.Math.Nat.{mod-eq_of_lt}
 use Rattle.std.proofs.lemmas.Bool.Decides.{nat_tests}
-use Rattle.block_core.specs.beat_core.declared.beat.Beat.{Beat}
-use Rattle.block_core.specs.beat_core.declared.answer.Answer.{Answer}
-use Rattle.block_core.specs.beat_core.Ports.{Arrival}
+use Rattle.beat_core.specs.declared.beat.Beat.{Beat}
+use Rattle.beat_core.specs.declared.answer.Answer.{Answer}
+use Rattle.beat_core.specs.Ports.{Arrival}
 use Rattle.block_core.specs.net_core.Value.{number_of}
 use Rattle.hazard_core.specs.cell_core.Cells.{bit}
 use Rattle.hazard_core.specs.cell_core.Sites.{ProgramView}
-use Rattle.pipe_core.specs.Machine.{Packet, State, Input, Build, place_at, inside, some_send, swept, injected, answers_by, beat_at, came_with}
+use Rattle.pipe_core.specs.Machine.{Packet, State, Input, Build, place_at, inside, some_send, flushed, injected, answers_by, beat_at, came_with}
 use Rattle.pipe_core.specs.History.{came_in}
 use Rattle.control_net.specs.RingNet.Control.{counted}
 use Rattle.control_net.specs.Control.{shifted}
-use Rattle.pipe_net.proofs.PipeFrames.Sweeping.{leaves_inside, none_swept}
-use Rattle.pipe_net.proofs.PipeFrames.Clocking.{leaver, passed_after, ends_with, part_after}
+use Rattle.pipe_core.proofs.FlushLaws.{flushed_none}
+use Rattle.pipe_core.proofs.ClockLaws.{part_after}
+use Rattle.pipe_net.proofs.PipeFrames.Flushing.{leaves_inside}
+use Rattle.pipe_net.proofs.PipeFrames.Clocking.{leaver, passed_after, ends_with}
 
 -- ---- tests
 pub less_shifted : (g a n : ℕ) → nat_lt (g + a) (g + n) ≡ nat_lt a n
@@ -96,9 +98,9 @@ leaver_inside true b places = leaves_inside places b.plan.last
 leaver_inside false b places = omega arith
 
 -- where none is sent back as many are left as there were
-pub enters_same : (b : Build) (places : List (Option Packet)) (n : ℕ) (q : Bool) → some_send b 0 places ≡ q → not q && nat_lt (inside places) n ≡ not q && nat_lt (inside (swept b 0 places)) n
+pub enters_same : (b : Build) (places : List (Option Packet)) (n : ℕ) (q : Bool) → some_send b 0 places ≡ q → not q && nat_lt (inside places) n ≡ not q && nat_lt (inside (flushed b 0 places)) n
 enters_same b places n true e = refl
-enters_same b places n false e = ap (λ ps. nat_lt (inside ps) n) (sym (none_swept b 0 places e))
+enters_same b places n false e = ap (λ ps. nat_lt (inside ps) n) (sym (flushed_none b 0 places e))
 
 pub if_goes : (goes x : Bool) (hs : List Bool) → (if goes then shifted (goes && x) hs else hs) ≡ (if goes then shifted x hs else hs)
 if_goes true x hs = refl

@@ -9,7 +9,7 @@ use Rattle.pipe_net.specs.PipeTurns.Maps.{decl_at}
 use Rattle.pipe_net.specs.PipeMaps.Tables.{TablesBegin}
 
 pub tables_begin : TablesBegin
-tables_begin l d turn maps parts same first = record {
+tables_begin l d action maps parts same first = record {
   decls = same;
   tables = λ m there.
       let here = parts.maps m there in

@@ -31,23 +31,23 @@ use Rattle.commit_net.specs.MapBlock.Parts.{SolveAll}
 use Rattle.commit_net.specs.MapBlock.Stored.{StoresAs, SeesStored}
 use Rattle.commit_net.specs.MapBlock.Laws.{SeesParts}
 use Rattle.turn_net.specs.HostNet.Laws.{WritesItsNumber}
-use Rattle.turn_net.specs.Turns.{RecordsAlone}
+use Rattle.turn_net.specs.Actions.{RecordsAlone}
 use Rattle.turn_net.specs.TargetNet.Commits.{commits_on}
 use Rattle.pipe_core.specs.Machine as machine
-use Rattle.pipe_core.specs.Machine.{Packet, State, Turn, Moves, Writes, Build}
+use Rattle.pipe_core.specs.Machine.{Packet, State, Action, Moves, Writes, Build}
 use Rattle.pipe_net.specs.declared.parts.Part.{Part}
 use Rattle.pipe_net.specs.Parts as part
 use Rattle.pipe_net.specs.Machine.{input_of, access_in}
 use Rattle.pipe_net.specs.Layout.{Layout, program_of}
-use Rattle.pipe_net.specs.Saying.{turn_in, is_host, change_of, is_on, ShowsChangeOf}
+use Rattle.pipe_net.specs.Saying.{action_in, is_host, change_of, is_on, ShowsChangeOf}
 use Rattle.pipe_net.specs.PipeTurns.Maps.{decl_at}
-use Rattle.pipe_net.specs.PipeTurns.Parts.{AreTurnParts}
-use Rattle.pipe_net.specs.PipeTurns.Turning.{site_of}
+use Rattle.pipe_net.specs.PipeTurns.Parts.{AreActionParts}
+use Rattle.pipe_net.specs.PipeTurns.Acting.{site_of}
 use Rattle.pipe_net.specs.PipeMaps.Parts.{commits_net, parts_at, ArePartsOfMap}
 use Rattle.pipe_net.specs.PipeMaps.Premises.{HasMaps, IsMapClock}
 use Rattle.pipe_net.specs.PipeMaps.Saying.{ChangesAreShown}
 use Rattle.pipe_net.proofs.PipeMaps.AmongLemmas.{map_among}
-use Rattle.pipe_net.proofs.PipeMaps.TurnLemmas.{hosts_turn}
+use Rattle.pipe_net.proofs.PipeMaps.ActionLemmas.{hosts_action}
 use Rattle.pipe_net.proofs.PipeMaps.OperationLemmas.{commits}
 use Rattle.pipe_net.proofs.PipeMaps.SeenLemmas.{are_solved, sees_host}
 use Rattle.pipe_net.proofs.PipeMaps.StandLemmas.{named, bytes_at, small, slots_are}
@@ -62,29 +62,29 @@ change_map : (b : Build) (s : State) (j : ℕ) (x : Packet) → (change_by b.pro
 unfolding change_by
 change_map b s j x = refl
 
-changes_on : (b : Build) (s : State) (t : Turn) (named m : ℕ) → ((a : Access) (n : ℕ) → t ≡ Writes a n → named ≡ a.map) → (commits_on b.program (site_of t) m || (is_host t && (named == m))) ≡ is_on m (change_of b s t)
+changes_on : (b : Build) (s : State) (t : Action) (named m : ℕ) → ((a : Access) (n : ℕ) → t ≡ Writes a n → named ≡ a.map) → (commits_on b.program (site_of t) m || (is_host t && (named == m))) ≡ is_on m (change_of b s t)
 changes_on b s (machine.Commits j x) named m h = or_false ((site_at b.program.sites j).map == m) ∙ ap (λ n. n == m) (sym (change_map b s j x))
 changes_on b s (Writes a n) named m h = ap (λ n. n == m) (h a n refl)
 changes_on b s Moves named m h = refl
 
-hosts_on : (b : Build) (s : State) (t : Turn) (named m : ℕ) → ((a : Access) (n : ℕ) → t ≡ Writes a n → named ≡ a.map) → (is_host t && (named == m)) ≡ (is_host t && is_on m (change_of b s t))
+hosts_on : (b : Build) (s : State) (t : Action) (named m : ℕ) → ((a : Access) (n : ℕ) → t ≡ Writes a n → named ≡ a.map) → (is_host t && (named == m)) ≡ (is_host t && is_on m (change_of b s t))
 hosts_on b s (machine.Commits j x) named m h = refl
 hosts_on b s (Writes a n) named m h = ap (λ n. n == m) (h a n refl)
 hosts_on b s Moves named m h = refl
 
-module _ (seen : SeesParts Part) (alone : RecordsAlone) (number : WritesItsNumber) (l : Layout) (d : Whole Part) (turn : AreTurnParts l d) (is : HasMaps l d turn) (i : Inputs) (s : State) (ss : Part → Stored) (v : Env (Name Part)) (k : IsMapClock l d turn is.parts i s ss v) (m : ℕ)
+module _ (seen : SeesParts Part) (alone : RecordsAlone) (number : WritesItsNumber) (l : Layout) (d : Whole Part) (action : AreActionParts l d) (is : HasMaps l d action) (i : Inputs) (s : State) (ss : Part → Stored) (v : Env (Name Part)) (k : IsMapClock l d action is.parts i s ss v) (m : ℕ)
     (there : m < length l.decls) where
   abbrev p : ProgramView
   p = program_of l
 
-  abbrev parts : ArePartsOfMap l d turn m
+  abbrev parts : ArePartsOfMap l d action m
   parts = is.parts.maps m there
 
   abbrev shown : Change → Type 0
   shown e = ShowsChange v (decl_at l m).key e parts.change_nets
 
   solved : SolveAll v (parts_at l m) parts.trees × SeesStored (part.own l.sizes m) v (ss (part.own l.sizes m))
-  solved = are_solved l d turn is m there seen (words_of i) ss v k.sees
+  solved = are_solved l d action is m there seen (words_of i) ss v k.sees
 
   written_solved : Solve v (part.written l.sizes m) 0 (d.block (part.written l.sizes m)).wires
   written_solved = k.sees.wires (part.written l.sizes m) (map_among l d is.sized is.places m 4 there (omega arith))
@@ -114,7 +114,7 @@ module _ (seen : SeesParts Part) (alone : RecordsAlone) (number : WritesItsNumbe
           subst (λ c. ShowsKey_as c v (decl_at l m) parts.keys n (slot_at slots n)) (sym e) (filled n lt)
 
   -- ---- an operation of the packet at the commit place
-  module _ (j : ℕ) (x : Packet) (e : turn_in l.build (input_of i) s ≡ machine.Commits j x) (on : (site_at p.sites j).map ≡ m) where
+  module _ (j : ℕ) (x : Packet) (e : action_in l.build (input_of i) s ≡ machine.Commits j x) (on : (site_at p.sites j).map ≡ m) where
     abbrev n : ℕ
     n = written_slot p s.tables s.taken x.held j
 
@@ -124,27 +124,27 @@ module _ (seen : SeesParts Part) (alone : RecordsAlone) (number : WritesItsNumbe
     within : n < length (table_at s.tables m)
     within = subst (λ c. n < length (table_at s.tables c)) on right.slot
 
-    acts : v.net (commits_net l d turn m) ≡ bit true
-    acts = says l d turn is i s ss v k m there _ e ∙ ap bit (eq-eqb (site_at p.sites j).map m on)
+    acts : v.net (commits_net l d action m) ≡ bit true
+    acts = says l d action is i s ss v k m there _ e ∙ ap bit (eq-eqb (site_at p.sites j).map m on)
 
     is_small : n < 2 ^ l.slot_bits m
-    is_small = small l s.tables k.held.decls k.keys m there parts.suited n within
+    is_small = small l s.tables k.held.decls k.keys m there parts.form_fits n within
 
     in_slot : v.net parts.slot ≡ word (l.slot_bits m) n
     in_slot =
-        let operation = commits alone l d turn is i s ss v k j x e m there on in
+        let operation = commits alone l d action is i s ss v k j x e m there on in
         parts.written.committed v n (k.fit m there).written written_solved acts (parts.map.does.finds v p s.tables s.taken x.held j (k.fit m there).operations solved.0 operation is_small)
 
     key : ShowsKey v (decl_at l m) parts.keys n (slot_before p s.tables s.taken x.held j)
     key = subst (λ c. ShowsKey v (decl_at l m) parts.keys n (slot_at (table_at s.tables c) n)) (sym on) (key_in n within in_slot)
 
-    committing : IsCommitting v p s.tables s.taken x.held j (decl_at l m) (l.slot_bits m) parts.operations (commits_net l d turn m) parts.slot parts.keys
+    committing : IsCommitting v p s.tables s.taken x.held j (decl_at l m) (l.slot_bits m) parts.operations (commits_net l d action m) parts.slot parts.keys
     committing = record {
-      operation = commits alone l d turn is i s ss v k j x e m there on;
+      operation = commits alone l d action is i s ss v k j x e m there on;
       acts = acts;
       in_slot = in_slot;
       declared = ap (decl_of s.tables.decls) on ∙ ap (λ ds. decl_of ds m) k.held.decls;
-      fits = fits alone l d turn is i s ss v k j x e;
+      fits = fits alone l d action is i s ss v k j x e;
       right = right;
       key = key;
       bytes = λ other. subst (λ c. IsBytes (decl_at l m).key (slot_at (table_at s.tables c) n).key) (sym on) (bytes_at l s.tables k.held.decls k.keys m there n within).key;
@@ -154,15 +154,15 @@ module _ (seen : SeesParts Part) (alone : RecordsAlone) (number : WritesItsNumbe
     committed = parts.change.committed v p s.tables s.taken x.held j parts.change_nets (k.fit m there).change change_solved committing parts.stands
 
   -- ---- the host
-  hosted : (a : Access) (w : ℕ) → turn_in l.build (input_of i) s ≡ Writes a w → a.map ≡ m → shown (host_change s.tables a)
+  hosted : (a : Access) (w : ℕ) → action_in l.build (input_of i) s ≡ Writes a w → a.map ≡ m → shown (host_change s.tables a)
   hosted a w e on =
-      let turned = hosts_turn number l.build i s a w e in
-      let name = named (machine.is_calm s) s.tables a turned.may in
+      let acted = hosts_action number l.build i s a w e in
+      let name = named (machine.is_idle s) s.tables a acted.may in
       let lt : a.index < length (table_at s.tables m) = subst (λ c. a.index < length (table_at s.tables c)) on name.index in
-      let host : SeesHost v a i.host_data = subst (λ a. SeesHost v a i.host_data) (sym turned.access) (sees_host d i ss v k.sees) in
-      let idle = says l d turn is i s ss v k m there _ e in
-      let at = parts.written.addressed v a i.host_data (k.fit m there).written written_solved idle host (small l s.tables k.held.decls k.keys m there parts.suited a.index lt) in
-      let naming : IsNaming v s.tables a (decl_at l m) (l.slot_bits m) (commits_net l d turn m) parts.slot parts.keys = record {
+      let host : SeesHost v a i.host_data = subst (λ a. SeesHost v a i.host_data) (sym acted.access) (sees_host d i ss v k.sees) in
+      let idle = says l d action is i s ss v k m there _ e in
+      let at = parts.written.addressed v a i.host_data (k.fit m there).written written_solved idle host (small l s.tables k.held.decls k.keys m there parts.form_fits a.index lt) in
+      let naming : IsNaming v s.tables a (decl_at l m) (l.slot_bits m) (commits_net l d action m) parts.slot parts.keys = record {
         idle = idle;
         in_slot = at;
         key = subst (λ c. ShowsKey v (decl_at l m) parts.keys a.index (slot_at (table_at s.tables c) a.index)) (sym on) (key_in a.index lt at);
@@ -171,20 +171,20 @@ module _ (seen : SeesParts Part) (alone : RecordsAlone) (number : WritesItsNumbe
       parts.change.written v s.tables a parts.change_nets (k.fit m there).change change_solved naming parts.stands
 
   -- ---- all of it
-  shows : (t : Turn) → turn_in l.build (input_of i) s ≡ t → (e : Change) → change_of l.build s t ≡ Some e → e.map ≡ m → shown e
-  shows (machine.Commits j x) is_turn e q on = let same : change_by p s.tables s.taken x.held j ≡ e = cc in subst shown same (committed j x is_turn (sym (change_map l.build s j x) ∙ ap (λ (c : Change). c.map) same ∙ on))
-  shows (Writes a w) is_turn e q on = let same : host_change s.tables a ≡ e = cc in subst shown same (hosted a w is_turn (ap (λ (c : Change). c.map) same ∙ on))
-  shows Moves is_turn e q on = cc
+  shows : (t : Action) → action_in l.build (input_of i) s ≡ t → (e : Change) → change_of l.build s t ≡ Some e → e.map ≡ m → shown e
+  shows (machine.Commits j x) is_action e q on = let same : change_by p s.tables s.taken x.held j ≡ e = cc in subst shown same (committed j x is_action (sym (change_map l.build s j x) ∙ ap (λ (c : Change). c.map) same ∙ on))
+  shows (Writes a w) is_action e q on = let same : host_change s.tables a ≡ e = cc in subst shown same (hosted a w is_action (ap (λ (c : Change). c.map) same ∙ on))
+  shows Moves is_action e q on = cc
 
-  names : (t : Turn) → turn_in l.build (input_of i) s ≡ t → (a : Access) (n : ℕ) → t ≡ Writes a n → i.host_map ≡ a.map
-  names t e a n q = sym (ap (λ (a : Access). a.map) (hosts_turn number l.build i s a n (e ∙ q)).access)
+  names : (t : Action) → action_in l.build (input_of i) s ≡ t → (a : Access) (n : ℕ) → t ≡ Writes a n → i.host_map ≡ a.map
+  names t e a n q = sym (ap (λ (a : Access). a.map) (hosts_action number l.build i s a n (e ∙ q)).access)
 
   change_shown : ShowsChangeOf l (input_of i) s v m
   change_shown =
-      let t = turn_in l.build (input_of i) s in
+      let t = action_in l.build (input_of i) s in
       let host = sees_host d i ss v k.sees in
-      let acts = says l d turn is i s ss v k m there t refl in
-      let writes = host_says l d turn is i s ss v k m there t refl in
+      let acts = says l d action is i s ss v k m there t refl in
+      let writes = host_says l d action is i s ss v k m there t refl in
       let fit = (k.fit m there).change in
       let stands = parts.stands in
       record {
@@ -196,4 +196,4 @@ module _ (seen : SeesParts Part) (alone : RecordsAlone) (number : WritesItsNumbe
       }
 
 pub changes_are_shown : SeesParts Part → RecordsAlone → WritesItsNumber → ChangesAreShown
-changes_are_shown seen alone number = λ l d turn is i s ss v k m there. change_shown seen alone number l d turn is i s ss v k m there
+changes_are_shown seen alone number = λ l d action is i s ss v k m there. change_shown seen alone number l d action is i s ss v k m there

@@ -16,17 +16,17 @@ use Rattle.pipe_net.proofs.PipeMaps.AmongLemmas.{value_among}
 use Rattle.pipe_net.proofs.PipeMaps.SeenLemmas.{are_solved, is_map_of, sees_host}
 
 pub value_is_shown : SeesParts Part → ValueFollows Part → ValueIsShown
-value_is_shown seen reads = λ l d turn is i s ss v held sees ready.
+value_is_shown seen reads = λ l d action is i s ss v held sees ready.
     let value = is.parts.value in
     let a = access_in i in
     let each : (m : ℕ) → m < length value.words → v.net (word_name value.words m) ≡ word 64 (shown_here (form_at l m) s.tables a) =
     λ m lt.
     let there : m < length l.decls = subst (λ n. m < n) value.count lt in
-    let solved = are_solved l d turn is m there seen (words_of i) ss v sees in
-    ap v.net (value.each m there) ∙ (is.parts.maps m there).map.does.shows v (ss (part.own l.sizes m)) s.tables a i.host_data solved.0 solved.1 (is_map_of l d turn is m there s.tables held.decls) (held.tables m there) (sees_host d i ss v sees)
+    let solved = are_solved l d action is m there seen (words_of i) ss v sees in
+    ap v.net (value.each m there) ∙ (is.parts.maps m there).map.does.shows v (ss (part.own l.sizes m)) s.tables a i.host_data solved.0 solved.1 (is_map_of l d action is m there s.tables held.decls) (held.tables m there) (sees_host d i ss v sees)
     in
     reads (part.value l.sizes) (ready_net l) value.words (d.block (part.value l.sizes)) v (host_ready l.build s) s.tables a (form_at l) value.block (sees.wires (part.value l.sizes) (value_among l d is.places)) ready (λ m lt. refl) (value.count ∙ ap length (sym held.decls)) each
 
 pub maps_let_write : SeesParts Part → MapsLetWrite
-maps_let_write seen = λ l d turn is m ins ss v t a number calm there sees map stores host says.
-    let solved = are_solved l d turn is m there seen ins ss v sees in (is.parts.maps m there).map.does.allows v (ss (part.own l.sizes m)) t a number calm solved.0 solved.1 map stores host says
+maps_let_write seen = λ l d action is m ins ss v t a number idle there sees map stores host says.
+    let solved = are_solved l d action is m there seen ins ss v sees in (is.parts.maps m there).map.does.allows v (ss (part.own l.sizes m)) t a number idle solved.0 solved.1 map stores host says

@@ -14,19 +14,19 @@ use Rattle.hazard_core.specs.declared.access.Word.TheVariants.{Value, Nothing}
 use Rattle.hazard_core.specs.declared.slot.Slot.{Slot}
 use Rattle.hazard_core.specs.Tables.{TableState, decl_of, table_at, slot_at, no_slot, has_key}
 use Rattle.hazard_core.specs.Tabled.{IsFilledTable, LoadsTables}
-use Rattle.hazard_core.specs.Held.{Held, writes}
+use Rattle.hazard_core.specs.StageValues.{StageValues, writes}
 use Rattle.hazard_core.specs.Commits.{word_count, word_as, word_in, written_word, written_slot, committed, host_written}
 use Rattle.hazard_core.specs.Changes.{IsRightCommit}
 use Rattle.commit_net.specs.Wholes.{table_of, slot_after}
 use Rattle.commit_net.specs.Laws.{CommitsOneSlot, CommitsOneValue}
 use Rattle.hazard_core.specs.TableLaws.Bytes.{LoadsBytes, CommitKeepsBytes, HostKeepsBytes}
 use Rattle.pipe_core.specs.Machine as machine
-use Rattle.pipe_core.specs.Machine.{Packet, State, Input, Build, Turn, Moves, Writes, clock, site_numbers}
-use Rattle.pipe_net.specs.Saying.{turn_in}
+use Rattle.pipe_core.specs.Machine.{Packet, State, Input, Build, Action, Moves, Writes, clock, site_numbers}
+use Rattle.pipe_net.specs.Saying.{action_in}
 use Rattle.pipe_net.specs.PipeMaps.Premises.{HoldKeys}
 use Rattle.pipe_net.specs.PipeMaps.Keys.{KeysFollow, KeysBegin}
 use Rattle.pipe_net.proofs.PipeMaps.ListLemmas.{found_at, at_number}
-use Rattle.pipe_net.proofs.PipeMaps.TurnLemmas.{committed_turn, tables_by, clock_tables}
+use Rattle.pipe_net.proofs.PipeMaps.ActionLemmas.{committed_action, tables_by, clock_tables}
 
 -- ---- a slot with the key of another, and as much in use
 record SameKey (x y : Slot) : Type 0 where
@@ -84,7 +84,7 @@ host_filled t a n beside filled m lt = by_kind (decl_of t.decls m).kind refl (fi
 
 -- ---- a commit
 commit_filled :
-    CommitsOneSlot → CommitsOneValue → (p : ProgramView) (t : TableState) (taken : List ℕ) (h : Held) (j : ℕ) → IsRightCommit p t taken h j → writes p t.decls h j ≡ true → AreFilled t → AreFilled (committed p t taken h j)
+    CommitsOneSlot → CommitsOneValue → (p : ProgramView) (t : TableState) (taken : List ℕ) (h : StageValues) (j : ℕ) → IsRightCommit p t taken h j → writes p t.decls h j ≡ true → AreFilled t → AreFilled (committed p t taken h j)
 commit_filled one_slot one_value p t taken h j right writing filled m lt =
     let one = one_slot p t taken h j right in
     let there : m < length t.decls = subst (λ ds. m < length ds) one.decls lt in
@@ -107,21 +107,21 @@ commit_filled one_slot one_value p t taken h j right writing filled m lt =
 
 -- ---- a clock
 module _ (one_slot : CommitsOneSlot) (one_value : CommitsOneValue) (commit_bytes : CommitKeepsBytes) (host_bytes : HostKeepsBytes) (b : Build) (i : Input) (s : State) (fits : AllFit s.tables.decls b.program.sites)
-    (rights : (j : ℕ) (x : Packet) → turn_in b i s ≡ machine.Commits j x → IsRightCommit b.program s.tables s.taken x.held j) (keys : HoldKeys s.tables) where
-  by_turn : (t : Turn) → turn_in b i s ≡ t → HoldKeys (tables_by b s t)
-  by_turn (machine.Commits j x) e =
-      let committing = committed_turn b i s j x e in
+    (rights : (j : ℕ) (x : Packet) → action_in b i s ≡ machine.Commits j x → IsRightCommit b.program s.tables s.taken x.held j) (keys : HoldKeys s.tables) where
+  by_action : (t : Action) → action_in b i s ≡ t → HoldKeys (tables_by b s t)
+  by_action (machine.Commits j x) e =
+      let committing = committed_action b i s j x e in
       let found = found_at (λ n. nat_le s.done n && writes b.program s.tables.decls x.held n) (site_numbers b.program) j committing.chosen_is in
       let fit : FitsMap s.tables.decls (site_at b.program.sites j) = fits j (at_number (length b.program.sites) j found.1) in
       record {
         bytes = commit_bytes b.program s.tables s.taken x.held j fit keys.bytes;
         filled = commit_filled one_slot one_value b.program s.tables s.taken x.held j (rights j x e) (and_parts (nat_le s.done j) (writes b.program s.tables.decls x.held j) found.0).1 keys.filled;
       }
-  by_turn (Writes a n) e = record { bytes = host_bytes s.tables a n keys.bytes; filled = host_filled s.tables a n keys.bytes.shaped.beside keys.filled }
-  by_turn Moves e = keys
+  by_action (Writes a n) e = record { bytes = host_bytes s.tables a n keys.bytes; filled = host_filled s.tables a n keys.bytes.shaped.beside keys.filled }
+  by_action Moves e = keys
 
   follow : HoldKeys (clock b i s).tables
-  follow = subst HoldKeys (sym (clock_tables b i s)) (by_turn (turn_in b i s) refl)
+  follow = subst HoldKeys (sym (clock_tables b i s)) (by_action (action_in b i s) refl)
 
 pub keys_follow : CommitsOneSlot → CommitsOneValue → CommitKeepsBytes → HostKeepsBytes → KeysFollow
 keys_follow one_slot one_value commit_bytes host_bytes = λ b i s fits rights keys. follow one_slot one_value commit_bytes host_bytes b i s fits rights keys

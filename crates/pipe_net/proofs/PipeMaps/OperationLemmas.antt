@@ -13,34 +13,34 @@ use Rattle.hazard_core.specs.cell_core.Rows.{numbers}
 use Rattle.hazard_core.specs.cell_core.Sites.{ProgramView, site_at}
 use Rattle.turn_net.specs.cell_nets.declared.operand.Operand.TheVariants.{Known}
 use Rattle.turn_net.specs.cell_nets.Operands.{number_in}
-use Rattle.hazard_core.specs.Held.{writes}
+use Rattle.hazard_core.specs.StageValues.{writes}
 use Rattle.read_net.specs.overlay_net.SiteOperands.Sites.{operands_of, ShowsSite}
 use Rattle.commit_net.specs.declared.choosing.CommitNets.{CommitNets}
 use Rattle.commit_net.specs.Choosing.{IsOnly, ShowsCommit, Commits}
 use Rattle.read_net.specs.declared.sites.OwnSite.{OwnSite}
-use Rattle.turn_net.specs.Turns.{record_sites, is_at, RecordsAlone}
+use Rattle.turn_net.specs.Actions.{record_sites, is_at, RecordsAlone}
 use Rattle.turn_net.specs.declared.target_net.targets.Target.{Target}
 use Rattle.pipe_core.specs.Machine as machine
 use Rattle.pipe_core.specs.Machine.{Packet, State, site_numbers}
 use Rattle.pipe_net.specs.declared.parts.Part.{Part}
 use Rattle.pipe_net.specs.Machine.{input_of}
 use Rattle.pipe_net.specs.Layout.{Layout, program_of, commit_of}
-use Rattle.pipe_net.specs.Saying.{turn_in}
+use Rattle.pipe_net.specs.Saying.{action_in}
 use Rattle.pipe_net.specs.Standing.{ShowsHeld}
 use Rattle.pipe_net.specs.PipeTurns.Maps.{records_on}
-use Rattle.pipe_net.specs.PipeTurns.Parts.{AreTurnParts}
-use Rattle.pipe_net.specs.PipeTurns.Turning.{site_of, ShowsWritten}
+use Rattle.pipe_net.specs.PipeTurns.Parts.{AreActionParts}
+use Rattle.pipe_net.specs.PipeTurns.Acting.{site_of, ShowsWritten}
 use Rattle.pipe_net.specs.PipeMaps.Parts.{IsOperation, ArePartsOfMap}
 use Rattle.pipe_net.specs.PipeMaps.Premises.{HasMaps, IsMapClock}
 use Rattle.pipe_net.proofs.PipeMaps.ListLemmas.{element, element_is, StandsAt, found_at, kept_at, RiseFrom, numbers_rise, filter_rises, same_place, at_number}
-use Rattle.pipe_net.proofs.PipeMaps.TurnLemmas.{IsCommitted, committed_turn}
+use Rattle.pipe_net.proofs.PipeMaps.ActionLemmas.{IsCommitted, committed_action}
 
 -- record sites on a map rise
 records_rise : (p : ProgramView) (m : ℕ) → RiseFrom 0 (records_on p m)
 records_rise p m = filter_rises _ 0 (record_sites p) (filter_rises _ 0 (numbers 0 (length p.sites)) (numbers_rise 0 (length p.sites)))
 
-module _ (alone : RecordsAlone) (l : Layout) (d : Whole Part) (turn : AreTurnParts l d) (is : HasMaps l d turn) (i : Inputs) (s : State) (ss : Part → Stored) (v : Env (Name Part)) (k : IsMapClock l d turn is.parts i s ss v) (j : ℕ) (x : Packet)
-    (e : turn_in l.build (input_of i) s ≡ machine.Commits j x) where
+module _ (alone : RecordsAlone) (l : Layout) (d : Whole Part) (action : AreActionParts l d) (is : HasMaps l d action) (i : Inputs) (s : State) (ss : Part → Stored) (v : Env (Name Part)) (k : IsMapClock l d action is.parts i s ss v) (j : ℕ) (x : Packet)
+    (e : action_in l.build (input_of i) s ≡ machine.Commits j x) where
   abbrev p : ProgramView
   p = program_of l
 
@@ -48,7 +48,7 @@ module _ (alone : RecordsAlone) (l : Layout) (d : Whole Part) (turn : AreTurnPar
   test n = nat_le s.done n && writes p s.tables.decls x.held n
 
   committing : IsCommitted l.build s j x
-  committing = committed_turn l.build (input_of i) s j x e
+  committing = committed_action l.build (input_of i) s j x e
 
   chosen : (test j ≡ true) × StandsAt (site_numbers p) j
   chosen = found_at test (site_numbers p) j committing.chosen_is
@@ -67,7 +67,7 @@ module _ (alone : RecordsAlone) (l : Layout) (d : Whole Part) (turn : AreTurnPar
 
   -- ---- on a map
   module _ (m : ℕ) (there : m < length l.decls) (on : (site_at p.sites j).map ≡ m) where
-    abbrev parts : ArePartsOfMap l d turn m
+    abbrev parts : ArePartsOfMap l d action m
     parts = is.parts.maps m there
 
     abbrev sites : List ℕ
@@ -82,37 +82,34 @@ module _ (alone : RecordsAlone) (l : Layout) (d : Whole Part) (turn : AreTurnPar
     abbrev operation : CommitNets (Name Part)
     operation = element parts.operations at.place within
 
-    is_operation : IsOperation l d turn m at.place operation
-    is_operation = subst (IsOperation l d turn m at.place) (element_is parts.operations at.place within operation) (parts.each at.place operation within)
+    is_operation : IsOperation l d action m at.place operation
+    is_operation = subst (IsOperation l d action m at.place) (element_is parts.operations at.place within operation) (parts.each at.place operation within)
 
     only : IsOnly v parts.operations at.place
     only n c lt =
         let o = parts.each n c lt in
         let r = element l.records o.place o.there in
         let count = parts.count in
-        let shown = k.turns.chosen o.place (Known 0) r o.there in
+        let shown = k.actions.chosen o.place (Known 0) r o.there in
         ap (number_in v) (o.chosen (Known 0)) ∙ shown ∙ ap (λ t. bit (is_at (site_of t) (get_or l.records o.place r).number)) e ∙ ap (λ a. bit (j == a)) (o.site r) ∙ ap (λ a. bit (a == slice_index sites n)) (sym at.is)
         ∙ ap bit (same_place 0 sites (records_rise p m) n at.place (omega (arith, lt, count)) at.within)
 
-    own : List (OwnSite (Name Part))
-    own = turn.own m
+    own_count : length (action.own m) ≡ length sites
+    own_count = sym (length-map (action.own m) (λ (o : OwnSite (Name Part)). o.site)) ∙ ap length (action.writes m there).sites
 
-    own_count : length (turn.own m) ≡ length sites
-    own_count = sym (length-map (turn.own m) (λ (o : OwnSite (Name Part)). o.site)) ∙ ap length (turn.writes m there).sites
-
-    in_own : at.place < length (turn.own m)
+    in_own : at.place < length (action.own m)
     in_own = let c = own_count in let w = at.within in omega (arith, c, w)
 
     abbrev own_site : OwnSite (Name Part)
-    own_site = element (turn.own m) at.place in_own
+    own_site = element (action.own m) at.place in_own
 
-    own_is : (get_or (turn.own m) at.place own_site).site ≡ j
-    own_is = sym (get_or-map (λ (o : OwnSite (Name Part)). o.site) (turn.own m) at.place own_site 0 in_own) ∙ ap (λ ns. slice_index ns at.place) (turn.writes m there).sites ∙ at.is
+    own_is : (get_or (action.own m) at.place own_site).site ≡ j
+    own_is = sym (get_or-map (λ (o : OwnSite (Name Part)). o.site) (action.own m) at.place own_site 0 in_own) ∙ ap (λ ns. slice_index ns at.place) (action.writes m there).sites ∙ at.is
 
     abbrev target : Target (Name Part)
     target = record { slot = Known 0; makes = Known 0 }
 
-    written : ShowsWritten l s v j x (get_or (turn.targets m) at.place target)
+    written : ShowsWritten l s v j x (get_or (action.targets m) at.place target)
     written = k.targets j x m at.place own_site target e there in_own own_is
 
     site : ShowsSite v p x.held j (operands_of operation.nets.now)

@@ -17,12 +17,12 @@ use Rattle.pipe_net.specs.declared.parts.Part.{Part}
 use Rattle.pipe_net.specs.Parts as part
 use Rattle.pipe_net.specs.Machine.{access_in}
 use Rattle.pipe_net.specs.Layout.{Layout}
-use Rattle.pipe_net.specs.PipeTurns.Parts.{form_at, AreTurnParts}
+use Rattle.pipe_net.specs.PipeTurns.Parts.{form_at, AreActionParts}
 use Rattle.pipe_net.specs.PipeMaps.Parts.{parts_at}
 use Rattle.pipe_net.specs.PipeMaps.Premises.{HasMaps}
 use Rattle.pipe_net.proofs.PipeMaps.AmongLemmas.{map_among}
 
-module _ (l : Layout) (d : Whole Part) (turn : AreTurnParts l d) (is : HasMaps l d turn) (m : ℕ) (there : m < length l.decls) where
+module _ (l : Layout) (d : Whole Part) (action : AreActionParts l d) (is : HasMaps l d action) (m : ℕ) (there : m < length l.decls) where
   pub are_parts : AreParts d (parts_at l m) (is.parts.maps m there).trees
   are_parts =
       let among = λ (at : ℕ) (few : at < 6). map_among l d is.sized is.places m at there few in

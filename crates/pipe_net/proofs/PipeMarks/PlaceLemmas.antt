@@ -1,26 +1,17 @@
--- Which packets stand in the places behind a clock.
+-- Which packets stand in the places after a clock.
 use Rattle.std.specs.Prelude.{nat_lt, if◌then◌else◌, Option, Some, None}
 use Rattle.std.specs.Option.{option_map}
 use Rattle.std.proofs.Common.{◌≡◌, ◌∙◌, ℕ, zero, suc, ◌+◌, Bool, true, false, not, ◌&&◌, List, [], ◌∷◌, ◌++◌, length, drop, get_or, refl, ap, arith}
-use Rattle.block_core.specs.beat_core.declared.beat.Beat.{Beat}
-use Rattle.block_core.specs.beat_core.Ports.{Arrival}
+use Rattle.beat_core.specs.declared.beat.Beat.{Beat}
+use Rattle.beat_core.specs.Ports.{Arrival}
 use Rattle.hazard_core.specs.Tables.{TableState}
 use Rattle.hazard_core.specs.declared.change.Change.{Change}
-use Rattle.pipe_core.specs.Machine.{Packet, State, Input, Build, place_at, inside, no_frame, injected, entered, struck, some_send, swept, moved, newcomer, struck_below, turn_of, worked, work, beat_over, came_with, taken_beat, gathered, scattered, clock}
+use Rattle.pipe_core.specs.Machine.{Packet, State, Input, Build, place_at, inside, no_frame, injected, entered, marked_by, some_send, flushed, moved, newcomer, marked_below, action_of, worked, work, beat_over, came_with, taken_beat, gathered, scattered, clock}
 
 same_packet : (q x : Packet) → Some q ≡ Some x → x ≡ q
 same_packet q x e = cc
 
--- ---- what is swept, moves on or is struck stood in a place before
-
-pub swept_at : (b : Build) (k : ℕ) (xs : List (Option Packet)) (n : ℕ) (x : Packet) → place_at (swept b k xs) n ≡ Some x → place_at xs n ≡ Some x
-swept_at b k [] n x at = at
-swept_at b k (y ∷ xs) zero x at = by (some_send b k (y ∷ xs)) at
-  where
-    by : (c : Bool) → (if c then None else y) ≡ Some x → y ≡ Some x
-    by true at = cc
-    by false at = at
-swept_at b k (y ∷ xs) (suc n) x at = swept_at b (suc k) xs n x at
+-- ---- what is flushed, moves on or is marked stood in a place before
 
 pub moved_at : (b : Build) (t : TableState) (fs : List Arrival) (k n m : ℕ) (x : Option Packet) (ys : List (Option Packet)) (x' : Packet) → k + n ≡ m → place_at (moved b t fs k x ys) n ≡ Some x'
     → (z : Packet) × (c : Arrival) × (place_at (x ∷ ys) n ≡ Some z) × (x' ≡ entered b t m c z)
@@ -39,31 +30,31 @@ newcomer_is b back fs rest z at = by (not back && nat_lt (inside rest) (length f
     by true at = same_packet (injected b.program) z at
     by false at = cc
 
--- a packet behind a change, if there is one
-abbrev pub struck_by : Build → TableState → ℕ → Option Change → Packet → Packet
-struck_by b t k None x = x
-struck_by b t k (Some e) x = struck b t k e x
+-- a packet after a change, if there is one
+abbrev pub marked_by_any : Build → TableState → ℕ → Option Change → Packet → Packet
+marked_by_any b t k None x = x
+marked_by_any b t k (Some e) x = marked_by b t k e x
 
 -- what changes for the packets of a place: those from a limit on see nothing of it
 abbrev pub seen_below : ℕ → ℕ → Change → Option Change
 seen_below to k e = if nat_lt k to then Some e else None
 
-pub struck_at : (to : ℕ) (b : Build) (t : TableState) (e : Change) (k n m : ℕ) (xs : List (Option Packet)) (x' : Packet) → k + n ≡ m → place_at (struck_below to b t e k xs) n ≡ Some x'
-    → (x : Packet) × (place_at xs n ≡ Some x) × (x' ≡ struck_by b t m (seen_below to m e) x)
-struck_at to b t e k n m [] x' is at = cc
-struck_at to b t e k zero m (x ∷ xs) x' is at = by (nat_lt k to) x at same
+pub marked_by_at : (to : ℕ) (b : Build) (t : TableState) (e : Change) (k n m : ℕ) (xs : List (Option Packet)) (x' : Packet) → k + n ≡ m → place_at (marked_below to b t e k xs) n ≡ Some x'
+    → (x : Packet) × (place_at xs n ≡ Some x) × (x' ≡ marked_by_any b t m (seen_below to m e) x)
+marked_by_at to b t e k n m [] x' is at = cc
+marked_by_at to b t e k zero m (x ∷ xs) x' is at = by (nat_lt k to) x at same
   where
     same : nat_lt k to ≡ nat_lt m to
     same = let is : k ≡ m = omega (arith, is) in ap (λ n. nat_lt n to) is
 
-    by : (c : Bool) (x : Option Packet) → (if c then option_map (struck b t k e) x else x) ≡ Some x' → c ≡ nat_lt m to → (y : Packet) × (x ≡ Some y) × (x' ≡ struck_by b t m (seen_below to m e) y)
+    by : (c : Bool) (x : Option Packet) → (if c then option_map (marked_by b t k e) x else x) ≡ Some x' → c ≡ nat_lt m to → (y : Packet) × (x ≡ Some y) × (x' ≡ marked_by_any b t m (seen_below to m e) y)
     by true None at same = cc
     by true (Some y) at same =
         let is : k ≡ m = omega (arith, is) in
-        (y, refl, same_packet (struck b t k e y) x' at ∙ ap (λ n. struck b t n e y) is ∙ ap (λ (c : Bool). struck_by b t m (if c then Some e else None) y) same)
+        (y, refl, same_packet (marked_by b t k e y) x' at ∙ ap (λ n. marked_by b t n e y) is ∙ ap (λ (c : Bool). marked_by_any b t m (if c then Some e else None) y) same)
     by false None at same = cc
-    by false (Some y) at same = (y, refl, same_packet y x' at ∙ ap (λ (c : Bool). struck_by b t m (if c then Some e else None) y) same)
-struck_at to b t e k (suc n) m (x ∷ xs) x' is at = struck_at to b t e (suc k) n m xs x' (omega (arith, is)) at
+    by false (Some y) at same = (y, refl, same_packet y x' at ∙ ap (λ (c : Bool). marked_by_any b t m (if c then Some e else None) y) same)
+marked_by_at to b t e k (suc n) m (x ∷ xs) x' is at = marked_by_at to b t e (suc k) n m xs x' (omega (arith, is)) at
 
 -- ---- beats move no packet
 
@@ -83,6 +74,6 @@ scattered_places s (Some b) = by b.last
     by true = refl
     by false = refl
 
-pub clock_places : (b : Build) (i : Input) (s : State) → (clock b i s).places ≡ (worked b s (some_send b 0 s.places) (swept b 0 s.places) (turn_of b i s (swept b 0 s.places))).places
+pub clock_places : (b : Build) (i : Input) (s : State) → (clock b i s).places ≡ (worked b s (some_send b 0 s.places) (flushed b 0 s.places) (action_of b i s (flushed b 0 s.places))).places
 unfolding clock work
 clock_places b i s = scattered_places (gathered (work b i s) i (beat_over b s i)) (taken_beat s i) ∙ gathered_places (work b i s) i (beat_over b s i)

@@ -1,7 +1,7 @@
 -- The sites at which a packet has read, and their marks.
 use Rattle.std.specs.Prelude.{nat_le, cond, filter, Contains, map as map_list}
 use Rattle.std.specs.List.{list_any}
-use Rattle.std.proofs.Common.{◌≡◌, ◌≢◌, ◌∙◌, ℕ, zero, suc, ◌+◌, ◌==◌, ◌<◌, ◌≤◌, Bool, true, false, true≢false, ◌||◌, All, List, [], ◌∷◌, length, get_or, replicate, refl, sym, ap, arith}
+use Rattle.std.proofs.Common.{◌≡◌, ◌≢◌, ◌∙◌, ℕ, zero, suc, ◌+◌, ◌==◌, ◌<◌, ◌≤◌, Bool, true, false, true≢false, ◌||◌, All, List, [], ◌∷◌, length, get_or, refl, sym, ap, arith}
 use Rattle.std.proofs.lemmas.Bool.{eqb-true, eqb-false, le-leb}
 use Rattle.std.proofs.lemmas.Bool.Decides.{nat_tests}
 use Rattle.std.proofs.lemmas.List.{get_or_past, length-map}
@@ -11,12 +11,13 @@ use Rattle.block_core.specs.net_core.Value.{bit as bit_word}
 use Rattle.hazard_core.specs.cell_core.Cells.{bit}
 use Rattle.hazard_core.specs.cell_core.Rows.{numbers}
 use Rattle.hazard_core.specs.cell_core.Sites.{ProgramView}
+use Rattle.pipe_core.proofs.cell_core_laws.NumberLaws.{numbers_long}
 use Rattle.hazard_core.specs.Tables.{TableState}
 use Rattle.hazard_core.specs.declared.change.Change.{Change}
 use Rattle.hazard_core.specs.declared.pointer.Pointer.TheVariants.{Null, Pending}
-use Rattle.hazard_core.specs.Held.{Held, pointer_in, read_cells}
+use Rattle.hazard_core.specs.StageValues.{StageValues, pointer_in, read_cells}
 use Rattle.hazard_core.specs.Marks.{has_read, is_marked}
-use Rattle.pipe_core.specs.Machine.{Packet, Build, marked_at, struck}
+use Rattle.pipe_core.specs.Machine.{Packet, Build, marked_at, marked_by}
 
 -- ---- bits
 pub bit_value : (c : Bool) → (bit_word c).value ≡ bit c
@@ -34,9 +35,6 @@ or_false true = refl
 or_false false = refl
 
 -- ---- lists
-pub no_more : {X : Type 0} (xs : List X) → length xs ≡ 0 → xs ≡ []
-no_more [] e = refl
-no_more (x ∷ xs) e = absurd (omega (arith, e))
 
 -- what holds of the image of the i-th of several
 pub mapped : {X Y : Type 0} (f : X → Y) (Q : Y → Type 0) (xs : List X) (i : ℕ) (d : Y) → i < length xs → ((x : X) → Q (f (get_or xs i x))) → Q (get_or (map_list f xs) i d)
@@ -96,25 +94,17 @@ pub unread_before : (p : ProgramView) (row : ℕ → ℕ) (k j : ℕ) → has_re
 unread_before p row k j = none_before row k (read_cells p.cells j)
 
 -- ---- marks
-pub no_mark : (n j : ℕ) → get_or (replicate n false) j false ≡ false
-no_mark zero j = refl
-no_mark (suc n) zero = refl
-no_mark (suc n) (suc j) = no_mark n j
-
-numbers_long : (from n : ℕ) → length (numbers from n) ≡ n
-numbers_long from zero = refl
-numbers_long from (suc n) = ap suc (numbers_long (suc from) n)
 
 -- past the last site there is none
-pub struck_past : (b : Build) (t : TableState) (k : ℕ) (e : Change) (x : Packet) (j : ℕ) → length b.program.sites ≤ j → marked_at (struck b t k e x) j ≡ false
-unfolding struck
-struck_past b t k e x j past =
+pub marked_by_past : (b : Build) (t : TableState) (k : ℕ) (e : Change) (x : Packet) (j : ℕ) → length b.program.sites ≤ j → marked_at (marked_by b t k e x) j ≡ false
+unfolding marked_by
+marked_by_past b t k e x j past =
     let mark : ℕ → Bool = λ i. marked_at x i || is_marked b.program b.plan.row t.decls k x.held e i in
     let all = numbers 0 (length b.program.sites) in
     get_or_past (map_list mark all) j false (omega (arith, past, numbers_long 0 (length b.program.sites), length-map all mark))
 
 -- a pointer of an access is that of a cell
-pub access_at : (h : Held) (ks : List ℕ) (n u : ℕ) → get_or (map_list (pointer_in h) ks) n Null ≡ Pending u → (c : ℕ) × (pointer_in h c ≡ Pending u)
+pub access_at : (h : StageValues) (ks : List ℕ) (n u : ℕ) → get_or (map_list (pointer_in h) ks) n Null ≡ Pending u → (c : ℕ) × (pointer_in h c ≡ Pending u)
 access_at h [] n u e = cc
 access_at h (c ∷ ks) zero u e = (c, e)
 access_at h (c ∷ ks) (suc n) u e = access_at h ks n u e

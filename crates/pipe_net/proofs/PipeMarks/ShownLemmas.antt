@@ -17,19 +17,19 @@ use Rattle.hazard_core.specs.cell_core.Rows.{numbers}
 use Rattle.turn_net.specs.cell_nets.declared.operand.Operand.{Operand}
 use Rattle.turn_net.specs.cell_nets.Operands.{number_in}
 use Rattle.read_net.specs.overlay_net.SiteOperands.Sites.{SiteOperands}
-use Rattle.hazard_core.specs.Held.{Held}
+use Rattle.hazard_core.specs.StageValues.{StageValues}
 use Rattle.pipe_core.specs.Machine.{Packet, State, place_at, marked_at}
-use Rattle.read_net.specs.TouchNet.Marking.{shown_due, ShowsGuard, ShowMarks}
-use Rattle.read_net.specs.MarkNet.Standing.{DueOfReads}
-use Rattle.read_net.specs.MarkNet.Due.{some_due}
+use Rattle.read_net.specs.TouchNet.Marking.{shown_reload, ShowsGuard, ShowMarks}
+use Rattle.read_net.specs.MarkNet.Standing.{ReloadOfReads}
+use Rattle.read_net.specs.MarkNet.Reload.{some_reload}
 use Rattle.pipe_net.specs.declared.parts.Part.{Part}
 use Rattle.pipe_net.specs.Parts as part
 use Rattle.pipe_net.specs.Layout.{Layout, IsSized, program_of, last_of, commit_of}
 use Rattle.pipe_net.specs.Relation.{IsStored, read_sites, HoldMarks}
-use Rattle.pipe_net.specs.Saying.{ShowDues}
+use Rattle.pipe_net.specs.Saying.{ShowReloads}
 use Rattle.pipe_net.specs.Standing.{IsAtPlace, ShowsHeld, ShowPackets}
 use Rattle.pipe_net.specs.PipeMarks.Parts.{mark_register, AreMarkParts}
-use Rattle.pipe_net.specs.PipeMarks.Following.{MarksAreFit, DuesAreShown}
+use Rattle.pipe_net.specs.PipeMarks.Following.{MarksAreFit, ReloadsAreShown}
 use Rattle.pipe_net.proofs.PipeMarks.ReadLemmas.{bit_value, same_bit}
 
 -- ---- which parts there are
@@ -48,8 +48,8 @@ module _ (l : Layout) (d : Whole Part) (sized : IsSized l) (are : d.parts ≡ pa
   pub marks_among : (k : ℕ) → k ≤ commit_of l → Among (part.marks l.sizes k) d.parts
   marks_among k w = among (part.marks l.sizes k).number (omega (arith, w, sized.commit))
 
-  pub due_among : (k : ℕ) → k ≤ commit_of l → Among (part.due k) d.parts
-  due_among k w = among (part.due k).number (omega (arith, w, sized.commit))
+  pub reload_among : (k : ℕ) → k ≤ commit_of l → Among (part.reload k) d.parts
+  reload_among k w = among (part.reload k).number (omega (arith, w, sized.commit))
 
   pub by_last : (k : ℕ) → k ≤ commit_of l → k ≤ last_of l
   by_last k w = omega (arith, w, sized.commit, sized.last, sized.small.commit)
@@ -71,13 +71,13 @@ module _ (l : Layout) (d : Whole Part) (sized : IsSized l) (are : d.parts ≡ pa
       mark_value k w n lt c e =
           ap (λ (x : Word). x.value) (sees.register (part.marks l.sizes k) n (marks_among k w) (omega (arith, lt, register_count k w, (parts k w).count)) ∙ e) ∙ bit_value c
 
-      -- ---- which packets are due
-      module _ (s : State) (hold : HoldMarks l s ss) (fit : MarksAreFit l d parts v) (shown : ShowPackets l s v) (due_of_reads : DueOfReads) where
-        guard_shown : (k j : ℕ) (h : Held) → ShowsHeld l v k h → (g : Option (Operand (Name Part))) → ((o : Operand (Name Part)) → g ≡ Some o → (nets : SiteOperands (Name Part)) × IsAtPlace l k j nets × (o ≡ nets.guard)) → ShowsGuard v (program_of l) h j g
+      -- ---- which packets must reload
+      module _ (s : State) (hold : HoldMarks l s ss) (fit : MarksAreFit l d parts v) (shown : ShowPackets l s v) (reload_of_reads : ReloadOfReads) where
+        guard_shown : (k j : ℕ) (h : StageValues) → ShowsHeld l v k h → (g : Option (Operand (Name Part))) → ((o : Operand (Name Part)) → g ≡ Some o → (nets : SiteOperands (Name Part)) × IsAtPlace l k j nets × (o ≡ nets.guard)) → ShowsGuard v (program_of l) h j g
         guard_shown k j h held None at = tt
         guard_shown k j h held (Some o) at = let a = at o refl in ap (number_in v) a.2 ∙ (a.1.shown v h held).guard
 
-        marks_shown : (k : ℕ) (w : k ≤ commit_of l) (x : Packet) → place_at s.places k ≡ Some x → ShowMarks v (program_of l) l.build.plan.row k x.held (marked_at x) (read_sites l k) (parts k w).dues
+        marks_shown : (k : ℕ) (w : k ≤ commit_of l) (x : Packet) → place_at s.places k ≡ Some x → ShowMarks v (program_of l) l.build.plan.row k x.held (marked_at x) (read_sites l k) (parts k w).reloads
         marks_shown k w x at = record {
           each = λ n d lt.
               let a = parts k w in
@@ -85,23 +85,23 @@ module _ (l : Layout) (d : Whole Part) (sized : IsSized l) (are : d.parts ≡ pa
               let nets = a.nets n d (omega (arith, lt, a.known.count)) in
               record {
                 mark = λ off. ap (number_in v) nets.marked ∙ mark_value k w n lt (marked_at x j) ((hold k x w at).each n lt off);
-                guard = guard_shown k j x.held (shown k x (by_last k w) at) (get_or a.dues n d).guard nets.guard;
+                guard = guard_shown k j x.held (shown k x (by_last k w) at) (get_or a.reloads n d).guard nets.guard;
               };
         }
 
-        pub dues_shown : ShowDues l s v
-        dues_shown k w =
+        pub reloads_shown : ShowReloads l s v
+        reloads_shown k w =
             let a = parts k w in
-            let solved = sees.wires (part.due k) (due_among k w) in
-            let says = a.due.says v (fit k w).1 solved in
+            let solved = sees.wires (part.reload k) (reload_among k w) in
+            let says = a.reload.says v (fit k w).1 solved in
             record {
-              says = list_any (shown_due v) a.dues;
+              says = list_any (shown_reload v) a.reloads;
               net = says;
               is = λ x at.
-                  let is = a.due.shows v (program_of l) l.build.plan.row k x.held (read_sites l k) (marked_at x) (fit k w).1 solved a.known (marks_shown k w x at) in
-                  same_bit (list_any (shown_due v) a.dues) (some_due (program_of l) l.build.plan.row k x.held (marked_at x) (read_sites l k)) (sym says ∙ is)
-                  ∙ sym (due_of_reads l.build k x (hold k x w at).others);
+                  let is = a.reload.shows v (program_of l) l.build.plan.row k x.held (read_sites l k) (marked_at x) (fit k w).1 solved a.known (marks_shown k w x at) in
+                  same_bit (list_any (shown_reload v) a.reloads) (some_reload (program_of l) l.build.plan.row k x.held (marked_at x) (read_sites l k)) (sym says ∙ is)
+                  ∙ sym (reload_of_reads l.build k x (hold k x w at).others);
             }
 
-pub dues_are_shown : DueOfReads → DuesAreShown
-dues_are_shown due_of_reads l d sized parts are i s ss v hold sees stored fit shown = dues_shown l d sized are parts ss stored i v sees s hold fit shown due_of_reads
+pub reloads_are_shown : ReloadOfReads → ReloadsAreShown
+reloads_are_shown reload_of_reads l d sized parts are i s ss v hold sees stored fit shown = reloads_shown l d sized are parts ss stored i v sees s hold fit shown reload_of_reads

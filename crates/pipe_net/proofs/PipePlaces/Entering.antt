@@ -1,7 +1,7 @@
 -- What a packet holds that has entered a place, from what it held before.
 use Rattle.std.specs.Prelude.{◌≡◌, ◌≢◌, ℕ, suc, ◌+◌, ◌<◌, ◌≤◌, if◌then◌else◌, Bool, true, false, Some, None, All, List, [], length, slice_index}
 use Rattle.std.proofs.Common.{get_or, ◌⊎◌, inl, inr, refl, sym, ap, ◌∙◌, subst, arith}
-use Rattle.block_core.specs.beat_core.Ports.{Arrival}
+use Rattle.beat_core.specs.Ports.{Arrival}
 use Rattle.hazard_core.specs.xdp_machine.State.{PacketIn}
 use Rattle.block_core.specs.net_core.Value.{Env}
 use Rattle.block_core.specs.declared.name.Name.{Name}
@@ -11,7 +11,7 @@ use Rattle.hazard_core.specs.cell_core.Cells.{cell_at, is_read, is_heavy, bit, v
 use Rattle.hazard_core.specs.cell_core.Formed.{AreInputs}
 use Rattle.hazard_core.specs.cell_core.Rows.{greatest}
 use Rattle.hazard_core.specs.Tables.{TableState, table_at}
-use Rattle.hazard_core.specs.Held.{Held, held_value, pointer_in}
+use Rattle.hazard_core.specs.StageValues.{StageValues, stage_value, pointer_in}
 use Rattle.hazard_core.specs.Keeping.{AreAlike}
 use Rattle.hazard_core.specs.Rows.{with_row, nothing_held}
 use Rattle.hazard_core.specs.HeldRows.Fits.{FitsRows, RowsFit}
@@ -44,7 +44,7 @@ unfolding entered
 entered_held b t k a x = refl
 
 -- ---- a row is taken in
-pub record TakesRow (l : Layout) (k : ℕ) (t : TableState) (packet : PacketIn) (before h : Held) : Type 0 where
+pub record TakesRow (l : Layout) (k : ℕ) (t : TableState) (packet : PacketIn) (before h : StageValues) : Type 0 where
   pub alike : AreAlike (program_of l) l.build.plan.row k before h
   pub fits : FitsRows (program_of l) l.decls l.build.plan.row l.flags most_slots (suc k) h
   pub made : IsRowMade (program_of l) l.build.plan.row k t packet h
@@ -53,7 +53,7 @@ module _ (l : Layout) (laid : IsLaidOut l) (rows : RowsFit) (is_made : RowIsMade
   pub are_laid : AreLaid (program_of l) l.build.plan.row
   are_laid = record { formed = laid.planned.formed; below = λ c j lt e. (laid.staged.reads c j lt e).below }
 
-  pub takes_row : (k : ℕ) (t : TableState) (packet : PacketIn) (before h : Held) → t.decls ≡ l.decls → ((m : ℕ) → length (table_at t m) ≤ most_slots) → FitsRows (program_of l) l.decls l.build.plan.row l.flags most_slots k before
+  pub takes_row : (k : ℕ) (t : TableState) (packet : PacketIn) (before h : StageValues) → t.decls ≡ l.decls → ((m : ℕ) → length (table_at t m) ≤ most_slots) → FitsRows (program_of l) l.decls l.build.plan.row l.flags most_slots k before
       → h ≡ with_row (program_of l) l.build.plan.row k t packet before → TakesRow l k t packet before h
   takes_row k t packet before h decls short fits e =
       let p = program_of l in
@@ -83,7 +83,7 @@ source_row kept Time ins s e = record { none = e; light = refl; plain = refl }
 source_row kept op ins s e = absurd s
 
 module _ (l : Layout) (laid : IsLaidOut l) (v : Env (Name Part)) where
-  pub sources_made : (t : TableState) (a : Arrival) (before h : Held) → TakesRow l 0 t (packet_of a) before h → All (λ k. held_value h k ≡ value (packet_in a) (held_value h) (cell_at (cells_of l) k)) l.sources
+  pub sources_made : (t : TableState) (a : Arrival) (before h : StageValues) → TakesRow l 0 t (packet_of a) before h → All (λ k. stage_value h k ≡ value (packet_in a) (stage_value h) (cell_at (cells_of l) k)) l.sources
   sources_made t a before h takes n dflt lt =
       let c = get_or l.sources n dflt in
       let s = laid.sources n dflt lt in
@@ -91,15 +91,15 @@ module _ (l : Layout) (laid : IsLaidOut l) (v : Env (Name Part)) where
       let first : l.build.plan.row c ≡ 0 = laid.planned.rows.each c s.within ∙ (λ i. greatest l.build.plan.row (is.none i) + bit (is.light i)) in
       made_value (program_of l) l.build.plan.row 0 t (packet_of a) h takes.made c s.within first is.plain
 
-  pub constants_held : (k : ℕ) (h : Held) → FitsRows (program_of l) l.decls l.build.plan.row l.flags most_slots (suc k) h → HoldsConstants (program_of l) l.build.plan.row (suc k) h → Holds v l.constants (held_value h)
+  pub constants_held : (k : ℕ) (h : StageValues) → FitsRows (program_of l) l.decls l.build.plan.row l.flags most_slots (suc k) h → HoldsConstants (program_of l) l.build.plan.row (suc k) h → Holds v l.constants (stage_value h)
   constants_held k h fits constants =
       constants_hold (program_of l) l.decls l.build.plan.row l.flags most_slots (suc k) h laid.early fits (omega arith) constants v l.constants laid.constants
 
-  pub plain_held : (k : ℕ) (h : Held) → FitsRows (program_of l) l.decls l.build.plan.row l.flags most_slots (suc k) h → HoldsPointers v (l.pointers 0) (pointer_in h)
+  pub plain_held : (k : ℕ) (h : StageValues) → FitsRows (program_of l) l.decls l.build.plan.row l.flags most_slots (suc k) h → HoldsPointers v (l.pointers 0) (pointer_in h)
   plain_held k h fits = subst (λ t. HoldsPointers v t (pointer_in h)) (sym laid.plain) (plain_holds v l.flags (pointer_in h) fits.plain)
 
   -- ---- and before each later one
-  module _ (k : ℕ) (q : k ≤ last_of l) (before h : Held) (shows : ShowsHeld l v k before) (lists : AreLists (program_of l) laid.plan laid.needed laid.parts l.flags) (alike : AreAlike (program_of l) l.build.plan.row (suc k) before h)
+  module _ (k : ℕ) (q : k ≤ last_of l) (before h : StageValues) (shows : ShowsHeld l v k before) (lists : AreLists (program_of l) laid.plan laid.needed laid.parts l.flags) (alike : AreAlike (program_of l) l.build.plan.row (suc k) before h)
       (fits : FitsRows (program_of l) l.decls l.build.plan.row l.flags most_slots (suc (suc k)) h) where
     planned_alike : AreAlike (program_of l) (slice_index laid.plan.rows) (suc k) before h
     planned_alike = subst (λ r. AreAlike (program_of l) r (suc k) before h) laid.row alike
@@ -107,10 +107,10 @@ module _ (l : Layout) (laid : IsLaidOut l) (v : Env (Name Part)) where
     planned_fits : FitsRows (program_of l) l.decls (slice_index laid.plan.rows) l.flags most_slots (suc (suc k)) h
     planned_fits = subst (λ r. FitsRows (program_of l) l.decls r l.flags most_slots (suc (suc k)) h) laid.row fits
 
-    pub later_holds : HoldsConstants (program_of l) l.build.plan.row (suc (suc k)) h → Holds v (l.table (suc k)) (held_value h)
+    pub later_holds : HoldsConstants (program_of l) l.build.plan.row (suc (suc k)) h → Holds v (l.table (suc k)) (stage_value h)
     later_holds constants =
         let b = laid.behind k q in
-        subst (λ t. Holds v t (held_value h)) (sym b.table)
+        subst (λ t. Holds v t (stage_value h)) (sym b.table)
         (next_table_holds (part.place l.sizes k) (program_of l) l.decls laid.plan laid.needed laid.parts l.flags l.bits most_slots k b.tables v before b.stand (shows_packet l laid k q v before shows) lists h planned_alike (suc (suc k)) planned_fits
         (early_rows l laid k q v before shows) (omega arith) (subst (λ r. HoldsConstants (program_of l) r (suc (suc k)) h) laid.row constants))
 

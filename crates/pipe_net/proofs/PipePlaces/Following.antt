@@ -2,7 +2,7 @@
 use Rattle.std.specs.Prelude.{◌≡◌, ℕ, zero, suc, ◌+◌, ◌^◌, ◌<◌, ◌≤◌, nat_lt, not, ◌&&◌, true, false, Option, Some, All, List, ◌∷◌, length, drop}
 use Rattle.std.proofs.Common.{get_or, refl, sym, ap, ◌∙◌, subst, arith}
 use Rattle.std.proofs.lemmas.List.{nil_from_length}
-use Rattle.block_core.specs.beat_core.Ports.{Arrival}
+use Rattle.beat_core.specs.Ports.{Arrival}
 use Rattle.hazard_core.specs.xdp_maps.State.{MapState}
 use Rattle.block_core.specs.net_core.declared.ports.Inputs.{Inputs}
 use Rattle.block_core.specs.net_core.Ports.{words_of}
@@ -11,7 +11,7 @@ use Rattle.block_core.specs.net_core.Clock.{Stored, done}
 use Rattle.block_core.specs.declared.name.Name.{Name}
 use Rattle.block_core.specs.Blocks.{Whole, Among, first_of}
 use Rattle.block_core.specs.Parts.{Sees}
-use Rattle.hazard_core.specs.Held.{held_value, pointer_in}
+use Rattle.hazard_core.specs.StageValues.{stage_value, pointer_in}
 use Rattle.hazard_core.specs.declared.change.Change.{Change}
 use Rattle.hazard_core.specs.Commits.{change_by, host_change}
 use Rattle.hazard_core.specs.HeldRows.Fits.{FitsRows, BeginsFit, RowsFit}
@@ -23,19 +23,20 @@ use Rattle.stage_net.specs.row_net.SitePlace.SitePlace.{site_widths, site_words}
 use Rattle.stage_net.specs.SiteTable.Constants.{HoldsConstants}
 use Rattle.stage_net.specs.SiteTable.Staged.{StagesArePlaced, ListsAreFormed, AreLists, IsMadeAt}
 use Rattle.stage_net.specs.Rows.{ShowsRow}
-use Rattle.pipe_core.specs.Machine.{Packet, State, Input, Build, Turn, Commits, Writes, Moves, place_at, inside, no_frame, packet_of, some_send, swept, struck_below, newcomer, entered, moved, worked, new_state, clock}
+use Rattle.pipe_core.specs.Machine.{Packet, State, Input, Build, Action, Commits, Writes, Moves, place_at, inside, no_frame, packet_of, some_send, flushed, marked_below, newcomer, entered, moved, worked, new_state, clock}
 use Rattle.pipe_core.specs.History.{Trace, next, IsInOrder}
 use Rattle.pipe_core.specs.Computed.{Computes, PlacesCompute, IsComputed, KeepsComputed}
+use Rattle.pipe_core.proofs.FlushLaws.{flushed_length, flushed_at}
 use Rattle.pipe_net.specs.declared.parts.Part.{Part}
 use Rattle.pipe_net.specs.Parts as part
 use Rattle.pipe_net.specs.Parts.{parts_of}
 use Rattle.pipe_net.specs.Machine.{input_of}
 use Rattle.pipe_net.specs.Layout.{Layout, IsSized, program_of, cells_of, last_of}
 use Rattle.pipe_net.specs.Relation.{IsStored, most_slots, HoldPackets, HoldMaps}
-use Rattle.pipe_net.specs.Saying.{moves, turn_in, moves_in}
+use Rattle.pipe_net.specs.Saying.{moves, action_in, moves_in}
 use Rattle.pipe_net.specs.PipePlaces.Parts.{advances, IsPlaceOf, AreStageParts, PlacesAreFit}
 use Rattle.pipe_net.specs.PipePlaces.Following.{AreServed, ShowsNewcomer}
-use Rattle.pipe_net.proofs.PipePlaces.Places.{none_some, none_at, computes_at, length_swept, kept_was, WasHeld, struck_was, HasEntered, entered_at, clocked_places}
+use Rattle.pipe_net.proofs.PipePlaces.Places.{none_some, none_at, computes_at, WasHeld, marked_by_was, HasEntered, entered_at, clocked_places}
 use Rattle.pipe_net.proofs.PipePlaces.Showing.{computed_constants, place_among, packets_shown, register_count, register_fits}
 use Rattle.pipe_net.proofs.PipePlaces.Values.{CellLaws, made_values}
 use Rattle.pipe_net.proofs.PipePlaces.Reading.{past_first, by_commit, shows_reads}
@@ -65,7 +66,7 @@ module _ (laws : RowLaws) (l : Layout) (d : Whole Part) (sized : IsSized l) (who
   b = l.build
 
   abbrev rest : List (Option Packet)
-  rest = swept b 0 s.places
+  rest = flushed b 0 s.places
 
   abbrev after : State
   after = clock b (input_of i) s
@@ -77,18 +78,18 @@ module _ (laws : RowLaws) (l : Layout) (d : Whole Part) (sized : IsSized l) (who
   HoldNext = HoldPackets l after new_stored
 
   -- ---- packets stay
-  module _ (still : v.net (advances l) ≡ bit false) (to : ℕ) (e : Change) (same : after.places ≡ struck_below to b s.tables e 0 rest) where
+  module _ (still : v.net (advances l) ≡ bit false) (to : ℕ) (e : Change) (same : after.places ≡ marked_below to b s.tables e 0 rest) where
     was_held : (k : ℕ) (y : Packet) → place_at after.places k ≡ Some y → WasHeld s.places k y
     was_held k y at =
-        let w = struck_was to b s.tables e 0 rest k y (ap (λ ps. place_at ps k) (sym same) ∙ at) in
-        record { packet = w.packet; was = kept_was b 0 s.places k w.packet w.was; held = w.held }
+        let w = marked_by_was to b s.tables e 0 rest k y (ap (λ ps. place_at ps k) (sym same) ∙ at) in
+        record { packet = w.packet; was = flushed_at b 0 s.places k w.packet w.was; held = w.held }
 
     pub packets_stay : HoldNext
     packets_stay = record {
       each = λ k q y at.
           let w = was_held k y at in
           ap (λ (x : Stored). x.registers) ((whole.places k q).block.stays v (ss (part.place l.sizes k)) still) ∙ holds.each k q w.packet w.was
-          ∙ ap (λ h. site_words (cells_of l) l.bits (held_value h) (pointer_in h) (l.held k) (l.held_pointers k)) (sym w.held);
+          ∙ ap (λ h. site_words (cells_of l) l.bits (stage_value h) (pointer_in h) (l.held k) (l.held_pointers k)) (sym w.held);
       fits = λ k y q at. let w = was_held k y at in subst (FitsRows (program_of l) l.decls b.plan.row l.flags most_slots (suc k)) (sym w.held) (holds.fits k w.packet q w.was);
     }
 
@@ -133,18 +134,18 @@ module _ (laws : RowLaws) (l : Layout) (d : Whole Part) (sized : IsSized l) (who
           })
 
       -- the registers take what the packet holds, where what stands before the place does
-      pub registers_take : ShowsRow v (program_of l) b.plan.row k block.nets s.tables x.held y.held → Holds v (l.table k) (held_value y.held) → HoldsPointers v (l.pointers k) (pointer_in y.held)
-          → (new_stored place).registers ≡ site_words (cells_of l) l.bits (held_value y.held) (pointer_in y.held) (l.held k) (l.held_pointers k)
+      pub registers_take : ShowsRow v (program_of l) b.plan.row k block.nets s.tables x.held y.held → Holds v (l.table k) (stage_value y.held) → HoldsPointers v (l.pointers k) (pointer_in y.held)
+          → (new_stored place).registers ≡ site_words (cells_of l) l.bits (stage_value y.held) (pointer_in y.held) (l.held k) (l.held_pointers k)
       registers_take row cells pointers =
           let own = packet_of (get_or after.frames (inside (drop (suc k) after.places)) no_frame) in
           let made = subst (λ ks. All (IsMadeAt (program_of l) whole.laid.plan k) ks) (sym (whole.laid.lists k).made) (lists.made k) in
           block.block.next v (ss place) s.tables (packet_of a) x.held y.held goes has_widths (fit.places k q) (sees.wires place (place_among l d sized parts i ss v sees k q)) row takes.made
           (made_values laws.cells b whole.laid.planned k s.tables (packet_of a) own y.held takes.made (computes_then k y at) takes.fits.widths whole.laid.plan (l.made k) whole.laid.row made) cells pointers
-          ∙ ap (λ n. site_words (cells_of l) n (held_value y.held) (pointer_in y.held) (l.held k) (l.held_pointers k)) block.bits
+          ∙ ap (λ n. site_words (cells_of l) n (stage_value y.held) (pointer_in y.held) (l.held k) (l.held_pointers k)) block.bits
 
     -- what place k holds then
     record HoldsNext (k : ℕ) (y : Packet) : Type 0 where
-      registers : (new_stored (part.place l.sizes k)).registers ≡ site_words (cells_of l) l.bits (held_value y.held) (pointer_in y.held) (l.held k) (l.held_pointers k)
+      registers : (new_stored (part.place l.sizes k)).registers ≡ site_words (cells_of l) l.bits (stage_value y.held) (pointer_in y.held) (l.held k) (l.held_pointers k)
       fits : FitsRows (program_of l) l.decls b.plan.row l.flags most_slots (suc k) y.held
 
     -- the first place takes a newcomer
@@ -160,7 +161,7 @@ module _ (laws : RowLaws) (l : Layout) (d : Whole Part) (sized : IsSized l) (who
           registers =
               registers_take 0 q y at a x en.is before
               (record { alike = taken.alike; reads = λ c j lt here e. let late = past_first l whole.laid c j lt e in absurd (omega (arith, late, here)) })
-              (whole.enters v a (held_value y.held) fit.sources (sees.wires place (place_among l d sized parts i ss v sees 0 q)) (shown x en.was) (sources_made l whole.laid v s.tables a x.held y.held taken)
+              (whole.enters v a (stage_value y.held) fit.sources (sees.wires place (place_among l d sized parts i ss v sees 0 q)) (shown x en.was) (sources_made l whole.laid v s.tables a x.held y.held taken)
               (constants_held l whole.laid v 0 y.held taken.fits (constants 0 q y at a x en.is before)))
               (plain_held l whole.laid v 0 y.held taken.fits);
           fits = taken.fits;
@@ -172,7 +173,7 @@ module _ (laws : RowLaws) (l : Layout) (d : Whole Part) (sized : IsSized l) (who
         let a = get_or s.frames (inside (drop (suc k) rest)) no_frame in
         let x = en.packet in
         let here : k ≤ last_of l = omega (arith, q) in
-        let stood = kept_was b 0 s.places k x en.was in
+        let stood = flushed_at b 0 s.places k x en.was in
         let shows = packets_shown l d sized parts i ss v sees t computed holds k x here stood in
         let taken = takes (suc k) q y at a x en.is shows.fits in
         record {
@@ -193,7 +194,7 @@ module _ (laws : RowLaws) (l : Layout) (d : Whole Part) (sized : IsSized l) (who
       entering : (k : ℕ) → k ≤ last_of l → (y : Packet) → place_at after.places k ≡ Some y → HasEntered b s.tables k (get_or s.frames (inside (drop k rest)) no_frame) (place_at (new ∷ rest) k) y
       entering k q y at =
           let long = order.places in
-          let kept = length_swept b 0 s.places in
+          let kept = flushed_length b 0 s.places in
           entered_at b s.tables s.frames new rest k y (omega (arith, long, kept, q)) (ap (λ ps. place_at ps k) (sym same) ∙ at)
 
       holds_next : (k : ℕ) → k ≤ last_of l → (y : Packet) → place_at after.places k ≡ Some y → HoldsNext k y
@@ -205,15 +206,15 @@ module _ (laws : RowLaws) (l : Layout) (d : Whole Part) (sized : IsSized l) (who
 
   -- ---- the whole clock
   module _ (fit : PlacesAreFit l d whole v) (served : AreServed l s) (says : v.net (advances l) ≡ bit (moves_in b (input_of i) s)) (shown : ShowsNewcomer l s v) where
-    by_turn : (turn : Turn) → turn_in b (input_of i) s ≡ turn → HoldNext
-    by_turn (Commits j x) e =
+    by_action : (action : Action) → action_in b (input_of i) s ≡ action → HoldNext
+    by_action (Commits j x) e =
         packets_stay (says ∙ ap (λ u. bit (moves u)) e) b.plan.commit (change_by b.program s.tables s.taken x.held j) (clocked_places b (input_of i) s ∙ ap (λ u. (worked b s (some_send b 0 s.places) rest u).places) e)
-    by_turn (Writes a n) e =
+    by_action (Writes a n) e =
         packets_stay (says ∙ ap (λ u. bit (moves u)) e) (suc b.plan.commit) (host_change s.tables a) (clocked_places b (input_of i) s ∙ ap (λ u. (worked b s (some_send b 0 s.places) rest u).places) e)
-    by_turn Moves e = packets_move fit served (says ∙ ap (λ u. bit (moves u)) e) shown (clocked_places b (input_of i) s ∙ ap (λ u. (worked b s (some_send b 0 s.places) rest u).places) e)
+    by_action Moves e = packets_move fit served (says ∙ ap (λ u. bit (moves u)) e) shown (clocked_places b (input_of i) s ∙ ap (λ u. (worked b s (some_send b 0 s.places) rest u).places) e)
 
     pub packets_follow : HoldNext
-    packets_follow = by_turn (turn_in b (input_of i) s) refl
+    packets_follow = by_action (action_in b (input_of i) s) refl
 
 -- before the first clock no place holds a packet
 pub packets_begin : (l : Layout) (d : Whole Part) (maps : MapState) → HoldPackets l (new_state l.build maps) (λ p. first_of (d.block p))

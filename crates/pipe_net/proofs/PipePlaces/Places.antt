@@ -1,14 +1,14 @@
--- Places of the machine: which packets stand where, before a clock and behind it.
+-- Places of the machine: which packets stand where, before a clock and after it.
 use Rattle.std.specs.Prelude.{◌≡◌, ℕ, zero, suc, ◌+◌, ◌<◌, nat_lt, if◌then◌else◌, Bool, true, false, Option, Some, None, List, [], ◌∷◌, length, drop, replicate}
 use Rattle.std.specs.Option.{option_map}
 use Rattle.std.proofs.Common.{get_or, refl, sym, ap, ◌∙◌, subst, arith}
-use Rattle.block_core.specs.beat_core.declared.beat.Beat.{Beat}
-use Rattle.block_core.specs.beat_core.Ports.{Arrival}
+use Rattle.beat_core.specs.declared.beat.Beat.{Beat}
+use Rattle.beat_core.specs.Ports.{Arrival}
 use Rattle.hazard_core.specs.Tables.{TableState}
 use Rattle.hazard_core.specs.declared.change.Change.{Change}
-use Rattle.pipe_core.specs.Machine.{Packet, State, Input, Build, place_at, inside, no_frame, packet_of, some_send, swept, struck, struck_below, enters, entered, moved, worked, work, gathered, scattered, beat_over, taken_beat, clock}
+use Rattle.pipe_core.specs.Machine.{Packet, State, Input, Build, place_at, inside, no_frame, packet_of, some_send, flushed, marked_by, marked_below, enters, entered, moved, worked, work, gathered, scattered, beat_over, taken_beat, clock}
 use Rattle.pipe_core.specs.Computed.{Computes, PlacesCompute}
-use Rattle.pipe_net.specs.Saying.{turn_in}
+use Rattle.pipe_net.specs.Saying.{action_in}
 
 pub same_some : {X : Type 0} (x y : X) → Some x ≡ Some y → x ≡ y
 same_some x y e = cc
@@ -41,37 +41,26 @@ computes_at b fs k (Some y ∷ xs) h (suc j) x e =
     let n : suc k + j ≡ k + suc j = omega arith in
     subst (λ m. Computes b (packet_of (get_or fs (inside (drop (suc j) xs)) no_frame)) (suc m) x.held) n (computes_at b fs (suc k) xs h.1 j x e)
 
--- ---- what is kept
-pub length_swept : (b : Build) (k : ℕ) (xs : List (Option Packet)) → length (swept b k xs) ≡ length xs
-length_swept b k [] = refl
-length_swept b k (x ∷ xs) = ap suc (length_swept b (suc k) xs)
-
--- a packet that is kept stands where it stood
-pub kept_was : (b : Build) (k : ℕ) (xs : List (Option Packet)) (j : ℕ) (x : Packet) → place_at (swept b k xs) j ≡ Some x → place_at xs j ≡ Some x
-kept_was b k [] j x e = none_some x e
-kept_was b k (y ∷ ys) zero x e = by_bool (λ q. (if q then None else y) ≡ Some x → y ≡ Some x) (some_send b k (y ∷ ys)) (λ f. none_some x f) (λ f. f) e
-kept_was b k (y ∷ ys) (suc j) x e = kept_was b (suc k) ys j x e
-
 -- ---- marks change nothing of what is held
 pub record WasHeld (xs : List (Option Packet)) (j : ℕ) (y : Packet) : Type 0 where
   pub packet : Packet
   pub was : place_at xs j ≡ Some packet
   pub held : y.held ≡ packet.held
 
-struck_held : (b : Build) (t : TableState) (k : ℕ) (e : Change) (x : Packet) → (struck b t k e x).held ≡ x.held
-unfolding struck
-struck_held b t k e x = refl
+marked_by_held : (b : Build) (t : TableState) (k : ℕ) (e : Change) (x : Packet) → (marked_by b t k e x).held ≡ x.held
+unfolding marked_by
+marked_by_held b t k e x = refl
 
-first_struck : (b : Build) (t : TableState) (k : ℕ) (e : Change) (q : Bool) (x : Option Packet) (ys : List (Option Packet)) (y : Packet) → (if q then option_map (struck b t k e) x else x) ≡ Some y → WasHeld (x ∷ ys) 0 y
-first_struck b t k e true None ys y s = none_some y s
-first_struck b t k e true (Some x) ys y s = record { packet = x; was = refl; held = sym (ap (λ (z : Packet). z.held) (same_some (struck b t k e x) y s)) ∙ struck_held b t k e x }
-first_struck b t k e false None ys y s = none_some y s
-first_struck b t k e false (Some x) ys y s = record { packet = y; was = s; held = refl }
+first_marked_by : (b : Build) (t : TableState) (k : ℕ) (e : Change) (q : Bool) (x : Option Packet) (ys : List (Option Packet)) (y : Packet) → (if q then option_map (marked_by b t k e) x else x) ≡ Some y → WasHeld (x ∷ ys) 0 y
+first_marked_by b t k e true None ys y s = none_some y s
+first_marked_by b t k e true (Some x) ys y s = record { packet = x; was = refl; held = sym (ap (λ (z : Packet). z.held) (same_some (marked_by b t k e x) y s)) ∙ marked_by_held b t k e x }
+first_marked_by b t k e false None ys y s = none_some y s
+first_marked_by b t k e false (Some x) ys y s = record { packet = y; was = s; held = refl }
 
-pub struck_was : (to : ℕ) (b : Build) (t : TableState) (e : Change) (k : ℕ) (xs : List (Option Packet)) (j : ℕ) (y : Packet) → place_at (struck_below to b t e k xs) j ≡ Some y → WasHeld xs j y
-struck_was to b t e k [] j y s = none_some y s
-struck_was to b t e k (x ∷ xs) zero y s = first_struck b t k e (nat_lt k to) x xs y s
-struck_was to b t e k (x ∷ xs) (suc j) y s = let h = struck_was to b t e (suc k) xs j y s in record { packet = h.packet; was = h.was; held = h.held }
+pub marked_by_was : (to : ℕ) (b : Build) (t : TableState) (e : Change) (k : ℕ) (xs : List (Option Packet)) (j : ℕ) (y : Packet) → place_at (marked_below to b t e k xs) j ≡ Some y → WasHeld xs j y
+marked_by_was to b t e k [] j y s = none_some y s
+marked_by_was to b t e k (x ∷ xs) zero y s = first_marked_by b t k e (nat_lt k to) x xs y s
+marked_by_was to b t e k (x ∷ xs) (suc j) y s = let h = marked_by_was to b t e (suc k) xs j y s in record { packet = h.packet; was = h.was; held = h.held }
 
 -- ---- moving on
 moved_at : (b : Build) (t : TableState) (fs : List Arrival) (k : ℕ) (x : Option Packet) (ys : List (Option Packet)) (j : ℕ) → j < length ys
@@ -108,11 +97,11 @@ scattered_places : (g : State) (taken : Option Beat) → (scattered g taken).pla
 scattered_places g None = refl
 scattered_places g (Some x) = by_bool (λ (q : Bool). (scattered g (Some (record x { last = q }))).places ≡ g.places) x.last refl refl
 
--- the places behind a clock
-pub clocked_places : (b : Build) (i : Input) (s : State) → (clock b i s).places ≡ (worked b s (some_send b 0 s.places) (swept b 0 s.places) (turn_in b i s)).places
+-- the places after a clock
+pub clocked_places : (b : Build) (i : Input) (s : State) → (clock b i s).places ≡ (worked b s (some_send b 0 s.places) (flushed b 0 s.places) (action_in b i s)).places
 unfolding clock work
 clocked_places b i s =
-    let w = worked b s (some_send b 0 s.places) (swept b 0 s.places) (turn_in b i s) in
+    let w = worked b s (some_send b 0 s.places) (flushed b 0 s.places) (action_in b i s) in
     scattered_places (gathered w i (beat_over b s i)) (taken_beat s i) ∙ gathered_places w i (beat_over b s i)
 
 -- and its tables
@@ -124,8 +113,8 @@ scattered_tables : (g : State) (taken : Option Beat) → (scattered g taken).tab
 scattered_tables g None = refl
 scattered_tables g (Some x) = by_bool (λ (q : Bool). (scattered g (Some (record x { last = q }))).tables ≡ g.tables) x.last refl refl
 
-pub clocked_tables : (b : Build) (i : Input) (s : State) → (clock b i s).tables ≡ (worked b s (some_send b 0 s.places) (swept b 0 s.places) (turn_in b i s)).tables
+pub clocked_tables : (b : Build) (i : Input) (s : State) → (clock b i s).tables ≡ (worked b s (some_send b 0 s.places) (flushed b 0 s.places) (action_in b i s)).tables
 unfolding clock work
 clocked_tables b i s =
-    let w = worked b s (some_send b 0 s.places) (swept b 0 s.places) (turn_in b i s) in
+    let w = worked b s (some_send b 0 s.places) (flushed b 0 s.places) (action_in b i s) in
     scattered_tables (gathered w i (beat_over b s i)) (taken_beat s i) ∙ gathered_tables w i (beat_over b s i)

@@ -1,5 +1,5 @@
 -- What stands at a place for the reads of its row.
-use Rattle.std.specs.Prelude.{◌≡◌, ℕ, zero, suc, ◌+◌, ◌*◌, ◌/◌, ◌%◌, ◌^◌, ◌<◌, ◌≤◌, max, if◌then◌else◌, Bool, true, Some, List, [], ◌∷◌, length, slice_index, filter, map as map_list, replicate, Contains}
+use Rattle.std.specs.Prelude.{◌≡◌, ℕ, zero, suc, ◌+◌, ◌*◌, ◌/◌, ◌%◌, ◌^◌, ◌<◌, ◌≤◌, Bool, true, Some, List, [], ◌∷◌, length, slice_index, filter, map as map_list, replicate, Contains}
 use Rattle.std.proofs.Common.{cond, get_or, refl, sym, ap, ◌∙◌, subst, arith}
 use Rattle.std.proofs.Math.Nat.{mod-eq_of_lt}
 use Rattle.std.proofs.lemmas.List.{length-map, length-replicate, get_or_default}
@@ -17,15 +17,16 @@ use Rattle.hazard_core.specs.xdp_maps.declared.decl.MapKind.{MapKind}
 use Rattle.hazard_core.specs.xdp_maps.declared.decl.MapKind.TheVariants.{Hash, Array}
 use Rattle.hazard_core.specs.cell_core.declared.operator.Operator.{Operator}
 use Rattle.hazard_core.specs.cell_core.declared.operator.Operator.TheVariants.{Found, Answer}
-use Rattle.hazard_core.specs.cell_core.Cells.{CellView, cell_at, site_in, is_read, is_heavy, bits_from}
+use Rattle.hazard_core.specs.cell_core.Cells.{cell_at, site_in, is_read, is_heavy, bits_from}
 use Rattle.hazard_core.specs.cell_core.Rows.{numbers}
 use Rattle.hazard_core.specs.cell_core.Sites.{ProgramView, site_at}
+use Rattle.pipe_core.proofs.cell_core_laws.NumberLaws.{numbers_long}
 use Rattle.turn_net.specs.cell_nets.declared.operand.Operand.{Operand}
 use Rattle.turn_net.specs.cell_nets.Operands.{number_in}
 use Rattle.hazard_core.specs.declared.slot.Slot.{Slot}
 use Rattle.hazard_core.specs.declared.pointer.Pointer.TheVariants.{InSlot}
 use Rattle.hazard_core.specs.Tables.{TableState, decl_of, table_at, slot_at, used_count}
-use Rattle.hazard_core.specs.Held.{Held, access_pointer}
+use Rattle.hazard_core.specs.StageValues.{StageValues, access_pointer}
 use Rattle.hazard_core.specs.Commits.{word_count, word_at as byte_word}
 use Rattle.read_net.specs.array_net.Words.{HoldsWords}
 use Rattle.read_net.specs.array_net.Hosts.{SeesMemories}
@@ -37,6 +38,7 @@ use Rattle.commit_net.specs.MapBlock.Stored.{StoresMap, StoresAs, first_value_as
 use Rattle.read_net.specs.overlay_net.SiteOperands.Pointers.{pointer_number}
 use Rattle.read_net.specs.overlay_net.SiteOperands.Sites.{SiteOperands, ShowsSite, operands_of}
 use Rattle.pipe_core.specs.row_plan.Plan.{read_row}
+use Rattle.row_plan.proofs.RowLaws.{read_row_above}
 use Rattle.read_net.specs.overlay_net.ValueNet.Words.{answers_number, access_start}
 use Rattle.read_net.specs.declared.sites.MapNets.{MapNets}
 use Rattle.read_net.specs.Sites.{ShowsTable}
@@ -61,15 +63,6 @@ reads_site (Found i) j e = (refl, refl)
 reads_site (Answer i) j e = (refl, refl)
 reads_site op j e = cc
 
-most_read : (row : ℕ → ℕ) (k : ℕ) (cs : List CellView) (i : ℕ) → i < length cs → is_read (cell_at cs i).op ≡ true → row (k + i) ≤ read_row row k cs
-most_read row k [] i lt e = absurd (omega (arith, lt))
-most_read row k (c ∷ cs) zero lt e = let z : k + 0 ≡ k = omega arith in rw (z, e) (omega arith)
-most_read row k (c ∷ cs) (suc i) lt e =
-    let h = most_read row (suc k) cs i (omega (arith, lt)) e in
-    let z : k + suc i ≡ suc k + i = omega arith in
-    let low : row (k + suc i) ≤ read_row row (suc k) cs = rw z h in
-    by_bool (λ q. row (k + suc i) ≤ (if q then max (row k) (read_row row (suc k) cs) else read_row row (suc k) cs)) (is_read c.op) (omega (arith, low)) low
-
 module _ (l : Layout) (laid : IsLaidOut l) (c j : ℕ) (lt : c < length (cells_of l)) (e : site_in (cell_at (cells_of l) c).op ≡ Some j) where
   -- a read stands past the first row, and no later than packets commit
   pub past_first : 0 < l.build.plan.row c
@@ -81,7 +74,7 @@ module _ (l : Layout) (laid : IsLaidOut l) (c j : ℕ) (lt : c < length (cells_o
   pub by_commit : l.build.plan.row c ≤ commit_of l
   by_commit =
       let row = slice_index laid.plan.rows in
-      let low : row (0 + c) ≤ read_row row 0 (cells_of l) = most_read row 0 (cells_of l) c lt (reads_site (cell_at (cells_of l) c).op j e).0 in
+      let low : row (0 + c) ≤ read_row row 0 (cells_of l) = read_row_above row 0 (cells_of l) c lt (reads_site (cell_at (cells_of l) c).op j e).0 in
       let z : 0 + c ≡ c = omega arith in
       let here : row c ≤ read_row row 0 (cells_of l) = subst (λ n. row n ≤ read_row row 0 (cells_of l)) z low in
       let same : l.build.plan.row c ≡ row c = ap (λ f. f c) laid.row in
@@ -95,10 +88,6 @@ number_at from zero i lt = absurd (omega (arith, lt))
 number_at from (suc n) zero lt = omega arith
 number_at from (suc n) (suc i) lt = let z : suc from + i ≡ from + suc i = omega arith in number_at (suc from) n i (omega (arith, lt)) ∙ z
 
-number_count : (from n : ℕ) → length (numbers from n) ≡ n
-number_count from zero = refl
-number_count from (suc n) = ap suc (number_count (suc from) n)
-
 in_filter : (f : ℕ → Bool) (xs : List ℕ) (i : ℕ) → i < length xs → f (get_or xs i 0) ≡ true → Contains (filter f xs) (get_or xs i 0)
 in_filter f [] i lt e = absurd (omega (arith, lt))
 in_filter f (x ∷ xs) zero lt e = rw e (0, omega arith, refl)
@@ -110,7 +99,7 @@ load_among : (p : ProgramView) (j : ℕ) → j < length p.sites → answers_numb
 load_among p j lt e =
     let n = length p.sites in
     let z : get_or (numbers 0 n) j 0 ≡ j = number_at 0 n j lt ∙ omega arith in
-    let count = number_count 0 n in
+    let count = numbers_long 0 n in
     subst (Contains (load_sites p)) z (in_filter (λ j. answers_number (site_at p.sites j).act) (numbers 0 n) j (omega (arith, lt, count)) (rw z e))
 
 -- ---- the words of values in the memories of a map
@@ -165,7 +154,7 @@ module _ (l : Layout) (d : Whole Part) (sized : IsSized l) (parts : d.parts ≡ 
         )
 
   -- ---- the reads of a row, from the place before
-  module _ (whole : AreStageParts l d) (fit : PlacesAreFit l d whole v) (placed : StagesArePlaced) (k : ℕ) (q : suc k ≤ last_of l) (early : suc k ≤ commit_of l) (h : Held) (held : ShowsHeld l v k h) (served : IsServed l t h) where
+  module _ (whole : AreStageParts l d) (fit : PlacesAreFit l d whole v) (placed : StagesArePlaced) (k : ℕ) (q : suc k ≤ last_of l) (early : suc k ≤ commit_of l) (h : StageValues) (held : ShowsHeld l v k h) (served : IsServed l t h) where
     abbrev place : IsPlaceOf l d whole.words (suc k)
     place = whole.places (suc k) q
 

@@ -20,8 +20,8 @@ use Rattle.block_core.specs.Formed.{block_registers}
 use Rattle.hazard_core.specs.cell_core.Cells.{cell_at, is_read}
 use Rattle.turn_net.specs.cell_nets.declared.operand.Operand.{Operand}
 use Rattle.turn_net.specs.cell_nets.Operands.{HasWidth, IsFit, AreFit}
-use Rattle.turn_net.proofs.cell_nets_laws.ChoiceLemmas.{fit_of}
-use Rattle.hazard_core.specs.Held.{Held, held_value}
+use Rattle.turn_net.proofs.cell_nets_laws.ChoiceLaws.{fit_of}
+use Rattle.hazard_core.specs.StageValues.{StageValues, stage_value}
 use Rattle.stage_net.specs.row_net.Table.{Stands}
 use Rattle.stage_net.specs.row_net.PlaceNet.Place.{registers_from, width_at, widths_of}
 use Rattle.stage_net.specs.row_net.PlaceNet.Exit.{output_operands, byte_operand}
@@ -46,7 +46,7 @@ use Rattle.pipe_net.proofs.PipePlaces.Places.{computes_at}
 use Rattle.pipe_net.proofs.PipePlaces.Standing.{table_there, held_behind}
 
 -- ---- the packets
-pub computed_constants : (b : Build) (packet : PacketIn) (r : ℕ) (h : Held) → Computes b packet r h → HoldsConstants b.program b.plan.row r h
+pub computed_constants : (b : Build) (packet : PacketIn) (r : ℕ) (h : StageValues) → Computes b packet r h → HoldsConstants b.program b.plan.row r h
 computed_constants b packet r h c = λ k n lt row op. value_is_number packet h (cell_at b.program.cells k) k n op (c.each k lt row (ap is_read op))
 
 module _ (l : Layout) (d : Whole Part) (sized : IsSized l) (parts : d.parts ≡ parts_of l.sizes) (i : Inputs) (ss : Part → Stored) (v : Env (Name Part)) (sees : Sees d (words_of i) ss v) where
@@ -140,7 +140,7 @@ module _ (l : Layout) (d : Whole Part) (sized : IsSized l) (parts : d.parts ≡ 
         All-contains (IsFit v) (cells ++ pointers) a
         (All-append (IsFit v) cells pointers (All-from_recursion (IsFit v) cells (cells_fit 0 (l.held k) cell_fits)) (All-from_recursion (IsFit v) pointers (pointers_fit (length (l.held k)) (l.held_pointers k) pointer_fits))) c
 
--- ---- the answer behind the last place
+-- ---- the answer after the last place
 module _ (l : Layout) (laid : IsLaidOut l) (v : Env (Name Part)) where
   pub answer_fits : AreFit v (held_registers l (last_of l)) → AreFit v (output_operands l.answer)
   answer_fits fit a c =
@@ -152,7 +152,7 @@ module _ (l : Layout) (laid : IsLaidOut l) (v : Env (Name Part)) where
       stands_fit : (c : ℕ) (a : Operand (Name Part)) → Stands (l.table (suc (last_of l))) c a → IsFit v a
       stands_fit c a s = fit_of (held_registers l (last_of l)) v a (table_there l laid (last_of l) (omega arith) c a s) fit
 
-  small : (h : Held) (c w : ℕ) → ((n : ℕ) → held_value h n < 2 ^ (cell_at (cells_of l) n).width) → (cell_at (cells_of l) c).width ≤ w → held_value h c < 2 ^ w
+  small : (h : StageValues) (c w : ℕ) → ((n : ℕ) → stage_value h n < 2 ^ (cell_at (cells_of l) n).width) → (cell_at (cells_of l) c).width ≤ w → stage_value h c < 2 ^ w
   small h c w fits le = omega (arith, fits c, pow-le-pow_right {n = 2} (omega arith) {i = (cell_at (cells_of l) c).width} {j = w} le)
 
   pub answers_shown : (s : State) → AreFit v (held_registers l (last_of l)) → ShowPackets l s v → ShowAnswers l s v

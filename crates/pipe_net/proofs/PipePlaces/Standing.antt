@@ -1,18 +1,18 @@
--- What stands behind a place for cells and for their pointers, and for sites.
-use Rattle.std.specs.Prelude.{ℕ, suc, ◌<◌, ◌≤◌, ◌++◌, All, List, length, slice_index, Contains}
-use Rattle.std.proofs.Common.{get_or, inr, sym, subst}
+-- What stands after a place for cells and for their pointers, and for sites.
+use Rattle.std.specs.Prelude.{ℕ, suc, ◌<◌, ◌≤◌, ◌++◌, All, List, length, slice_index}
+use Rattle.std.proofs.Common.{get_or, sym, subst}
 use Rattle.std.proofs.lemmas.List.Elements.{Contains-get_or, Contains-append_left, Contains-append_right}
 use Rattle.block_core.specs.net_core.Value.{Env}
 use Rattle.block_core.specs.declared.name.Name.{Name}
 use Rattle.turn_net.specs.cell_nets.declared.operand.Operand.{Operand}
-use Rattle.turn_net.specs.cell_nets.declared.operand.Operand.TheVariants.{Known, Net, Part as Bits}
 use Rattle.turn_net.specs.cell_nets.Operands.{IsAvailable}
-use Rattle.hazard_core.specs.Held.{Held, held_value, pointer_in}
+use Rattle.hazard_core.specs.StageValues.{StageValues, stage_value, pointer_in}
 use Rattle.read_net.specs.overlay_net.SiteOperands.Sites.{SiteOperands, ShowsSite}
 use Rattle.stage_net.specs.row_net.Table.{AreThere, Holds}
 use Rattle.stage_net.specs.row_net.PlaceNet.Place.{registers_from}
 use Rattle.stage_net.specs.row_net.SitePlace.SitePlace.{site_words, pointer_registers}
 use Rattle.hazard_core.specs.HeldRows.Fits.{FitsRows}
+use Rattle.turn_net.proofs.cell_nets_laws.AvailableLaws.{available}
 use Rattle.stage_net.specs.SiteTable.Constants.{AreEarly, HoldsConstants}
 use Rattle.stage_net.specs.SiteTable.Lists.{held_pointers}
 use Rattle.stage_net.specs.SiteTable.Sites.{IsSiteOf}
@@ -27,10 +27,6 @@ use Rattle.pipe_net.specs.Standing.{held_registers, ShowsHeld, IsAtPlace}
 use Rattle.pipe_net.specs.PipePlaces.Layout.{IsLaidOut}
 
 -- ---- operands of a list are there
-available : {N : Type 0} (ins : List (Operand N)) (a : Operand N) → Contains ins a → IsAvailable ins a
-available ins (Known n) c = tt
-available ins (Net n w) c = c
-available ins (Bits n of from w) c = inr (from, w, c)
 
 left_there : {N : Type 0} (xs ys : List (Operand N)) → All (IsAvailable (xs ++ ys)) xs
 left_there xs ys = λ i d lt. available (xs ++ ys) (get_or xs i d) (Contains-append_left xs ys (get_or xs i d) (Contains-get_or xs i d lt))
@@ -42,7 +38,7 @@ module _ (l : Layout) (laid : IsLaidOut l) (k : ℕ) (q : k ≤ last_of l) where
   abbrev place : Part
   place = part.place l.sizes k
 
-  -- ---- the tables behind the place are there with its registers
+  -- ---- the tables after the place are there with its registers
   cells_there : All (IsAvailable (held_registers l k)) (registers_from place (cells_of l) 0 (l.held k))
   cells_there = left_there (registers_from place (cells_of l) 0 (l.held k)) (pointer_registers place l.bits (length (l.held k)) (l.held_pointers k))
 
@@ -68,15 +64,15 @@ module _ (l : Layout) (laid : IsLaidOut l) (k : ℕ) (q : k ≤ last_of l) where
       (subst (λ ks. All (IsAvailable (held_registers l k)) (pointer_registers place l.bits (length (l.held k)) ks)) a.held_pointers pointers_there)))
 
   -- ---- they show a packet
-  module _ (v : Env (Name Part)) (h : Held) (shows : ShowsHeld l v k h) where
+  module _ (v : Env (Name Part)) (h : StageValues) (shows : ShowsHeld l v k h) where
     pub shows_packet : ShowsPacket v place (program_of l) l.decls laid.plan laid.needed laid.parts l.flags l.bits most_slots k h
     shows_packet =
         let a = laid.lists k in
         let those = held_pointers (program_of l) laid.plan laid.needed laid.parts l.flags k in
         record {
           registers =
-              subst (λ ks. ShowsWords v place (site_words (cells_of l) l.bits (held_value h) (pointer_in h) ks those)) a.held
-              (subst (λ ks. ShowsWords v place (site_words (cells_of l) l.bits (held_value h) (pointer_in h) (l.held k) ks)) a.held_pointers shows.registers);
+              subst (λ ks. ShowsWords v place (site_words (cells_of l) l.bits (stage_value h) (pointer_in h) ks those)) a.held
+              (subst (λ ks. ShowsWords v place (site_words (cells_of l) l.bits (stage_value h) (pointer_in h) (l.held k) ks)) a.held_pointers shows.registers);
           fits = subst (λ r. FitsRows (program_of l) l.decls r l.flags most_slots (suc k) h) laid.row shows.fits;
           constants = subst (λ r. HoldsConstants (program_of l) r (suc k) h) laid.row shows.constants;
         }
@@ -84,10 +80,10 @@ module _ (l : Layout) (laid : IsLaidOut l) (k : ℕ) (q : k ≤ last_of l) where
     pub early_rows : AreEarly (program_of l) (slice_index laid.plan.rows)
     early_rows = subst (AreEarly (program_of l)) laid.row laid.early
 
-    pub held_behind : Holds v (l.table (suc k)) (held_value h)
+    pub held_behind : Holds v (l.table (suc k)) (stage_value h)
     held_behind =
         let b = laid.behind k q in
-        subst (λ t. Holds v t (held_value h)) (sym b.table)
+        subst (λ t. Holds v t (stage_value h)) (sym b.table)
         (table_holds place (program_of l) l.decls laid.plan laid.needed laid.parts l.flags l.bits most_slots k b.tables v h b.stand shows_packet early_rows)
 
     -- and its sites, up to the commit place

@@ -3,34 +3,34 @@ use Rattle.std.specs.Prelude.{◌≡◌, ℕ, zero, suc, ◌+◌, if◌then◌el
 use Rattle.std.proofs.Common.{refl, sym, ap, ◌∙◌, arith}
 use Rattle.hazard_core.specs.xdp_maps.declared.decl.MapDecl.{MapDecl}
 use Rattle.hazard_core.specs.declared.access.Access.{Access}
-use Rattle.hazard_core.specs.Held.{Held, writes}
-use Rattle.pipe_core.specs.Machine.{Packet, State, Build, Turn, Commits, Writes, Moves, place_at, some_send, swept, chosen, commits_as, commits_or_moves, turn_as}
-use Rattle.turn_net.specs.Turns.{Signals, first_open, committing, record_sites, RecordsAlone}
+use Rattle.hazard_core.specs.StageValues.{StageValues, writes}
+use Rattle.pipe_core.specs.Machine.{Packet, State, Build, Action, Commits, Writes, Moves, place_at, some_send, flushed, chosen, commits_as, commits_or_moves, action_as}
+use Rattle.turn_net.specs.Actions.{Signals, first_open, committing, record_sites, RecordsAlone}
 use Rattle.pipe_net.specs.Saying.{is_host, moves}
-use Rattle.pipe_net.specs.PipeTurns.Turning.{site_of}
+use Rattle.pipe_net.specs.PipeTurns.Acting.{site_of}
 
 pub none_some : {X Y : Type 0} (x : X) → None ≡ Some x → Y
 none_some x e = cc
 
 -- ---- the places once those are emptied that are sent back
-pub swept_at : (b : Build) (from at k : ℕ) (places : List (Option Packet)) → from + k ≡ at → place_at (swept b from places) k ≡ (if some_send b at (drop k places) then None else place_at places k)
-swept_at b from at k [] e = none_past k
+pub flushed_at : (b : Build) (from at k : ℕ) (places : List (Option Packet)) → from + k ≡ at → place_at (flushed b from places) k ≡ (if some_send b at (drop k places) then None else place_at places k)
+flushed_at b from at k [] e = none_past k
   where
     none_past : (n : ℕ) → place_at [] n ≡ (if some_send b at (drop n []) then None else place_at [] n)
     none_past zero = refl
     none_past (suc n) = refl
-swept_at b from at zero (x ∷ xs) e = let z : from ≡ at = omega (arith, e) in ap (λ n. if some_send b n (x ∷ xs) then None else x) z
-swept_at b from at (suc k) (x ∷ xs) e = swept_at b (suc from) at k xs (omega (arith, e))
+flushed_at b from at zero (x ∷ xs) e = let z : from ≡ at = omega (arith, e) in ap (λ n. if some_send b n (x ∷ xs) then None else x) z
+flushed_at b from at (suc k) (x ∷ xs) e = flushed_at b (suc from) at k xs (omega (arith, e))
 
-pub kept_was : (b : Build) (k : ℕ) (places : List (Option Packet)) (x : Packet) → place_at (swept b 0 places) k ≡ Some x → place_at places k ≡ Some x
-kept_was b k places x e = by (some_send b k (drop k places)) (sym (swept_at b 0 k k places (omega arith)) ∙ e)
+pub kept_was : (b : Build) (k : ℕ) (places : List (Option Packet)) (x : Packet) → place_at (flushed b 0 places) k ≡ Some x → place_at places k ≡ Some x
+kept_was b k places x e = by (some_send b k (drop k places)) (sym (flushed_at b 0 k k places (omega arith)) ∙ e)
   where
     by : (back : Bool) → (if back then None else place_at places k) ≡ Some x → place_at places k ≡ Some x
     by true f = none_some x f
     by false f = f
 
 -- ---- what a clock does
-pub host_is : (b : Build) (s : State) (rest : List (Option Packet)) (w : Option (Access × ℕ)) → is_some w ≡ is_host (turn_as b s rest w)
+pub host_is : (b : Build) (s : State) (rest : List (Option Packet)) (w : Option (Access × ℕ)) → is_some w ≡ is_host (action_as b s rest w)
 host_is b s rest (Some w) = refl
 host_is b s rest None = by (place_at rest b.plan.commit)
   where
@@ -42,7 +42,7 @@ host_is b s rest None = by (place_at rest b.plan.commit)
     by None = refl
     by (Some x) = by_choice x (chosen b s.tables s.done x)
 
-pub stays_is : (turn : Turn) → (is_some (site_of turn) || is_host turn) ≡ not (moves turn)
+pub stays_is : (action : Action) → (is_some (site_of action) || is_host action) ≡ not (moves action)
 stays_is (Commits j x) = refl
 stays_is (Writes a n) = refl
 stays_is Moves = refl
@@ -52,7 +52,7 @@ pub record IsCommitting (b : Build) (s : State) (rest : List (Option Packet)) (j
   pub packet : place_at rest b.plan.commit ≡ Some x
   pub choice : chosen b s.tables s.done x ≡ Some j
 
-pub commits_is : (b : Build) (s : State) (rest : List (Option Packet)) (w : Option (Access × ℕ)) (j : ℕ) (x : Packet) → turn_as b s rest w ≡ Commits j x → IsCommitting b s rest j x
+pub commits_is : (b : Build) (s : State) (rest : List (Option Packet)) (w : Option (Access × ℕ)) (j : ℕ) (x : Packet) → action_as b s rest w ≡ Commits j x → IsCommitting b s rest j x
 commits_is b s rest (Some w) j x e = absurd (apart e)
   where
     apart : Writes w.0 w.1 ≡ Commits j x → ⊥
@@ -78,7 +78,7 @@ commits_is b s rest None j x e = by (place_at rest b.plan.commit) refl e
 
 -- ---- the site whose operation commits, as the part says it by what it sees of others
 -- what the packet in a place holds; where there is none this is not looked at
-abbrev pub held_in : Option Packet → Held
+abbrev pub held_in : Option Packet → StageValues
 held_in None = record { values = []; pointers = [] }
 held_in (Some x) = x.held
 
@@ -104,13 +104,13 @@ module _ (b : Build) (s : State) (decls : List MapDecl) (js : List ℕ) (same : 
   silent false f = refl
 
   -- what the part sees of the packet at the commit place, and of the host
-  abbrev pub seen : Turn → Signals
-  seen turn = record { present = is_some (place_at s.places b.plan.commit); back = some_send b b.plan.commit (drop b.plan.commit s.places); host = is_host turn }
+  abbrev pub seen : Action → Signals
+  seen action = record { present = is_some (place_at s.places b.plan.commit); back = some_send b b.plan.commit (drop b.plan.commit s.places); host = is_host action }
 
-  pub site_is : (w : Option (Access × ℕ)) → committing (seen (turn_as b s (swept b 0 s.places) w)) (first (place_at s.places b.plan.commit)) ≡ site_of (turn_as b s (swept b 0 s.places) w)
+  pub site_is : (w : Option (Access × ℕ)) → committing (seen (action_as b s (flushed b 0 s.places) w)) (first (place_at s.places b.plan.commit)) ≡ site_of (action_as b s (flushed b 0 s.places) w)
   site_is (Some w) = silent (is_some (place_at s.places b.plan.commit) && not (some_send b b.plan.commit (drop b.plan.commit s.places))) (first (place_at s.places b.plan.commit))
   site_is None =
       let o = place_at s.places b.plan.commit in
       let back = some_send b b.plan.commit (drop b.plan.commit s.places) in
-      let at : place_at (swept b 0 s.places) b.plan.commit ≡ (if back then None else o) = swept_at b 0 b.plan.commit b.plan.commit s.places (omega arith) in
+      let at : place_at (flushed b 0 s.places) b.plan.commit ≡ (if back then None else o) = flushed_at b 0 b.plan.commit b.plan.commit s.places (omega arith) in
       ap (λ y. committing (record { present = is_some o; back = back; host = is_host (commits_or_moves b s y) }) (first o)) at ∙ by_packet o back ∙ sym (ap (λ y. site_of (commits_or_moves b s y)) at)

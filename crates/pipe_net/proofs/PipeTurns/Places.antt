@@ -1,4 +1,4 @@
--- The parts of the host, of turns and of maps are among the parts of the pipeline.
+-- The parts of the host, of actions and of maps are among the parts of the pipeline.
 use Rattle.std.specs.Prelude.{◌≡◌, ℕ, zero, suc, ◌+◌, ◌<◌, ◌≤◌, length, map}
 use Rattle.std.proofs.Common.{sym, ap, subst, arith, inl, inr}
 use Rattle.std.proofs.lemmas.Bool.{cases_eq}
@@ -33,8 +33,8 @@ module _ (l : Layout) (d : Whole Part) (sized : IsSized l) (listed : d.parts ≡
   pub has_host : Among (part.host l.sizes) d.parts
   has_host = has _ (omega arith)
 
-  pub has_turn : Among (part.turn l.sizes) d.parts
-  has_turn = has _ (omega arith)
+  pub has_action : Among (part.action l.sizes) d.parts
+  has_action = has _ (omega arith)
 
   pub has_commits : Among (part.commits l.sizes) d.parts
   has_commits = has _ (omega arith)

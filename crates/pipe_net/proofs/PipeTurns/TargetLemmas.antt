@@ -13,13 +13,13 @@ use Rattle.hazard_core.specs.cell_core.Sites.{ProgramView, site_at, records}
 use Rattle.hazard_core.specs.Tables.{TableState, decl_of, table_at, slot_of}
 use Rattle.hazard_core.specs.declared.pointer.Pointer.{Pointer}
 use Rattle.hazard_core.specs.declared.pointer.Pointer.TheVariants.{Null, InSlot, Pending}
-use Rattle.hazard_core.specs.Held.{Held, pointer_in, found_cell, is_update, asked_key, pointer_operand, update_pointer, written_as, written_pointer}
+use Rattle.hazard_core.specs.StageValues.{StageValues, pointer_in, found_cell, is_update, asked_key, pointer_operand, update_pointer, written_as, written_pointer}
 use Rattle.hazard_core.specs.HeldRows.Fits.{IsMadeBefore, FitsRows}
 use Rattle.read_net.specs.overlay_net.Reading.{IsSite}
 use Rattle.commit_net.specs.declared.target.TakenSlot.{TakenSlot}
 use Rattle.commit_net.specs.Targets.{IsAmong}
 use Rattle.turn_net.specs.declared.nets.RecordNets.{RecordNets}
-use Rattle.turn_net.specs.Turns.{record_sites}
+use Rattle.turn_net.specs.Actions.{record_sites}
 use Rattle.turn_net.specs.Nets.{sites_of, keeps_slot, keeps, kept}
 use Rattle.pipe_net.specs.declared.parts.Part.{Part}
 use Rattle.block_core.specs.declared.name.Name.{Name}
@@ -127,7 +127,7 @@ made_among l p decls row r i at rs is sites made =
 null_pending : (i : ℕ) → Null ≡ Pending i → ⊥
 null_pending i e = cc
 
-module _ (p : ProgramView) (decls : List MapDecl) (row : ℕ → ℕ) (flags : List Bool) (most r : ℕ) (t : TableState) (h : Held) (fits : FitsRows p decls row flags most r h) (i : ℕ) where
+module _ (p : ProgramView) (decls : List MapDecl) (row : ℕ → ℕ) (flags : List Bool) (most r : ℕ) (t : TableState) (h : StageValues) (fits : FitsRows p decls row flags most r h) (i : ℕ) where
   abbrev Made : Type 0
   Made = IsMadeBefore p decls row r i
 

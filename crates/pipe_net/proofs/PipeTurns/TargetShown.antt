@@ -29,58 +29,58 @@ use Rattle.read_net.specs.declared.sites.OwnSite.{OwnSite}
 use Rattle.read_net.specs.Sites.{IsMapOf, ShowsTable}
 use Rattle.turn_net.specs.declared.nets.RecordNets.{RecordNets}
 use Rattle.turn_net.specs.Nets.{kept}
-use Rattle.turn_net.specs.Turn.{slot_word}
+use Rattle.turn_net.specs.Action.{slot_word}
 use Rattle.turn_net.specs.declared.target_net.targets.Target.{Target}
 use Rattle.turn_net.specs.TargetNet.Targets.{FindsSlot, ShowTaken, Shows}
-use Rattle.pipe_core.specs.Machine.{Packet, State, Commits, place_at, swept, is_calm, host_ready, host_writes}
+use Rattle.pipe_core.specs.Machine.{Packet, State, Commits, place_at, flushed, is_idle, host_ready, host_writes}
 use Rattle.pipe_net.specs.declared.parts.Part.{Part}
 use Rattle.pipe_net.specs.Parts as part
 use Rattle.pipe_net.specs.Parts.{parts_of}
 use Rattle.pipe_net.specs.Machine.{access_in, input_of}
 use Rattle.pipe_net.specs.Layout.{Layout, IsSized, program_of, commit_of}
 use Rattle.pipe_net.specs.Relation.{most_slots, HoldMaps}
-use Rattle.pipe_net.specs.Saying.{turn_in}
+use Rattle.pipe_net.specs.Saying.{action_in}
 use Rattle.pipe_net.specs.Standing.{IsAtPlace, ShowsHeld, ShowPackets}
 use Rattle.pipe_net.specs.PipeTurns.Maps.{decl_at, taken_from, taken_slots}
-use Rattle.pipe_net.specs.PipeTurns.Parts.{AreTurnParts}
-use Rattle.pipe_net.specs.PipeTurns.Turning.{TurnsAreFit, IsRightTurn, ShowsWritten, TargetsAreShown}
-use Rattle.pipe_net.proofs.PipeTurns.Places.{commits_within, has_slots, has_targets, has_own, has_turn}
+use Rattle.pipe_net.specs.PipeTurns.Parts.{AreActionParts}
+use Rattle.pipe_net.specs.PipeTurns.Acting.{ActionsAreFit, IsRightAction, ShowsWritten, TargetsAreShown}
+use Rattle.pipe_net.proofs.PipeTurns.Places.{commits_within, has_slots, has_targets, has_own, has_action}
 use Rattle.pipe_net.proofs.PipeTurns.Machine.{kept_was, commits_is}
 use Rattle.pipe_net.proofs.PipeTurns.TargetLemmas.{made_among, other_made}
 
-module _ (l : Layout) (d : Whole Part) (sized : IsSized l) (parts : AreTurnParts l d) (listed : d.parts ≡ parts_of l.sizes)
-    (i : Inputs) (s : State) (ss : Part → Stored) (v : Env (Name Part)) (maps : HoldMaps l s ss) (sees : Sees d (words_of i) ss v) (fit : TurnsAreFit l d parts v) (packets : ShowPackets l s v) (right : IsRightTurn l i s) where
+module _ (l : Layout) (d : Whole Part) (sized : IsSized l) (parts : AreActionParts l d) (listed : d.parts ≡ parts_of l.sizes)
+    (i : Inputs) (s : State) (ss : Part → Stored) (v : Env (Name Part)) (maps : HoldMaps l s ss) (sees : Sees d (words_of i) ss v) (fit : ActionsAreFit l d parts v) (packets : ShowPackets l s v) (right : IsRightAction l i s) where
   -- ---- the slots that updates took
-  abbrev turn_stored : Stored
-  turn_stored = ss (part.turn l.sizes)
+  abbrev action_stored : Stored
+  action_stored = ss (part.action l.sizes)
 
-  kept_register : (k : ℕ) (r : RecordNets (Name Part)) → k < length (kept l.records) → v.net (name.Register (part.turn l.sizes) (1 + k)) ≡ slot_word l.turn_shape.slot_bits s.taken (get_or (kept l.records) k r)
+  kept_register : (k : ℕ) (r : RecordNets (Name Part)) → k < length (kept l.records) → v.net (name.Register (part.action l.sizes) (1 + k)) ≡ slot_word l.action_shape.slot_bits s.taken (get_or (kept l.records) k r)
   kept_register k r lt =
-      let size = maps.turn.registers in
-      let many = length-map (kept l.records) (slot_word l.turn_shape.slot_bits s.taken) in
+      let size = maps.action.registers in
+      let many = length-map (kept l.records) (slot_word l.action_shape.slot_bits s.taken) in
       let z : 1 + k ≡ suc k = omega arith in
-      let inside : suc k < length turn_stored.registers = omega (arith, ap (λ (rs : List Word). length rs) size, many, lt) in
-      ap (λ n. v.net (name.Register (part.turn l.sizes) n)) z ∙ sees.register (part.turn l.sizes) (suc k) (has_turn l d sized listed) inside ∙ ap (λ (rs : List Word). get_or rs (suc k) nothing) size
-      ∙ get_or-map (slot_word l.turn_shape.slot_bits s.taken) (kept l.records) k r nothing lt
+      let inside : suc k < length action_stored.registers = omega (arith, ap (λ (rs : List Word). length rs) size, many, lt) in
+      ap (λ n. v.net (name.Register (part.action l.sizes) n)) z ∙ sees.register (part.action l.sizes) (suc k) (has_action l d sized listed) inside ∙ ap (λ (rs : List Word). get_or rs (suc k) nothing) size
+      ∙ get_or-map (slot_word l.action_shape.slot_bits s.taken) (kept l.records) k r nothing lt
 
-  shows_from : (rs : List (RecordNets (Name Part))) (at : ℕ) → ((k : ℕ) (r : RecordNets (Name Part)) → k < length rs → v.net (name.Register (part.turn l.sizes) (at + k)) ≡ slot_word l.turn_shape.slot_bits s.taken (get_or rs k r))
+  shows_from : (rs : List (RecordNets (Name Part))) (at : ℕ) → ((k : ℕ) (r : RecordNets (Name Part)) → k < length rs → v.net (name.Register (part.action l.sizes) (at + k)) ≡ slot_word l.action_shape.slot_bits s.taken (get_or rs k r))
       → ShowTaken v s.taken (taken_from l at rs)
   shows_from [] at h = All-nil (λ (t : TakenSlot (Name Part)). number_in v t.slot ≡ slice_index s.taken t.site)
   shows_from (r ∷ rs) at h =
       let z : at ≡ at + 0 = omega arith in
       All-cons (λ (t : TakenSlot (Name Part)). number_in v t.slot ≡ slice_index s.taken t.site) _ (taken_from l (suc at) rs)
-      (ap (λ n. (v.net (name.Register (part.turn l.sizes) n)).value) z ∙ ap (λ (w : Word). w.value) (h 0 r (omega arith)))
-      (shows_from rs (suc at) (λ k e lt. let y : suc at + k ≡ at + suc k = omega arith in ap (λ n. v.net (name.Register (part.turn l.sizes) n)) y ∙ h (suc k) e (omega (arith, lt))))
+      (ap (λ n. (v.net (name.Register (part.action l.sizes) n)).value) z ∙ ap (λ (w : Word). w.value) (h 0 r (omega arith)))
+      (shows_from rs (suc at) (λ k e lt. let y : suc at + k ≡ at + suc k = omega arith in ap (λ n. v.net (name.Register (part.action l.sizes) n)) y ∙ h (suc k) e (omega (arith, lt))))
 
   taken_shown : ShowTaken v s.taken (taken_slots l)
   taken_shown = shows_from (kept l.records) 1 kept_register
 
   -- ---- the operation that commits
-  module _ (j : ℕ) (x : Packet) (commits : turn_in l.build (input_of i) s ≡ Commits j x) where
+  module _ (j : ℕ) (x : Packet) (commits : action_in l.build (input_of i) s ≡ Commits j x) where
     pub packet_there : place_at s.places (commit_of l) ≡ Some x
     packet_there =
-        let w = host_writes (host_ready l.build s) (is_calm s) s.tables (Some (access_in i)) in
-        kept_was l.build (commit_of l) s.places x (commits_is l.build s (swept l.build 0 s.places) w j x commits).packet
+        let w = host_writes (host_ready l.build s) (is_idle s) s.tables (Some (access_in i)) in
+        kept_was l.build (commit_of l) s.places x (commits_is l.build s (flushed l.build 0 s.places) w j x commits).packet
 
     holds : ShowsHeld l v (commit_of l) x.held
     holds = packets (commit_of l) x (commits_within l sized) packet_there

@@ -4,7 +4,7 @@ use Rattle.hazard_core.specs.xdp_maps.State.{MapState}
 use Rattle.block_core.specs.net_core.declared.ports.Inputs.{Inputs}
 use Rattle.block_core.specs.net_core.Ports.{words_of}
 use Rattle.block_core.specs.net_core.Clock.{Stored, after, shown, stopping, first_stored}
-use Rattle.block_core.specs.net_core.History.{IsInput}
+use Rattle.block_core.specs.net_core.Trace.{IsInput}
 use Rattle.block_core.specs.Blocks.{Whole}
 use Rattle.block_core.specs.Parts.{stored_of}
 use Rattle.hazard_core.specs.Tables.{decl_of, table_at, tables_of}
@@ -18,7 +18,7 @@ use Rattle.pipe_net.specs.Machine.{input_of, MayCome, Shows}
 use Rattle.pipe_net.specs.Layout.{Layout}
 use Rattle.pipe_net.specs.Relation.{Relates}
 use Rattle.pipe_net.specs.PipePlaces.Following.{AreServed}
-use Rattle.pipe_net.specs.PipeTurns.Turning.{IsRightTurn}
+use Rattle.pipe_net.specs.PipeTurns.Acting.{IsRightAction}
 use Rattle.pipe_net.specs.PipeMaps.Premises.{HoldKeys}
 use Rattle.pipe_net.specs.PipeForms.Parts.{design, AreParts}
 
@@ -30,7 +30,7 @@ pub record IsPipeline (l : Layout) (d : Whole Part) : Type 0 where
 -- What is asked of a state and of what comes: the tables can be read by the packets inside, the operation that commits is a right one, and slots have bytes and keys of their maps.
 pub record IsFollowable (l : Layout) (i : Inputs) (s : State) : Type 0 where
   pub served : AreServed l s
-  pub right : IsRightTurn l i s
+  pub right : IsRightAction l i s
   pub keys : HoldKeys s.tables
 
 -- One clock: no divisor is 0, the outputs show what the machine does, and what the parts store then is what its next state says.

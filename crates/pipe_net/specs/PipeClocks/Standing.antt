@@ -4,7 +4,7 @@ use Rattle.hazard_core.specs.xdp_maps.State.{MapState, IsSound}
 use Rattle.block_core.specs.net_core.declared.ports.Inputs.{Inputs}
 use Rattle.block_core.specs.net_core.Ports.{words_of}
 use Rattle.block_core.specs.net_core.Clock.{Stored, after, shown, stopping, first_stored}
-use Rattle.block_core.specs.net_core.History.{IsInput}
+use Rattle.block_core.specs.net_core.Trace.{IsInput}
 use Rattle.block_core.specs.Blocks.{Whole}
 use Rattle.block_core.specs.Parts.{stored_of}
 use Rattle.hazard_core.specs.Tables.{decl_of, table_at, tables_of}
@@ -18,13 +18,13 @@ use Rattle.pipe_net.specs.declared.parts.Part.{Part}
 use Rattle.pipe_net.specs.Machine.{input_of, MayCome, Shows}
 use Rattle.pipe_net.specs.Layout.{Layout, program_of, last_of}
 use Rattle.pipe_net.specs.Relation.{Relates}
-use Rattle.pipe_net.specs.Saying.{turn_in}
+use Rattle.pipe_net.specs.Saying.{action_in}
 use Rattle.pipe_net.specs.PipePlaces.Entries.{AccessesLead, HavePointers}
 use Rattle.pipe_net.specs.PipeMaps.Premises.{HoldKeys}
 use Rattle.pipe_net.specs.PipeForms.Parts.{design}
 use Rattle.pipe_net.specs.PipeClocks.Following.{IsPipeline, Follows}
 
--- Behind these clocks the parts store what the machine's state says; slots have bytes and keys of their maps, and what packets found of keys leads into the maps of sites.
+-- After these clocks the parts store what the machine's state says; slots have bytes and keys of their maps, and what packets found of keys leads into the maps of sites.
 pub record Stands (l : Layout) (d : Whole Part) (t : Trace) (ss : Part → Stored) : Type 0 where
   pub order : IsInOrder l.build t
   pub computed : IsComputed l.build t
@@ -35,7 +35,7 @@ pub record Stands (l : Layout) (d : Whole Part) (t : Trace) (ss : Part → Store
 -- What is asked of a clock: where a packet is inside the tables are tables of their declarations, and an operation that commits is a right one.
 pub record IsRightClock (l : Layout) (i : Inputs) (s : State) : Type 0 where
   pub tables : (k : ℕ) (x : Packet) → k ≤ last_of l → place_at s.places k ≡ Some x → AreTables s.tables
-  pub commits : (j : ℕ) (x : Packet) → turn_in l.build (input_of i) s ≡ Commits j x → IsRightCommit (program_of l) s.tables s.taken x.held j
+  pub commits : (j : ℕ) (x : Packet) → action_in l.build (input_of i) s ≡ Commits j x → IsRightCommit (program_of l) s.tables s.taken x.held j
 
 -- ---- the laws
 pub record GoesOn (l : Layout) (d : Whole Part) (names : List (List ℕ)) (i : Inputs) (t : Trace) (ss : Part → Stored) : Type 0 where

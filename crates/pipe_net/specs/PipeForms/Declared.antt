@@ -8,7 +8,7 @@ use Rattle.turn_net.specs.cell_nets.declared.operand.Operand.{Operand}
 use Rattle.turn_net.specs.cell_nets.Operands.{AreDeclared, IsNetOf}
 use Rattle.read_net.specs.TouchNet.Marking.{mark_operands}
 use Rattle.read_net.specs.MarkNet.Sites.{outside as mark_outside}
-use Rattle.turn_net.specs.Nets.{outside as turn_outside}
+use Rattle.turn_net.specs.Nets.{outside as action_outside}
 use Rattle.turn_net.specs.TargetNet.Targets.{outside_of}
 use Rattle.commit_net.specs.Choosing.{all_read}
 use Rattle.commit_net.specs.ChangeNet.Written.{written_outside}
@@ -21,7 +21,7 @@ use Rattle.pipe_net.specs.Layout.{Layout, program_of, last_of, commit_of}
 use Rattle.pipe_net.specs.Standing.{held_registers}
 use Rattle.pipe_net.specs.PipeMarks.Parts.{advances}
 use Rattle.pipe_net.specs.PipeTurns.Maps.{taken_slots}
-use Rattle.pipe_net.specs.PipeTurns.Parts.{turn_nets, writes_net}
+use Rattle.pipe_net.specs.PipeTurns.Parts.{action_nets, writes_net}
 use Rattle.pipe_net.specs.PipePlaces.Layout.{load_sites}
 use Rattle.pipe_net.specs.PipeMaps.Parts.{commits_net}
 use Rattle.pipe_net.specs.PipeForms.Parts.{AreParts}
@@ -39,23 +39,23 @@ pub record AreHeldDeclared (l : Layout) (d : Whole Part) : Type 0 where
 
 -- what the parts of a map read
 pub record IsMapDeclared (l : Layout) (d : Whole Part) (parts : AreParts l d) (m : ℕ) (there : m < length l.decls) : Type 0 where
-  pub targets : Declares d (outside_of (parts.turns.maps m) (parts.turns.own m) (taken_slots l))
+  pub targets : Declares d (outside_of (parts.actions.maps m) (parts.actions.own m) (taken_slots l))
   pub operations : Declares d (all_read (parts.maps.maps m there).operations)
-  pub written : Declares d (written_outside (l.slot_bits m) (commits_net l d parts.turns m) (parts.maps.maps m there).trees.slot)
-  pub change : Declares d (change_outside (l.slot_bits m) (commits_net l d parts.turns m) (writes_net l) (parts.maps.maps m there).slot (parts.maps.maps m there).keys (parts.maps.maps m there).operations)
+  pub written : Declares d (written_outside (l.slot_bits m) (commits_net l d parts.actions m) (parts.maps.maps m there).trees.slot)
+  pub change : Declares d (change_outside (l.slot_bits m) (commits_net l d parts.actions m) (writes_net l) (parts.maps.maps m there).slot (parts.maps.maps m there).keys (parts.maps.maps m there).operations)
 
 -- what the parts of marks read at a place
 pub record IsMarkDeclared (l : Layout) (d : Whole Part) (parts : AreParts l d) (k : ℕ) (there : k ≤ commit_of l) : Type 0 where
   pub marks : Declares d (mark_outside (advances l) (parts.marks k there).sites)
-  pub dues : Declares d (mark_operands (parts.marks k there).dues)
+  pub reloads : Declares d (mark_operands (parts.marks k there).reloads)
 
 -- All of it: what places and words read, what says which operation commits, and what the parts of maps and of marks read.
 pub record AreAllDeclared (l : Layout) (d : Whole Part) (parts : AreParts l d) : Type 0 where
   pub held : AreHeldDeclared l d
   pub words : (i : ℕ) (there : i < length (load_sites (program_of l))) → Declares d (parts.stages.words i there).outside
   pub places : (k : ℕ) (there : k ≤ last_of l) → Declares d (parts.stages.places k there).outside
-  pub turn : Declares d (turn_outside (turn_nets l) l.records)
-  pub chosen : Declares d parts.turns.chosen
+  pub action : Declares d (action_outside (action_nets l) l.records)
+  pub chosen : Declares d parts.actions.chosen
   pub maps : (m : ℕ) (there : m < length l.decls) → IsMapDeclared l d parts m there
   pub marks : (k : ℕ) (there : k ≤ commit_of l) → IsMarkDeclared l d parts k there
 

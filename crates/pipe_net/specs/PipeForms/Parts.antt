@@ -22,7 +22,7 @@ use Rattle.pipe_net.specs.Layout.{Layout, IsSized, last_of}
 use Rattle.pipe_net.specs.PipeFrames.Parts.{told_by, AreFrameParts}
 use Rattle.pipe_net.specs.PipeMarks.Parts.{AreMarkParts}
 use Rattle.pipe_net.specs.PipeTurns.Maps.{decl_at}
-use Rattle.pipe_net.specs.PipeTurns.Parts.{ready_net, AreTurnParts}
+use Rattle.pipe_net.specs.PipeTurns.Parts.{ready_net, AreActionParts}
 use Rattle.pipe_net.specs.PipeMaps.Parts.{AreMapParts}
 use Rattle.pipe_net.specs.PipePlaces.Parts.{AreStageParts}
 use Rattle.pipe_net.specs.PipeForms.Reading.{AreReadings}
@@ -50,7 +50,7 @@ outputs_of l =
 abbrev pub design : Layout → Whole Part → List (List ℕ) → Netlist
 design l d names = link d names port_list (outputs_of l)
 
--- the names of its ports, and behind them numbered nets
+-- the names of its ports, and after them numbered nets
 abbrev pub names_of : Whole Part → List (List ℕ)
 names_of d = numbered_names d port_names
 
@@ -64,8 +64,8 @@ pub record AreParts (l : Layout) (d : Whole Part) : Type 0 where
   pub frames : AreFrameParts l d
   pub marks : AreMarkParts l d
   pub stages : AreStageParts l d
-  pub turns : AreTurnParts l d
-  pub maps : AreMapParts l d turns
+  pub actions : AreActionParts l d
+  pub maps : AreMapParts l d actions
   pub readings : AreReadings l d stages
-  pub uncounted : (m : ℕ) → m < length l.decls → (decl_at l m).kind ≡ Array → (turns.maps m).used ≡ Known 0
+  pub uncounted : (m : ℕ) → m < length l.decls → (decl_at l m).kind ≡ Array → (actions.maps m).used ≡ Known 0
   pub apart : (k : ℕ) → k ≤ last_of l → IsApartAlone (part.place l.sizes k) (d.block (part.place l.sizes k))

@@ -2,7 +2,7 @@
 use Rattle.std.specs.Prelude.{◌≡◌, ℕ, not, Some, is_some, List, length, map}
 use Rattle.std.proofs.Common.{get_or}
 use Rattle.hazard_core.specs.xdp_maps.State.{MapState}
-use Rattle.block_core.specs.beat_core.declared.beat.Beat.{Beat}
+use Rattle.beat_core.specs.declared.beat.Beat.{Beat}
 use Rattle.block_core.specs.net_core.declared.ports.Inputs.{Inputs}
 use Rattle.block_core.specs.net_core.Ports.{words_of}
 use Rattle.block_core.specs.net_core.Value.{word, bit, Env}
@@ -10,7 +10,7 @@ use Rattle.block_core.specs.net_core.Clock.{Stored, done}
 use Rattle.block_core.specs.declared.name.Name.{Name}
 use Rattle.block_core.specs.Blocks.{Whole, Among, first_of}
 use Rattle.block_core.specs.Parts.{Sees}
-use Rattle.pipe_core.specs.Machine.{Packet, State, newcomer, some_send, swept, inside, no_frame, is_ready, shown_beat, first_answer, new_state, clock}
+use Rattle.pipe_core.specs.Machine.{Packet, State, newcomer, some_send, flushed, inside, no_frame, is_ready, shown_beat, first_answer, new_state, clock}
 use Rattle.control_net.specs.declared.ring_net.names.Register.TheVariants.{Passed}
 use Rattle.control_net.specs.RingNet.Names.{register_name}
 use Rattle.control_net.specs.declared.names.Wire.TheVariants as wire
@@ -23,12 +23,12 @@ use Rattle.pipe_net.specs.Parts.{parts_of}
 use Rattle.pipe_net.specs.Machine.{input_of, MayCome}
 use Rattle.pipe_net.specs.Layout.{Layout, IsSized, HasAnswer}
 use Rattle.pipe_net.specs.Relation.{IsStored, HoldFrames}
-use Rattle.pipe_net.specs.Saying.{moves_in, ShowDues, ShowAnswers}
+use Rattle.pipe_net.specs.Saying.{moves_in, ShowReloads, ShowAnswers}
 use Rattle.pipe_net.specs.PipeFrames.Parts.{AreFrameParts, told_by}
 
 -- ---- what the other parts say
 pub record OthersSay (l : Layout) (i : Inputs) (s : State) (v : Env (Name Part)) : Type 0 where
-  pub due : ShowDues l s v
+  pub reload : ShowReloads l s v
   pub stays : v.net l.stays ≡ bit (not (moves_in l.build (input_of i) s))
   pub answer : ShowAnswers l s v
 
@@ -48,10 +48,10 @@ pub record ShowFrames (l : Layout) (i : Inputs) (s : State) (words : ℕ) (v : E
   pub passed : v.net (register_name (part.control l.sizes) Passed) ≡ word 32 s.passed
   pub advances : v.net (told_by l.sizes wire.Advances) ≡ bit (moves_in l.build (input_of i) s)
   -- of a packet that is injected its frame is shown
-  pub frame : (x : Packet) → newcomer l.build (some_send l.build 0 s.places) s.frames (swept l.build 0 s.places) ≡ Some x → IsShownIn (part.sources l.sizes) l.kept v (get_or s.frames (inside (swept l.build 0 s.places)) no_frame)
+  pub frame : (x : Packet) → newcomer l.build (some_send l.build 0 s.places) s.frames (flushed l.build 0 s.places) ≡ Some x → IsShownIn (part.sources l.sizes) l.kept v (get_or s.frames (inside (flushed l.build 0 s.places)) no_frame)
 
 -- ---- the laws
--- What is stored behind a clock is what the machine's next state says, for numbers of answers and of packets that control then has.
+-- What is stored after a clock is what the machine's next state says, for numbers of answers and of packets that control then has.
 pub record FramesGo (l : Layout) (d : Whole Part) (i : Inputs) (s : State) (ss : Part → Stored) (v : Env (Name Part)) : Type 0 where
   pub given : ℕ
   pub packet_numbers : List ℕ
@@ -63,7 +63,7 @@ pub record HasBytes (l : Layout) : Type 0 where
   pub changed : byte_numbers l.answer ≡ map (λ x. x.at) l.build.program.frame
 
 -- Where parts store what a state of the machine says of frames, in registers and memories of their blocks' widths, they show in a clock what the machine does, whatever beat is
--- offered; and where only what may come does they store behind it what the machine's next state says.
+-- offered; and where only what may come does they store after it what the machine's next state says.
 abbrev pub FramesFollow : Type 0
 FramesFollow =
     (l : Layout) (d : Whole Part) → IsSized l → HasBytes l → AreFrameParts l d → d.parts ≡ parts_of l.sizes

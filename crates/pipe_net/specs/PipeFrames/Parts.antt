@@ -38,7 +38,7 @@ abbrev pub read_by_control : Layout → ControlNets Part
 read_by_control l = record { partial = has_begun l.sizes; last = last_name part.scatter; stalls = l.stays }
 
 pub record AreFrameParts (l : Layout) (d : Whole Part) : Type 0 where
-  pub returns : IsReturns l.shape (part.returns l.sizes) (part.control l.sizes) l.due (d.block (part.returns l.sizes))
+  pub returns : IsReturns l.shape (part.returns l.sizes) (part.control l.sizes) l.reload (d.block (part.returns l.sizes))
   pub control : IsControl l.shape (part.control l.sizes) (part.returns l.sizes) (read_by_control l) (d.block (part.control l.sizes))
   pub gather : IsGather (part.gather l.sizes) l.shape.slot_bits l.kept (told_by l.sizes wire.Over) (next_slot l.sizes Gathered) (d.block (part.gather l.sizes))
   pub sources : IsSources (part.sources l.sizes) (part.gather l.sizes) l.shape.slot_bits l.kept (next_slot l.sizes Injected) (d.block (part.sources l.sizes))

@@ -12,11 +12,11 @@ use Rattle.pipe_net.specs.declared.parts.Part.{Part}
 use Rattle.pipe_net.specs.Parts.{parts_of}
 use Rattle.pipe_net.specs.Layout.{Layout, IsSized}
 use Rattle.pipe_net.specs.Relation.{HoldFrames}
-use Rattle.pipe_net.specs.Saying.{ShowDues, ShowReturns}
+use Rattle.pipe_net.specs.Saying.{ShowReloads, ShowReturns}
 use Rattle.pipe_net.specs.PipeFrames.Parts.{AreFrameParts}
 
--- By which packets are due it is shown which places send back.
+-- By which packets must reload it is shown which places send back.
 abbrev pub PlacesReturn : Type 0
 PlacesReturn =
     (l : Layout) (d : Whole Part) → IsSized l → AreFrameParts l d → d.parts ≡ parts_of l.sizes
-    → (i : Inputs) (s : State) (ss : Part → Stored) (v : Env (Name Part)) (given : ℕ) (ns : List ℕ) → HoldFrames l given ns s ss → Sees d (words_of i) ss v → ShowDues l s v → ShowReturns l s v
+    → (i : Inputs) (s : State) (ss : Part → Stored) (v : Env (Name Part)) (given : ℕ) (ns : List ℕ) → HoldFrames l given ns s ss → Sees d (words_of i) ss v → ShowReloads l s v → ShowReturns l s v

@@ -15,21 +15,21 @@ use Rattle.pipe_net.specs.Machine.{input_of, access_in}
 use Rattle.pipe_net.specs.Layout.{Layout}
 use Rattle.pipe_net.specs.Relation.{HoldMaps}
 use Rattle.pipe_net.specs.Saying.{ShowChanges}
-use Rattle.pipe_net.specs.PipeTurns.Parts.{ready_net, AreTurnParts}
+use Rattle.pipe_net.specs.PipeTurns.Parts.{ready_net, AreActionParts}
 use Rattle.pipe_net.specs.PipeTurns.Hosting.{MapsAllow}
 use Rattle.pipe_net.specs.PipeMaps.Premises.{HasMaps, IsMapClock}
 
 -- They show what the clock changes.
 abbrev pub ChangesAreShown : Type 0
 ChangesAreShown =
-    (l : Layout) (d : Whole Part) (turn : AreTurnParts l d) (is : HasMaps l d turn) (i : Inputs) (s : State) (ss : Part → Stored) (v : Env (Name Part)) → IsMapClock l d turn is.parts i s ss v → ShowChanges l (input_of i) s v
+    (l : Layout) (d : Whole Part) (action : AreActionParts l d) (is : HasMaps l d action) (i : Inputs) (s : State) (ss : Part → Stored) (v : Env (Name Part)) → IsMapClock l d action is.parts i s ss v → ShowChanges l (input_of i) s v
 
 -- It is shown what the host reads.
 abbrev pub ValueIsShown : Type 0
 ValueIsShown =
-    (l : Layout) (d : Whole Part) (turn : AreTurnParts l d) → HasMaps l d turn → (i : Inputs) (s : State) (ss : Part → Stored) (v : Env (Name Part)) → HoldMaps l s ss → Sees d (words_of i) ss v → v.net (ready_net l) ≡ bit (host_ready l.build s)
+    (l : Layout) (d : Whole Part) (action : AreActionParts l d) → HasMaps l d action → (i : Inputs) (s : State) (ss : Part → Stored) (v : Env (Name Part)) → HoldMaps l s ss → Sees d (words_of i) ss v → v.net (ready_net l) ≡ bit (host_ready l.build s)
     → v.net (value_name (part.value l.sizes)) ≡ word 64 (host_value (host_ready l.build s) s.tables (Some (access_in i)))
 
 -- Of each map it is shown whether the host may write the word that it names.
 abbrev pub MapsLetWrite : Type 0
-MapsLetWrite = (l : Layout) (d : Whole Part) (turn : AreTurnParts l d) → HasMaps l d turn → MapsAllow l d
+MapsLetWrite = (l : Layout) (d : Whole Part) (action : AreActionParts l d) → HasMaps l d action → MapsAllow l d

@@ -1,4 +1,4 @@
--- The tables behind a clock.
+-- The tables after a clock.
 use Rattle.std.specs.Prelude.{◌≡◌, ℕ, ◌<◌, List, length}
 use Rattle.hazard_core.specs.xdp_maps.declared.decl.MapDecl.{MapDecl}
 use Rattle.hazard_core.specs.xdp_maps.State.{MapState, opened_state}
@@ -14,7 +14,7 @@ use Rattle.pipe_net.specs.declared.parts.Part.{Part}
 use Rattle.pipe_net.specs.Parts as part
 use Rattle.pipe_net.specs.Machine.{input_of}
 use Rattle.pipe_net.specs.Layout.{Layout}
-use Rattle.pipe_net.specs.PipeTurns.Parts.{AreTurnParts}
+use Rattle.pipe_net.specs.PipeTurns.Parts.{AreActionParts}
 use Rattle.pipe_net.specs.PipeMaps.Parts.{AreMapParts}
 use Rattle.pipe_net.specs.PipeMaps.Premises.{HasMaps, IsMapClock}
 
@@ -25,13 +25,13 @@ pub record HoldTables (l : Layout) (t : TableState) (ss : Part → Stored) : Typ
 
 abbrev pub TablesFollow : Type 0
 TablesFollow =
-    (l : Layout) (d : Whole Part) (turn : AreTurnParts l d) (is : HasMaps l d turn) (i : Inputs) (s : State) (ss : Part → Stored) (v : Env (Name Part)) → IsMapClock l d turn is.parts i s ss v
+    (l : Layout) (d : Whole Part) (action : AreActionParts l d) (is : HasMaps l d action) (i : Inputs) (s : State) (ss : Part → Stored) (v : Env (Name Part)) → IsMapClock l d action is.parts i s ss v
     → HoldTables l (clock l.build (input_of i) s).tables (λ p. done v (d.block p).statement (ss p))
 
 -- Before the first clock it is the table of a map without entries.
 abbrev pub TablesBegin : Type 0
 TablesBegin =
-    (l : Layout) (d : Whole Part) (turn : AreTurnParts l d) (maps : MapState) → AreMapParts l d turn → maps.decls ≡ l.decls → ((m : ℕ) → m < length l.decls → IsFirst (decl_of l.decls m) (table_at (tables_of maps) m))
+    (l : Layout) (d : Whole Part) (action : AreActionParts l d) (maps : MapState) → AreMapParts l d action → maps.decls ≡ l.decls → ((m : ℕ) → m < length l.decls → IsFirst (decl_of l.decls m) (table_at (tables_of maps) m))
     → HoldTables l (new_state l.build maps).tables (λ p. first_of (d.block p))
 
 -- So are the tables of maps before anything is written.

@@ -18,19 +18,19 @@ use Rattle.pipe_net.specs.Parts.{parts_of}
 use Rattle.pipe_net.specs.Machine.{input_of}
 use Rattle.pipe_net.specs.Layout.{Layout, IsSized, program_of, commit_of}
 use Rattle.pipe_net.specs.Relation.{IsStored, HoldMarks}
-use Rattle.pipe_net.specs.Saying.{moves_in, ShowDues, ShowChanges}
+use Rattle.pipe_net.specs.Saying.{moves_in, ShowReloads, ShowChanges}
 use Rattle.pipe_net.specs.Standing.{ShowPackets}
 use Rattle.pipe_net.specs.PipeMarks.Parts.{advances, AreMarkParts}
 
 -- the nets that the parts of marks read have the values of their widths
 abbrev pub MarksAreFit : (l : Layout) (d : Whole Part) → AreMarkParts l d → Env (Name Part) → Type 0
-MarksAreFit l d parts v = (k : ℕ) (w : k ≤ commit_of l) → AreFit v (outside (advances l) (parts k w).sites) × AreFit v (mark_operands (parts k w).dues)
+MarksAreFit l d parts v = (k : ℕ) (w : k ≤ commit_of l) → AreFit v (outside (advances l) (parts k w).sites) × AreFit v (mark_operands (parts k w).reloads)
 
--- They show which packets are due.
-abbrev pub DuesAreShown : Type 0
-DuesAreShown =
+-- They show which packets must reload.
+abbrev pub ReloadsAreShown : Type 0
+ReloadsAreShown =
     (l : Layout) (d : Whole Part) → IsSized l → (parts : AreMarkParts l d) → d.parts ≡ parts_of l.sizes
-    → (i : Inputs) (s : State) (ss : Part → Stored) (v : Env (Name Part)) → HoldMarks l s ss → Sees d (words_of i) ss v → ((p : Part) → Among p d.parts → IsStored (d.block p) (ss p)) → MarksAreFit l d parts v → ShowPackets l s v → ShowDues l s v
+    → (i : Inputs) (s : State) (ss : Part → Stored) (v : Env (Name Part)) → HoldMarks l s ss → Sees d (words_of i) ss v → ((p : Part) → Among p d.parts → IsStored (d.block p) (ss p)) → MarksAreFit l d parts v → ShowPackets l s v → ShowReloads l s v
 
 -- A clock in which it is shown whether packets move on, and what changes. Sites have as many words as the keys of their maps.
 abbrev pub MarksFollow : Type 0

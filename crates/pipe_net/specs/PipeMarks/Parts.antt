@@ -15,10 +15,10 @@ use Rattle.read_net.specs.TouchNet.Touching.{key_bytes, IsAmong}
 use Rattle.read_net.specs.declared.mark_net.nets.MarkSite.{MarkSite}
 use Rattle.read_net.specs.MarkNet.Marks.{IsMarks}
 use Rattle.read_net.specs.MarkNet.Sites.{AreMarkSites}
-use Rattle.read_net.specs.MarkNet.Due.{IsDue}
+use Rattle.read_net.specs.MarkNet.Reload.{MustReload}
 use Rattle.control_net.specs.Names.{wire_name}
 use Rattle.control_net.specs.declared.names.Wire.TheVariants.{Advances}
-use Rattle.control_net.specs.Returns.{due_name}
+use Rattle.control_net.specs.Returns.{reload_name}
 use Rattle.hazard_core.specs.HeldRows.Fits.{IsMadeBefore}
 use Rattle.pipe_net.specs.declared.parts.Part.{Part}
 use Rattle.pipe_net.specs.Parts as part
@@ -79,10 +79,10 @@ pub record AreMarksOf (l : Layout) (k : ℕ) (d : Whole Part) : Type 0 where
   pub each : (i : ℕ) (m : MarkSite (Name Part)) → i < length sites → IsMarkAt l k i (get_or sites i m)
   pub are : AreMarkSites (program_of l) l.decls sites
   pub block : IsMarks (program_of l) l.decls (part.marks l.sizes k) (advances l) sites (d.block (part.marks l.sizes k))
-  pub dues : List (MarkNets (Name Part))
-  pub known : AreKnown (program_of l) l.build.plan.row k (read_sites l k) dues
-  pub nets : (i : ℕ) (m : MarkNets (Name Part)) → i < length dues → IsMarkNets l k i (get_or dues i m)
-  pub due : IsDue (part.due k) dues (due_name l.due k) (d.block (part.due k))
+  pub reloads : List (MarkNets (Name Part))
+  pub known : AreKnown (program_of l) l.build.plan.row k (read_sites l k) reloads
+  pub nets : (i : ℕ) (m : MarkNets (Name Part)) → i < length reloads → IsMarkNets l k i (get_or reloads i m)
+  pub reload : MustReload (part.reload k) reloads (reload_name l.reload k) (d.block (part.reload k))
 
 abbrev pub AreMarkParts : Layout → Whole Part → Type 0
 AreMarkParts l d = (k : ℕ) → k ≤ commit_of l → AreMarksOf l k d

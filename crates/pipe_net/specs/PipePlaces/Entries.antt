@@ -8,7 +8,7 @@ use Rattle.hazard_core.specs.cell_core.Acts.{is_access, pointer_operand}
 use Rattle.hazard_core.specs.cell_core.Cells.{cell_at, site_in}
 use Rattle.hazard_core.specs.cell_core.Sites.{SiteView, site_at}
 use Rattle.hazard_core.specs.Tables.{TableState}
-use Rattle.hazard_core.specs.Held.{Held, pointer_in, access_pointer}
+use Rattle.hazard_core.specs.StageValues.{StageValues, pointer_in, access_pointer}
 use Rattle.hazard_core.specs.Rows.{cell_pointer}
 use Rattle.hazard_core.specs.TableLaws.Leading.{LeadsInto, FoundsLead}
 use Rattle.pipe_core.specs.Machine.{Packet, State, Build, place_at, new_state, clock}
@@ -30,13 +30,13 @@ pointer_cell s = slice_index s.operands (pointer_operand s.act)
 -- the others, its reads fit their cells, and what it found of keys leads into the maps of their sites, the pointer of an access does so too if its cell is in these rows.
 abbrev pub AccessesLead : Build → Type 0
 AccessesLead b =
-    (t : TableState) (packet : PacketIn) (r : ℕ) (h : Held)
+    (t : TableState) (packet : PacketIn) (r : ℕ) (h : StageValues)
     → ((c : ℕ) → c < length b.program.cells → b.plan.row c < r → site_in (cell_at b.program.cells c).op ≡ None → IsMade b t packet h c) → ReadsFit b r h → FoundsLead b.program t h
     → (j : ℕ) → j < length b.program.sites → is_access (site_at b.program.sites j).act ≡ true → b.plan.row (pointer_cell (site_at b.program.sites j)) < r
     → LeadsInto b.program t (site_at b.program.sites j).map (access_pointer h (site_at b.program.sites j))
 
 -- What a packet found of keys leads into the maps of their sites, and of the rows below r the other cells have the pointers that they make of what it holds.
-pub record HasPointers (b : Build) (t : TableState) (r : ℕ) (h : Held) : Type 0 where
+pub record HasPointers (b : Build) (t : TableState) (r : ℕ) (h : StageValues) : Type 0 where
   pub founds : FoundsLead b.program t h
   pub others : (c : ℕ) → c < length b.program.cells → b.plan.row c < r → site_in (cell_at b.program.cells c).op ≡ None
       → pointer_in h c ≡ cell_pointer b.program b.plan.row (b.plan.row c) t h (cell_at b.program.cells c) (cell_at b.program.cells c).op

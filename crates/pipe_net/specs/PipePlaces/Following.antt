@@ -13,10 +13,10 @@ use Rattle.hazard_core.specs.cell_core.Sites.{ProgramView, site_at}
 use Rattle.hazard_core.specs.Tables.{TableState, decl_of, table_at, slot_at}
 use Rattle.hazard_core.specs.Tabled.{AreTables}
 use Rattle.hazard_core.specs.declared.pointer.Pointer.TheVariants.{InSlot}
-use Rattle.hazard_core.specs.Held.{Held, access_pointer}
+use Rattle.hazard_core.specs.StageValues.{StageValues, access_pointer}
 use Rattle.read_net.specs.overlay_net.ValueNet.Words.{answers_number}
 use Rattle.stage_net.specs.row_net.PlaceNet.Sources.{IsShownIn}
-use Rattle.pipe_core.specs.Machine.{Packet, State, newcomer, some_send, swept, inside, no_frame, place_at, new_state, clock}
+use Rattle.pipe_core.specs.Machine.{Packet, State, newcomer, some_send, flushed, inside, no_frame, place_at, new_state, clock}
 use Rattle.pipe_core.specs.History.{Trace, IsInOrder}
 use Rattle.pipe_core.specs.Computed.{IsComputed}
 use Rattle.pipe_net.specs.declared.parts.Part.{Part}
@@ -31,12 +31,12 @@ use Rattle.std.proofs.Common.{get_or}
 
 -- ---- what packets read
 -- an access that answers goes through a pointer to a slot that its map has, or to none
-abbrev pub HasEntries : ProgramView → TableState → Held → Type 0
+abbrev pub HasEntries : ProgramView → TableState → StageValues → Type 0
 HasEntries p t h =
     (j n : ℕ) → j < length p.sites → answers_number (site_at p.sites j).act ≡ true → access_pointer h (site_at p.sites j) ≡ InSlot n → n < length (table_at t (site_at p.sites j).map)
 
 -- Tables that a packet can read: they are tables of their declarations, with values of bytes, and its pointers are into their maps.
-pub record IsServed (l : Layout) (t : TableState) (h : Held) : Type 0 where
+pub record IsServed (l : Layout) (t : TableState) (h : StageValues) : Type 0 where
   pub tables : AreTables t
   pub values : (m n : ℕ) → m < length l.decls → n < length (table_at t m) → IsBytes (decl_of l.decls m).value (slot_at (table_at t m) n).value
   pub entries : HasEntries (program_of l) t h
@@ -49,8 +49,8 @@ pub record AreServed (l : Layout) (s : State) : Type 0 where
 -- of a packet that is injected its frame is shown
 abbrev pub ShowsNewcomer : Layout → State → Env (Name Part) → Type 0
 ShowsNewcomer l s v =
-    (x : Packet) → newcomer l.build (some_send l.build 0 s.places) s.frames (swept l.build 0 s.places) ≡ Some x
-    → IsShownIn (part.sources l.sizes) l.kept v (get_or s.frames (inside (swept l.build 0 s.places)) no_frame)
+    (x : Packet) → newcomer l.build (some_send l.build 0 s.places) s.frames (flushed l.build 0 s.places) ≡ Some x
+    → IsShownIn (part.sources l.sizes) l.kept v (get_or s.frames (inside (flushed l.build 0 s.places)) no_frame)
 
 -- ---- the laws
 -- A clock in which it is shown whether packets move on, and the frame of one that is injected.

@@ -36,14 +36,14 @@ pub record AreListsAt (l : Layout) (plan : Plan) (needed parts : List Bool) (k :
   pub made_pointers : l.made_pointers k ≡ made_pointers (program_of l) plan needed l.flags k
   pub held_pointers : l.held_pointers k ≡ held_pointers (program_of l) plan needed parts l.flags k
 
--- What stands behind it for cells and for pointers are its registers, numbers, and no pointers where cells have none.
+-- What stands after it for cells and for pointers are its registers, numbers, and no pointers where cells have none.
 pub record AreTablesBehind (l : Layout) (plan : Plan) (needed parts : List Bool) (k : ℕ) : Type 0 where
   pub tables : StageTables (Name Part)
   pub stand : StandBehind (part.place l.sizes k) (program_of l) plan needed parts l.flags l.bits k tables
   pub table : l.table (suc k) ≡ tables.table.items
   pub pointers : l.pointers (suc k) ≡ tables.pointers.items
 
--- a byte of an answer and the operand that stands for it behind the last place
+-- a byte of an answer and the operand that stands for it after the last place
 pub record IsChanged (l : Layout) (x : AnswerByte (Name Part)) : Type 0 where
   pub byte : FrameByte
   pub changed : Contains (program_of l).frame byte
@@ -55,7 +55,7 @@ pub record HasRoom (l : Layout) (m : ℕ) : Type 0 where
   pub bits : (decl_of l.decls m).cap ≤ 2 ^ l.slot_bits m
   pub most : (decl_of l.decls m).cap ≤ most_slots
 
--- The program's rows are those of a plan, and all places are laid out by it. Before the first one stand numbers, and no pointers where cells have none; behind the last one stands
+-- The program's rows are those of a plan, and all places are laid out by it. Before the first one stand numbers, and no pointers where cells have none; after the last one stands
 -- the answer.
 pub record IsLaidOut (l : Layout) : Type 0 where
   pub plan : Plan

@@ -1,7 +1,7 @@
 -- The parts of places: the slots of hashes, the words under pointers, and the places.
 use Rattle.std.specs.Prelude.{◌≡◌, ℕ, ◌+◌, ◌/◌, ◌<◌, ◌≤◌, Some, All, List, [], ◌∷◌, length, slice_index}
 use Rattle.std.proofs.Common.{get_or}
-use Rattle.block_core.specs.beat_core.Ports.{Arrival}
+use Rattle.beat_core.specs.Ports.{Arrival}
 use Rattle.block_core.specs.net_core.Value.{Env}
 use Rattle.block_core.specs.declared.name.Name.{Name}
 use Rattle.block_core.specs.Blocks.{BlockWireTree, Whole}

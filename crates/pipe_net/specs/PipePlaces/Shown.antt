@@ -32,7 +32,7 @@ RegistersFit =
     (l : Layout) (d : Whole Part) → IsSized l → AreStageParts l d → d.parts ≡ parts_of l.sizes
     → (i : Inputs) (ss : Part → Stored) (v : Env (Name Part)) → Sees d (words_of i) ss v → ((p : Part) → Among p d.parts → IsStored (d.block p) (ss p)) → (k : ℕ) → k ≤ last_of l → AreFit v (held_registers l k)
 
--- and behind the last place what its packet answers
+-- and after the last place what its packet answers
 abbrev pub AnswersAreShown : Type 0
 AnswersAreShown =
     (l : Layout) (d : Whole Part) → IsSized l → AreStageParts l d → d.parts ≡ parts_of l.sizes

@@ -16,7 +16,7 @@ use Rattle.read_net.specs.Sites.{IsMap}
 use Rattle.turn_net.specs.cell_nets.OperandBlocks.Wiring.{wires_block}
 use Rattle.commit_net.specs.declared.target.TakenSlot.{TakenSlot}
 use Rattle.turn_net.specs.declared.nets.RecordNets.{RecordNets}
-use Rattle.turn_net.specs.Turns.{record_sites}
+use Rattle.turn_net.specs.Actions.{record_sites}
 use Rattle.turn_net.specs.Nets.{kept}
 use Rattle.pipe_net.specs.declared.parts.Part.{Part}
 use Rattle.pipe_net.specs.Parts as part
@@ -43,10 +43,10 @@ pub record IsSlotsPart (l : Layout) (d : Whole Part) (m : ℕ) : Type 0 where
 abbrev pub records_on : ProgramView → ℕ → List ℕ
 records_on p m = filter (λ j. (site_at p.sites j).map == m) (record_sites p)
 
--- ---- the slots that updates of hashes took stand in registers behind the first one, whichever the map
+-- ---- the slots that updates of hashes took stand in registers after the first one, whichever the map
 abbrev pub taken_from : Layout → ℕ → List (RecordNets (Name Part)) → List (TakenSlot (Name Part))
 taken_from l at [] = []
-taken_from l at (r ∷ rs) = record { site = r.number; slot = Net (name.Register (part.turn l.sizes) at) l.turn_shape.slot_bits } ∷ taken_from l (suc at) rs
+taken_from l at (r ∷ rs) = record { site = r.number; slot = Net (name.Register (part.action l.sizes) at) l.action_shape.slot_bits } ∷ taken_from l (suc at) rs
 
 abbrev pub taken_slots : Layout → List (TakenSlot (Name Part))
 taken_slots l = taken_from l 1 (kept l.records)

@@ -17,14 +17,14 @@ use Rattle.read_net.specs.Sites.{sites_of as own_sites, IsOwn}
 use Rattle.commit_net.specs.declared.map_block.form.MapForm.{MapForm}
 use Rattle.commit_net.specs.MapBlock.Stored.{host_may}
 use Rattle.turn_net.specs.declared.host_net.names.HostNets.{HostNets}
-use Rattle.turn_net.specs.declared.host_net.names.Wire.TheVariants.{Calm, Ready, Writes}
+use Rattle.turn_net.specs.declared.host_net.names.Wire.TheVariants.{Idle, Ready, Writes}
 use Rattle.turn_net.specs.HostNet.Names.{wire_name}
 use Rattle.turn_net.specs.HostNet.Host.{may_tree, IsHost}
 use Rattle.turn_net.specs.declared.nets.RecordNets.{RecordNets}
-use Rattle.turn_net.specs.declared.nets.TurnNets.{TurnNets}
-use Rattle.turn_net.specs.Turns.{record_sites}
+use Rattle.turn_net.specs.declared.nets.ActionNets.{ActionNets}
+use Rattle.turn_net.specs.Actions.{record_sites}
 use Rattle.turn_net.specs.Nets.{sites_of, AreRecords}
-use Rattle.turn_net.specs.Turn.{IsTurn}
+use Rattle.turn_net.specs.Action.{IsAction}
 use Rattle.turn_net.specs.declared.target_net.targets.Target.{Target}
 use Rattle.turn_net.specs.TargetNet.Targets.{IsTargets}
 use Rattle.turn_net.specs.TargetNet.Commits.{AreMaps, IsCommits}
@@ -35,8 +35,8 @@ use Rattle.pipe_net.specs.Standing.{IsAtPlace}
 use Rattle.pipe_net.specs.PipeTurns.Maps.{decl_at, IsMapAt, IsSlotsPart, records_on, taken_slots}
 
 -- ---- nets of the part that says what the host may do: no frame is inside, the host is heard, it writes
-abbrev pub calm_net : Layout → Name Part
-calm_net l = wire_name (part.host l.sizes) Calm
+abbrev pub idle_net : Layout → Name Part
+idle_net l = wire_name (part.host l.sizes) Idle
 
 abbrev pub ready_net : Layout → Name Part
 ready_net l = wire_name (part.host l.sizes) Ready
@@ -50,13 +50,13 @@ abbrev pub present_net : Layout → Name Part
 present_net l = register_name (part.control l.sizes) (Holds (commit_of l))
 
 abbrev pub done_net : Layout → Name Part
-done_net l = name.Register (part.turn l.sizes) 0
+done_net l = name.Register (part.action l.sizes) 0
 
 abbrev pub host_nets : Layout → HostNets Part
 host_nets l = record { partial = name.Register (part.gather l.sizes) 0; present = present_net l; done = done_net l; control = part.control l.sizes }
 
-abbrev pub turn_nets : Layout → TurnNets Part
-turn_nets l = record { present = present_net l; back = back_name l.shape (part.returns l.sizes) (commit_of l); host = writes_net l }
+abbrev pub action_nets : Layout → ActionNets Part
+action_nets l = record { present = present_net l; back = back_name l.shape (part.returns l.sizes) (commit_of l); host = writes_net l }
 
 -- map m as its block sees it
 abbrev pub form_at : Layout → ℕ → MapForm
@@ -80,7 +80,7 @@ pub record IsTargetOf (l : Layout) (owns : ℕ → List (OwnSite (Name Part))) (
   pub target : (t : Target (Name Part)) → (get_or (outs (site_at (program_of l).sites r.number).map) at t).slot ≡ r.target
 
 -- ---- all of them
-pub record AreTurnParts (l : Layout) (d : Whole Part) : Type 0 where
+pub record AreActionParts (l : Layout) (d : Whole Part) : Type 0 where
   -- of each map what stands for it, its record sites, and what these write
   pub maps : ℕ → MapNets (Name Part)
   pub own : ℕ → List (OwnSite (Name Part))
@@ -89,7 +89,7 @@ pub record AreTurnParts (l : Layout) (d : Whole Part) : Type 0 where
   -- the host: of each map whether it lets the host write
   pub may : List (Tree (Name Part))
   pub many : length may ≡ length l.decls
-  pub lets : (m : ℕ) → m < length l.decls → may_tree may m ≡ host_may (form_at l m) (part.own l.sizes m) (calm_net l)
+  pub lets : (m : ℕ) → m < length l.decls → may_tree may m ≡ host_may (form_at l m) (part.own l.sizes m) (idle_net l)
   pub host : IsHost (part.host l.sizes) (host_nets l) may (d.block (part.host l.sizes))
   -- the record sites, of which each is chosen or not, or one of them
   pub records : AreRecords (program_of l) l.decls l.records
@@ -98,7 +98,7 @@ pub record AreTurnParts (l : Layout) (d : Whole Part) : Type 0 where
   pub written : All (IsTargetOf l own targets) l.records
   pub chosen : List (Operand (Name Part))
   pub one : Name Part
-  pub turn : IsTurn (program_of l) l.decls (part.turn l.sizes) l.turn_shape (turn_nets l) l.records (d.block (part.turn l.sizes)) chosen one l.stays
+  pub action : IsAction (program_of l) l.decls (part.action l.sizes) l.action_shape (action_nets l) l.records (d.block (part.action l.sizes)) chosen one l.stays
   -- the maps of the record sites, and of each map whether an operation on it commits
   pub numbers : List ℕ
   pub are_maps : AreMaps (program_of l) numbers l.records

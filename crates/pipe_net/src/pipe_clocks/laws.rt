@@ -5,7 +5,7 @@ ghost use Rattle.pipe_net.specs.PipeClocks.Standing.{ClocksGoOn, PipelinesStart,
 ghost use Rattle.pipe_net.specs.PipeClocks.Right.{ReadsAreRight, EmptyIsRight};
 
 /// A pipeline whose parts store what a state of the machine says shows what the machine does, and where only what may come
-/// does they store behind the clock what its next state says; so they do before the first clock.
+/// does they store after the clock what its next state says; so they do before the first clock.
 pub fn clocks_follow()
     ensures shows { ClocksShow }
     ensures clock { ClocksFollow }
@@ -15,11 +15,11 @@ pub fn clocks_follow()
     crate::pipe_forms::laws::pipelines_are_formed();
     crate::pipe_frames::laws::places_return();
     crate::pipe_frames::laws::frames_follow();
-    crate::pipe_marks::laws::dues_are_shown();
+    crate::pipe_marks::laws::reloads_are_shown();
     crate::pipe_marks::laws::marks_follow();
     crate::pipe_turns::laws::host_is_shown();
-    crate::pipe_turns::laws::turn_is_shown();
-    crate::pipe_turns::laws::turn_follows();
+    crate::pipe_turns::laws::action_is_shown();
+    crate::pipe_turns::laws::action_follows();
     crate::pipe_places::laws::packets_are_shown();
     crate::pipe_places::laws::packets_follow();
     crate::pipe_maps::laws::tables_follow();
@@ -27,7 +27,7 @@ pub fn clocks_follow()
     crate::pipe_maps::laws::host_is_served();
 }
 
-/// Behind a clock of a pipeline, in which only what may come does and what commits is right, what such a clock rests on stands again; so it does before the
+/// After a clock of a pipeline, in which only what may come does and what commits is right, what such a clock rests on stands again; so it does before the
 /// first clock. So over every list of clocks a pipeline shows what the machine of the pipe does, and no divisor in it is 0; in a last one, too, in which something else comes.
 pub fn clocks_go_on()
     ensures clock { ClocksGoOn }

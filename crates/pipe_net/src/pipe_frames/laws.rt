@@ -3,7 +3,7 @@
 ghost use Rattle.pipe_net.specs.PipeFrames.Returning.{PlacesReturn};
 ghost use Rattle.pipe_net.specs.PipeFrames.Following.{FramesFollow, FramesBegin};
 
-/// By which packets are due it is shown which places send back.
+/// By which packets must reload it is shown which places send back.
 pub fn places_return()
     ensures { PlacesReturn }
 {}

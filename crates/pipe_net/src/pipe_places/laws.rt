@@ -5,21 +5,21 @@ ghost use Rattle.pipe_net.specs.PipePlaces.Sites.{AtPlaces};
 ghost use Rattle.pipe_net.specs.PipePlaces.Following.{PacketsFollow, PacketsBegin};
 ghost use Rattle.pipe_net.specs.PipePlaces.Entries.{EntriesFollow, EntriesBegin, EntriesServe};
 
-/// The registers of places show what their packets hold, and behind the last one it is shown what its packet answers.
+/// The registers of places show what their packets hold, and after the last one it is shown what its packet answers.
 pub fn packets_are_shown()
     ensures held { PacketsAreShown }
     ensures fit { RegistersFit }
     ensures answers { AnswersAreShown }
 {}
 
-/// The operands of sites that the tables behind a place give show what its packet holds.
+/// The operands of sites that the tables after a place give show what its packet holds.
 pub fn sites_at_places()
     ensures { AtPlaces }
 {
     stage_net::site_table::laws::stages_are_placed();
 }
 
-/// By what the other parts say in a clock the places hold behind it what the machine's next state says; so they do before the first clock.
+/// By what the other parts say in a clock the places hold after it what the machine's next state says; so they do before the first clock.
 pub fn packets_follow()
     ensures clock { PacketsFollow }
     ensures first { PacketsBegin }

@@ -1,4 +1,4 @@
--- What stands behind a place, where it is said with other words for the same.
+-- What stands after a place, where it is said with other words for the same.
 use Rattle.std.proofs.Common.{◌≡◌, ℕ, List, subst, Option}
 use Rattle.block_core.specs.declared.name.Name.{Name}
 use Rattle.hazard_core.specs.cell_core.Cells.{CellView}

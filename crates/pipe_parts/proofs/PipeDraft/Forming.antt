@@ -1,23 +1,17 @@
 -- The forms of maps, one after another.
-use Rattle.std.proofs.Common.{◌≡◌, ◌∙◌, ℕ, zero, suc, ◌<◌, List, [], ◌∷◌, length, get_or, refl, arith}
+use Rattle.std.proofs.Common.{◌≡◌, ◌∙◌, ℕ, ◌<◌, List, length, get_or, arith}
 use Rattle.std.proofs.lemmas.List.{length-map, get_or-map, ext_get_or}
 use Rattle.hazard_core.specs.xdp_maps.declared.decl.MapDecl.{MapDecl}
 use Rattle.hazard_core.specs.xdp_maps.State.{no_decl}
 use Rattle.commit_net.specs.declared.map_block.form.MapForm.{MapForm}
-use Rattle.commit_net.specs.MapBlock.Forms.{IsSuited}
-use Rattle.pipe_parts.specs.PipeDraft.Draft.{decls_of, AreForms}
+use Rattle.commit_net.specs.MapBlock.Forms.{FormFits}
+use Rattle.pipe_parts.specs.PipeDraft.PipelinePlan.{decls_of, AreForms}
 
 -- a form of the map of this number, declared so
 pub record IsFormOf (m : ℕ) (d : MapDecl) (f : MapForm) : Type 0 where
   pub number : f.number ≡ m
   pub decl : f.decl ≡ d
-  pub suited : IsSuited f
-
--- where there is an element it does not matter what would stand for none
-pub same_default : {X : Type 0} (xs : List X) (n : ℕ) (d e : X) → n < length xs → get_or xs n d ≡ get_or xs n e
-same_default [] n d e lt = absurd (omega arith)
-same_default (x ∷ xs) zero d e lt = refl
-same_default (x ∷ xs) (suc n) d e lt = same_default xs n d e (omega (arith, lt))
+  pub form_fits : FormFits f
 
 no_form : MapForm
 no_form = record { number = 0; bits = 0; decl = no_decl }
@@ -30,6 +24,6 @@ module _ (decls : List MapDecl) (forms : List MapForm) (count : length forms ≡
 
   pub are_forms : AreForms forms
   are_forms = record {
-    suited = λ m f lt. (each m f no_decl (omega (arith, lt, count))).suited;
+    form_fits = λ m f lt. (each m f no_decl (omega (arith, lt, count))).form_fits;
     number = λ m f lt. (each m f no_decl (omega (arith, lt, count))).number;
   }

@@ -1,9 +1,8 @@
 -- What is kept of frames becomes more.
 use Rattle.std.specs.Prelude.{Contains, ◌==◌, ◌/◌}
-use Rattle.std.proofs.Common.{◌≡◌, ◌∙◌, ◌⊎◌, inl, inr, ℕ, ◌+◌, ◌<◌, ◌≤◌, Bool, true, false, Some, All, List, [], ◌∷◌, ◌++◌, length, get_or, refl, sym, ap, subst, arith}
+use Rattle.std.proofs.Common.{◌≡◌, ◌∙◌, ◌⊎◌, inl, inr, ℕ, ◌+◌, ◌<◌, ◌≤◌, Bool, true, false, Some, All, List, [], length, get_or, refl, sym, ap, subst, arith}
 use Rattle.std.proofs.lemmas.Bool.{eqb-true, eqb-false}
-use Rattle.std.proofs.lemmas.List.{length_push}
-use Rattle.std.proofs.lemmas.List.Elements.{Contains-append_left, Contains-push, Contains-push_cases, Contains-get_or, All-contains, recursion_from_All}
+use Rattle.std.proofs.lemmas.List.Elements.{Contains-get_or, All-contains, recursion_from_All}
 use Rattle.hazard_core.specs.cell_core.declared.operator.Operator.{Operator}
 use Rattle.hazard_core.specs.cell_core.declared.operator.Operator.TheVariants.{Byte}
 use Rattle.hazard_core.specs.cell_core.Cells.{CellView, cell_at}
@@ -18,18 +17,6 @@ use Rattle.pipe_parts.specs.PipeDraft.Keeping.{KeepsMore}
 module _ (cells : List CellView) (listed : List ℕ) where
   pub keeps_none : (A : Kept → Type 0) (most : ℕ) (old : List Kept) → ((x : Kept) → A x → ¬ IsTakenBy cells listed x) → KeepsMore cells listed A most old old
   keeps_none A most old never = record { count = omega arith; stays = λ x c. c; met = λ x s t. absurd (never x s t); some = λ x c. inl c }
-
-  pub keeps_one : (what : Kept) (old : List Kept) → IsTakenBy cells listed what → KeepsMore cells listed (λ x. x ≡ what) 1 old (old ++ what ∷ [])
-  keeps_one what old t = record {
-    count = omega (arith, length_push old what);
-    stays = λ x c. Contains-append_left old (what ∷ []) x c;
-    met = λ x e u. subst (Contains (old ++ what ∷ [])) (sym e) (Contains-push old what);
-    some = λ x c. by_case x (Contains-push_cases old what x c);
-  }
-    where
-      by_case : (x : Kept) → Contains old x ⊎ (what ≡ x) → Contains old x ⊎ ((x ≡ what) × IsTakenBy cells listed x)
-      by_case x (inl c) = inl c
-      by_case x (inr e) = inr (sym e, subst (IsTakenBy cells listed) e t)
 
   pub keeps_both : (A B : Kept → Type 0) (m n : ℕ) (old mid new : List Kept) → KeepsMore cells listed A m old mid → KeepsMore cells listed B n mid new → KeepsMore cells listed (λ x. A x ⊎ B x) (m + n) old new
   keeps_both A B m n old mid new f g = record {
@@ -124,10 +111,3 @@ module _ (cells : List CellView) (listed : List ℕ) where
       taken = taken;
       only = λ x c. (only x (more.some x c)).1;
     }
-
-  -- ---- one, or none
-  pub untaken : (what : Kept) (b : Bool) (old : List Kept) → (IsTakenBy cells listed what → b ≡ true) → b ≡ false → KeepsMore cells listed (λ x. x ≡ what) 1 old old
-  untaken what b old all e = keeps_none (λ x. x ≡ what) 1 old (λ x s t. differ b e (all (subst (IsTakenBy cells listed) s t)))
-    where
-      differ : (t : Bool) → t ≡ false → t ≡ true → ⊥
-      differ t f g = cc

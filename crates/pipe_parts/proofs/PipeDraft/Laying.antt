@@ -1,11 +1,9 @@
--- Layouts by drafts are laid out by the plan.
+-- Layouts by pipeline plans are laid out by the plan.
 use Rattle.std.proofs.Common.{◌≡◌, ◌∙◌, ℕ, suc, ◌^◌, ◌<◌, ◌≤◌, All, List, [], ◌∷◌, length, map as map_list, get_or, sym, ap, subst, arith, slice_index}
 use Rattle.std.proofs.lemmas.List.{length-map, get_or-map}
 use Rattle.hazard_core.specs.xdp_maps.declared.decl.MapDecl.{MapDecl}
-use Rattle.hazard_core.specs.xdp_maps.declared.decl.MapKind.{MapKind}
-use Rattle.hazard_core.specs.xdp_maps.declared.decl.MapKind.TheVariants.{Hash, Array}
-use Rattle.hazard_core.specs.xdp_maps.Contents.{IsWithinLimits, limits_as}
 use Rattle.hazard_core.specs.xdp_maps.State.{no_decl}
+use Rattle.hazard_core.proofs.xdp_maps_laws.LimitLaws.{cap_few}
 use Rattle.hazard_core.specs.cell_core.Sites.{ProgramView}
 use Rattle.block_core.specs.declared.name.Name.{Name}
 use Rattle.hazard_core.specs.Tables.{decl_of}
@@ -31,12 +29,12 @@ use Rattle.pipe_net.specs.declared.parts.Sizes.{Sizes}
 use Rattle.pipe_net.specs.Parts as part
 use Rattle.pipe_net.specs.Layout.{Layout, program_of, last_of, commit_of, HasAnswer}
 use Rattle.pipe_net.specs.PipePlaces.Layout.{load_sites, AreListsAt, AreTablesBehind, HasRoom, IsLaidOut}
-use Rattle.pipe_parts.specs.declared.pipe_draft.draft.Draft.{Draft}
-use Rattle.pipe_parts.specs.declared.pipe_draft.places.Behind.{Behind}
+use Rattle.pipe_parts.specs.declared.pipe_draft.pipeline_plan.PipelinePlan.{PipelinePlan}
+use Rattle.pipe_parts.specs.declared.pipe_draft.places.StageSources.{StageSources}
 use Rattle.pipe_parts.specs.PipeDraft.Program.{build_of}
-use Rattle.pipe_parts.specs.PipeDraft.Draft.{program_in, plan_in, decls_in, IsDraft}
+use Rattle.pipe_parts.specs.PipeDraft.PipelinePlan.{program_in, plan_in, decls_in, IsPipelinePlan}
 use Rattle.pipe_parts.specs.PipeDraft.Places.{ArePlaces}
-use Rattle.pipe_parts.specs.PipeDraft.Laid.{IsDrafted, IsAnswered}
+use Rattle.pipe_parts.specs.PipeDraft.Laid.{IsPipelinePlanned, IsAnswered}
 use Rattle.pipe_parts.proofs.PipeDraft.Sourcing.{are_sources}
 
 -- an element of a list that has some
@@ -44,15 +42,7 @@ some_of : {X : Type 0} (xs : List X) → 0 < length xs → X
 some_of [] lt = absurd (omega arith)
 some_of (x ∷ xs) lt = x
 
--- what a map may have at most
-most_of : (kind : MapKind) (d : MapDecl) → limits_as kind d → d.cap ≤ 65536
-most_of Hash d h = omega (arith, h)
-most_of Array d h = h.1
-
-pub cap_most : (d : MapDecl) → IsWithinLimits d → d.cap ≤ 65536
-cap_most d h = most_of d.kind d h.by_kind
-
-module _ (d : Draft) (is : IsDraft d) where
+module _ (d : PipelinePlan) (is : IsPipelinePlan d) where
   abbrev p : ProgramView
   p = program_in d
 
@@ -79,7 +69,7 @@ module _ (d : Draft) (is : IsDraft d) where
   decl_is : (m : ℕ) → m < length d.forms.items → decl_of (decls_in d) m ≡ (get_or d.forms.items m no_form).decl
   decl_is m lt = get_or-map (λ (f : MapForm). f.decl) d.forms.items m no_form no_decl lt
 
-  module _ (places : List Behind) (l : Layout) (stand : ArePlaces d places) (from : IsDrafted d places l) where
+  module _ (places : List StageSources) (l : Layout) (stand : ArePlaces d places) (from : IsPipelinePlanned d places l) where
     program : program_of l ≡ p
     program = ap (λ (b : Build). b.program) from.build
 
@@ -89,7 +79,7 @@ module _ (d : Draft) (is : IsDraft d) where
     pub commits_up : commit_of l ≤ last_of l
     commits_up = subst (λ (b : Build). b.plan.commit ≤ b.plan.last) (sym from.build) is.ready.commit
 
-    -- what holds of the draft's program, cells, flags and bits holds of the layout's
+    -- what holds of the pipeline plan's program, cells, flags and bits holds of the layout's
     of_program : (P : ProgramView → Type 0) → P p → P (program_of l)
     of_program P h = subst P (sym program) h
 
@@ -103,12 +93,12 @@ module _ (d : Draft) (is : IsDraft d) where
     room m lt =
         let within : m < length d.forms.items = omega (arith, many, lt) in
         let form = get_or d.forms.items m no_form in
-        let suited = is.forms.suited m no_form within in
+        let form_fits = is.forms.form_fits m no_form within in
         let same : decl_of l.decls m ≡ form.decl = ap (λ ds. decl_of ds m) from.decls ∙ decl_is m within in
         let bits = from.slot_bits m no_form lt in
         record {
-          bits = subst (λ (x : MapDecl). x.cap ≤ 2 ^ l.slot_bits m) (sym same) (subst (λ b. form.decl.cap ≤ 2 ^ b) (sym bits) suited.room);
-          most = subst (λ (x : MapDecl). x.cap ≤ 65536) (sym same) (cap_most form.decl suited.limits);
+          bits = subst (λ (x : MapDecl). x.cap ≤ 2 ^ l.slot_bits m) (sym same) (subst (λ b. form.decl.cap ≤ 2 ^ b) (sym bits) form_fits.room);
+          most = subst (λ (x : MapDecl). x.cap ≤ 65536) (sym same) (cap_few form.decl form_fits.limits);
         }
 
     lists : (k : ℕ) → AreListsAt l plan d.needed.items d.parts.items k
@@ -168,7 +158,7 @@ module _ (d : Draft) (is : IsDraft d) where
     }
 
     -- the operands of a site are those that the tables give
-    pub site_of_tables : (k j : ℕ) (b : Behind) (s : SiteNets (Name Part)) → k ≤ last_of l → j < length (program_of l).sites
+    pub site_of_tables : (k j : ℕ) (b : StageSources) (s : SiteNets (Name Part)) → k ≤ last_of l → j < length (program_of l).sites
         → IsSiteOf (program_of l) (l.table (suc k)) (l.pointers (suc k)) j (operands_of (get_or (get_or places k b).sites.items j s))
     site_of_tables k j b s le lt =
         let up : k ≤ plan.last = omega (arith, le, last) in

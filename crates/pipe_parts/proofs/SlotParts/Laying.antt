@@ -1,6 +1,7 @@
--- In a pipeline by a draft the parts show the slots of its maps.
+-- In a pipeline by a pipeline plan the parts show the slots of its maps.
 use Rattle.std.proofs.Common.{◌≡◌, ◌∙◌, ℕ, ◌+◌, ◌<◌, List, length, get_or, sym, ap, subst, arith}
 use Rattle.std.proofs.lemmas.List.{length-map, get_or-map}
+use Rattle.block_core.proofs.list_laws_laws.PlaceLaws.{some_of}
 use Rattle.block_core.specs.declared.name.Name.{Name}
 use Rattle.block_core.specs.Blocks.{BlockTree, Whole}
 use Rattle.block_core.specs.View.{block_of}
@@ -21,14 +22,14 @@ use Rattle.pipe_net.specs.declared.parts.Sizes.{Sizes}
 use Rattle.pipe_net.specs.Parts as part
 use Rattle.pipe_net.specs.Layout.{Layout}
 use Rattle.pipe_net.specs.PipeTurns.Maps.{decl_at, IsSlotsPart}
-use Rattle.pipe_parts.specs.declared.pipe_draft.draft.Draft.{Draft}
-use Rattle.pipe_parts.specs.declared.pipe_draft.places.Behind.{Behind}
-use Rattle.pipe_parts.specs.PipeDraft.Laid.{IsDrafted}
+use Rattle.pipe_parts.specs.declared.pipe_draft.pipeline_plan.PipelinePlan.{PipelinePlan}
+use Rattle.pipe_parts.specs.declared.pipe_draft.places.StageSources.{StageSources}
+use Rattle.pipe_parts.specs.PipeDraft.Laid.{IsPipelinePlanned}
 use Rattle.pipe_parts.specs.declared.slot_parts.slots.SlotsPart.{SlotsPart}
 use Rattle.pipe_parts.specs.SlotParts.Slots.{IsSlotsPartOf, AreSlotsParts}
 use Rattle.pipe_parts.specs.SlotParts.Nets.{IsMapOfForm, AreMapNets}
 use Rattle.pipe_parts.specs.SlotParts.Laws.{IsShownMap, AreShownMaps, HasSlotBlocks}
-use Rattle.pipe_parts.proofs.SlotParts.Filling.{some_of, maps_same}
+use Rattle.pipe_parts.proofs.SlotParts.Filling.{maps_same}
 
 slots_as :
     (x z : Sizes) (m : ℕ) (e f : MapDecl) (a b : ℕ) (t u : BlockTree (Name Part)) → x ≡ z → e ≡ f → a ≡ b → t ≡ u → IsSlots (part.slots z m) (part.own z m) f b u → IsSlots (part.slots x m) (part.own x m) e a t
@@ -40,7 +41,7 @@ slots_as x z m e f a b t u sizes decl bits block h =
 no_form : MapForm
 no_form = record { number = 0; bits = 0; decl = no_decl }
 
-module _ (d : Draft) (places : List Behind) (l : Layout) (w : Whole Part) (rs : List SlotsPart) (nets : List (MapNets (Name Part))) (from : IsDrafted d places l) (parts : AreSlotsParts d rs) (maps : AreMapNets d nets)
+module _ (d : PipelinePlan) (places : List StageSources) (l : Layout) (w : Whole Part) (rs : List SlotsPart) (nets : List (MapNets (Name Part))) (from : IsPipelinePlanned d places l) (parts : AreSlotsParts d rs) (maps : AreMapNets d nets)
     (blocks : HasSlotBlocks l w rs) where
   many : length l.decls ≡ length d.forms.items
   many = ap length from.decls ∙ length-map d.forms.items (λ (f : MapForm). f.decl)
@@ -84,7 +85,7 @@ module _ (d : Draft) (places : List Behind) (l : Layout) (w : Whole Part) (rs : 
 
     shown_map : IsShownMap l w m (get_or nets m n)
     shown_map = record {
-      turns = record { is = of.is; decl = of.decl ∙ sym decl; bits = of.bits ∙ sym from.bits; slots = shown; used = used; none = λ k. of.none (kind Array k) };
+      actions = record { is = of.is; decl = of.decl ∙ sym decl; bits = of.bits ∙ sym from.bits; slots = shown; used = used; none = λ k. of.none (kind Array k) };
       part = slots_part;
       places = record { decl = of.decl ∙ sym decl; slots = shown; used = used; block = slots_part.hash };
       uncounted = λ k. of.uncounted (kind Array k);

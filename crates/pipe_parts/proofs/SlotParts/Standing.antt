@@ -2,7 +2,7 @@
 use Rattle.std.specs.Prelude.{◌*◌, ◌^◌, ◌≤◌}
 use Rattle.std.specs.List.{range_with_len}
 use Rattle.std.proofs.Common.{◌≡◌, ◌∙◌, ℕ, zero, suc, ◌+◌, ◌<◌, All, [], length, get_or, map as map_list, refl, sym, ap, subst, arith}
-use Rattle.std.proofs.lemmas.List.{length-map, get_or-map}
+use Rattle.std.proofs.lemmas.List.{length-map, get_or-map, get_or_default}
 use Rattle.std.proofs.lemmas.List.FromFn.{length-range_with_len}
 use Rattle.std.proofs.lemmas.List.Elements.{All-nil, All-cons, All-map}
 use Rattle.hazard_core.specs.xdp_maps.declared.decl.MapDecl.{MapDecl}
@@ -23,16 +23,15 @@ use Rattle.hash_net.specs.SlotNet.Shown.{per_slot, shown_slot, shown_slots}
 use Rattle.read_net.specs.declared.sites.MapNets.{MapNets}
 use Rattle.read_net.specs.Sites.{IsMap}
 use Rattle.commit_net.specs.declared.map_block.form.MapForm.{MapForm}
-use Rattle.commit_net.specs.MapBlock.Forms.{IsSuited}
+use Rattle.commit_net.specs.MapBlock.Forms.{FormFits}
 use Rattle.pipe_net.specs.declared.parts.Part.{Part}
 use Rattle.pipe_net.specs.declared.parts.Sizes.{Sizes}
 use Rattle.pipe_net.specs.Parts as part
 use Rattle.pipe_parts.specs.declared.slot_parts.slots.SlotsPart.{SlotsPart}
-use Rattle.pipe_parts.specs.declared.pipe_draft.draft.Draft.{Draft}
-use Rattle.pipe_parts.specs.PipeDraft.Draft.{decls_in, IsDraft}
+use Rattle.pipe_parts.specs.declared.pipe_draft.pipeline_plan.PipelinePlan.{PipelinePlan}
+use Rattle.pipe_parts.specs.PipeDraft.PipelinePlan.{decls_in, IsPipelinePlan}
 use Rattle.pipe_parts.specs.SlotParts.Slots.{IsSlotsPartOf, IsSlotsPartIn}
 use Rattle.pipe_parts.specs.SlotParts.Nets.{IsMapOfForm, IsMapIn}
-use Rattle.pipe_parts.proofs.SlotParts.Filling.{same_there}
 use Rattle.pipe_parts.proofs.SlotParts.Showing.{one_kind}
 
 -- ---- what shows the slots of a hash
@@ -52,7 +51,7 @@ shown_are : (p : Part) (d : MapDecl) → All (IsSlot d.key) (shown_slots p d)
 shown_are p d = All-map (IsSlot d.key) (shown_slot p d) (range_with_len 0 d.cap) (λ i e lt. shown_is p d (get_or (range_with_len 0 d.cap) i e))
 
 -- ---- a map
-module _ (z : Sizes) (bits m : ℕ) (f : MapForm) (r : SlotsPart) (n : MapNets (Name Part)) (suited : IsSuited f) (of : IsSlotsPartOf z m f r) (decl : n.decl.now ≡ f.decl) (same_bits : n.bits ≡ bits) (same : n.slots.now ≡ r.slots.items)
+module _ (z : Sizes) (bits m : ℕ) (f : MapForm) (r : SlotsPart) (n : MapNets (Name Part)) (form_fits : FormFits f) (of : IsSlotsPartOf z m f r) (decl : n.decl.now ≡ f.decl) (same_bits : n.bits ≡ bits) (same : n.slots.now ≡ r.slots.items)
     (some : 3 ≤ bits) (most : bits ≤ 34) (room : 4 * f.decl.cap + 1 < 2 ^ bits) where
   slots_are : slots_of n.slots.now ≡ slots_of r.slots.items
   slots_are = ap slots_of same
@@ -62,7 +61,7 @@ module _ (z : Sizes) (bits m : ℕ) (f : MapForm) (r : SlotsPart) (n : MapNets (
 
   is_map : All (IsSlot f.decl.key) (slots_of n.slots.now) → length (slots_of n.slots.now) ≤ f.decl.cap → IsOperand n.used → IsNarrow 17 n.used → IsMap n
   is_map slots few used narrow = record {
-    limits = subst IsWithinLimits (sym decl) suited.limits;
+    limits = subst IsWithinLimits (sym decl) form_fits.limits;
     slots = subst (λ (d : MapDecl). All (IsSlot d.key) (slots_of n.slots.now)) (sym decl) slots;
     used = used;
     used_narrow = narrow;
@@ -79,7 +78,7 @@ module _ (z : Sizes) (bits m : ℕ) (f : MapForm) (r : SlotsPart) (n : MapNets (
       record {
         is =
             is_map (subst (All (IsSlot f.decl.key)) (sym shown) (shown_are (part.slots z m) f.decl)) (omega (arith, count))
-            (subst IsOperand (sym used) (record { some = omega arith; most = omega (arith, suited.most) })) (subst (IsNarrow 17) (sym used) (omega (arith, suited.most)));
+            (subst IsOperand (sym used) (record { some = omega arith; most = omega (arith, form_fits.most) })) (subst (IsNarrow 17) (sym used) (omega (arith, form_fits.most)));
         decl = decl;
         bits = same_bits;
         slots = λ k. shown;
@@ -104,10 +103,10 @@ module _ (z : Sizes) (bits m : ℕ) (f : MapForm) (r : SlotsPart) (n : MapNets (
         uncounted = λ k. used;
       }
 
--- ---- a map of a draft, by the form that stands at its number
-module _ (d : Draft) (is : IsDraft d) (m : ℕ) (f : MapForm) (lt : m < length d.forms.items) (same : f ≡ get_or d.forms.items m f) where
-  pub suited_at : IsSuited f
-  suited_at = subst IsSuited (sym same) (is.forms.suited m f lt)
+-- ---- a map of a pipeline plan, by the form that stands at its number
+module _ (d : PipelinePlan) (is : IsPipelinePlan d) (m : ℕ) (f : MapForm) (lt : m < length d.forms.items) (same : f ≡ get_or d.forms.items m f) where
+  pub form_fits_at : FormFits f
+  form_fits_at = subst FormFits (sym same) (is.forms.form_fits m f lt)
 
   room_at : 4 * f.decl.cap + 1 < 2 ^ d.bits
   room_at =
@@ -117,11 +116,11 @@ module _ (d : Draft) (is : IsDraft d) (m : ℕ) (f : MapForm) (lt : m < length d
   pub map_in :
       (r : SlotsPart) (n : MapNets (Name Part)) → IsSlotsPartIn d m r → n.decl.now ≡ f.decl → n.bits ≡ d.bits → n.slots.now ≡ r.slots.items → (f.decl.kind ≡ Hash → n.used ≡ Net (count_name (part.own d.sizes m)) (f.bits + 1))
       → (f.decl.kind ≡ Array → n.used ≡ Known 0) → IsMapIn d m n
-  map_in r n of decl bits slots hash array g = subst (λ x. IsMapOfForm d.sizes d.bits m x n) (same ∙ same_there d.forms.items m f g lt) (by_kind f.decl.kind refl)
+  map_in r n of decl bits slots hash array g = subst (λ x. IsMapOfForm d.sizes d.bits m x n) (same ∙ get_or_default d.forms.items m f g lt) (by_kind f.decl.kind refl)
     where
       shows : IsSlotsPartOf d.sizes m f r
       shows = subst (λ x. IsSlotsPartOf d.sizes m x r) (sym same) (of f)
 
       by_kind : (k : MapKind) → f.decl.kind ≡ k → IsMapOfForm d.sizes d.bits m f n
-      by_kind Hash k = hash_map d.sizes d.bits m f r n suited_at shows decl bits slots is.bits.some is.bits.most room_at k (hash k)
-      by_kind Array k = array_map d.sizes d.bits m f r n suited_at shows decl bits slots is.bits.some is.bits.most room_at k (array k)
+      by_kind Hash k = hash_map d.sizes d.bits m f r n form_fits_at shows decl bits slots is.bits.some is.bits.most room_at k (hash k)
+      by_kind Array k = array_map d.sizes d.bits m f r n form_fits_at shows decl bits slots is.bits.some is.bits.most room_at k (array k)

@@ -6,6 +6,7 @@ use Rattle.std.proofs.Common.{◌≡◌, ◌∙◌, ℕ, zero, suc, ◌<◌, All
 use Rattle.std.proofs.lemmas.Bool.{eq-eqb}
 use Rattle.std.proofs.lemmas.List.{get_or-map, length-map}
 use Rattle.std.proofs.lemmas.List.Elements.{All-cons}
+use Rattle.block_core.proofs.list_laws_laws.PlaceLaws.{some_of}
 use Rattle.block_core.specs.declared.name.Name.{Name}
 use Rattle.hazard_core.specs.cell_core.Sites.{site_at}
 use Rattle.overlay_net.specs.cell_nets.declared.operand.Operand.{Operand}
@@ -18,17 +19,16 @@ use Rattle.read_net.specs.Sites.{sites_of}
 use Rattle.commit_net.specs.declared.map_block.form.MapForm.{MapForm}
 use Rattle.hazard_core.specs.Tables.{decl_of}
 use Rattle.turn_net.specs.declared.nets.RecordNets.{RecordNets}
-use Rattle.turn_net.specs.Turns.{record_sites}
+use Rattle.turn_net.specs.Actions.{record_sites}
 use Rattle.turn_net.specs.Nets.{site_read}
 use Rattle.turn_net.specs.declared.target_net.targets.Target.{Target}
 use Rattle.turn_net.specs.declared.target_net.targets.TargetPart.{TargetPart}
 use Rattle.turn_net.specs.TargetNet.Targets.{all_of, HasTargets}
 use Rattle.pipe_net.specs.declared.parts.Part.{Part}
-use Rattle.pipe_parts.specs.declared.pipe_draft.draft.Draft.{Draft}
-use Rattle.pipe_parts.specs.declared.pipe_draft.places.Behind.{Behind}
-use Rattle.pipe_parts.specs.PipeDraft.Draft.{program_in, decls_in, IsDraft}
-use Rattle.pipe_parts.specs.PipeDraft.Places.{IsBehind}
-use Rattle.pipe_parts.proofs.SlotParts.Filling.{some_of}
+use Rattle.pipe_parts.specs.declared.pipe_draft.pipeline_plan.PipelinePlan.{PipelinePlan}
+use Rattle.pipe_parts.specs.declared.pipe_draft.places.StageSources.{StageSources}
+use Rattle.pipe_parts.specs.PipeDraft.PipelinePlan.{program_in, decls_in, IsPipelinePlan}
+use Rattle.pipe_parts.specs.PipeDraft.Places.{AreStageSources}
 use Rattle.pipe_parts.specs.TurnParts.Sites.{AreOwnOf, list_at}
 use Rattle.pipe_parts.specs.TurnParts.Records.{AreTargetParts, HaveTargets, targets_at, IsTargetAt, AreRecordsOf, IsRecordAt, AreRecordsAt}
 use Rattle.pipe_parts.proofs.TurnParts.Listing.{in_filter}
@@ -51,12 +51,12 @@ pub targets_read :
 targets_read rs k m r outs lt same is = is ∙ ap (λ n. (get_or rs n r).targets.items) same ∙ sym (targets_are rs m r lt)
 
 pub have_targets :
-    (d : Draft) (maps : List (MapNets (Name Part))) (own : ℕ → List (OwnSite (Name Part))) (taken : List (TakenSlot (Name Part))) (rs : List (TargetPart Part)) → length maps ≡ length d.forms.items → AreTargetParts d maps own taken rs
+    (d : PipelinePlan) (maps : List (MapNets (Name Part))) (own : ℕ → List (OwnSite (Name Part))) (taken : List (TakenSlot (Name Part))) (rs : List (TargetPart Part)) → length maps ≡ length d.forms.items → AreTargetParts d maps own taken rs
     → HaveTargets d own rs
 have_targets d maps own taken rs many are = record { count = are.count; each = λ m f r lt. (are.each m (some_of maps m (omega (arith, lt, many))) f r lt).has }
 
 -- a record site is among those of its map
-pub own_there : (d : Draft) (b : Behind) (m j : ℕ) (owns : List (OwnSite (Name Part))) → AreOwnOf d b m owns → Contains (record_sites (program_in d)) j → (site_at (program_in d).sites j).map ≡ m → Contains (sites_of owns) j
+pub own_there : (d : PipelinePlan) (b : StageSources) (m j : ℕ) (owns : List (OwnSite (Name Part))) → AreOwnOf d b m owns → Contains (record_sites (program_in d)) j → (site_at (program_in d).sites j).map ≡ m → Contains (sites_of owns) j
 own_there d b m j owns are there same =
     subst (λ js. Contains js j) (sym are.sites) (in_filter (λ i. (site_at (program_in d).sites i).map == m) (record_sites (program_in d)) j there (eq-eqb (site_at (program_in d).sites j).map m same))
 
@@ -84,7 +84,7 @@ module _ (bits j : ℕ) (owns : List (OwnSite (Name Part))) (outs : List (Target
   target_narrow = let t = some_of outs at.at within in subst (IsNarrow bits) (at.target t) (narrow_bits bits (get_or outs at.at t).slot (has.slot_bits at.at t within))
 
 -- ---- what stands for an operation
-module _ (d : Draft) (own : ℕ → List (OwnSite (Name Part))) (rs : List (TargetPart Part)) (have : HaveTargets d own rs) where
+module _ (d : PipelinePlan) (own : ℕ → List (OwnSite (Name Part))) (rs : List (TargetPart Part)) (have : HaveTargets d own rs) where
   pub has_at : (m : ℕ) (f : MapForm) → m < length d.forms.items → HasTargets (get_or d.forms.items m f).bits (own m) (targets_at rs m)
   has_at m f lt =
       let there : m < length rs = omega (arith, lt, have.count) in
@@ -92,7 +92,7 @@ module _ (d : Draft) (own : ℕ → List (OwnSite (Name Part))) (rs : List (Targ
       subst (HasTargets (get_or d.forms.items m f).bits (own m)) (sym (targets_are rs m r there)) (have.each m f r lt)
 
   pub record_is :
-      IsDraft d → (k : ℕ) (b : Behind) → IsBehind d k b → (x : RecordNets (Name Part)) → x.number < length (program_in d).sites → x.act ≡ (site_at (program_in d).sites x.number).act
+      IsPipelinePlan d → (k : ℕ) (b : StageSources) → AreStageSources d k b → (x : RecordNets (Name Part)) → x.number < length (program_in d).sites → x.act ≡ (site_at (program_in d).sites x.number).act
       → x.decl.now ≡ decl_of (decls_in d) (site_at (program_in d).sites x.number).map → x.nets.now ≡ get_or b.sites.items x.number x.nets.now
       → IsTargetAt (own (site_at (program_in d).sites x.number).map) (targets_at rs (site_at (program_in d).sites x.number).map) x.number x.target → IsRecordAt d b own (targets_at rs) x
   record_is is k b behind x lt act decl nets target =
@@ -111,5 +111,5 @@ module _ (d : Draft) (own : ℕ → List (OwnSite (Name Part))) (rs : List (Targ
         target = target;
       }
 
-pub records_of : (d : Draft) (b : Behind) (own : ℕ → List (OwnSite (Name Part))) (outs : ℕ → List (Target (Name Part))) (rs : List (RecordNets (Name Part))) → AreRecordsAt d b own outs rs → AreRecordsOf d rs
+pub records_of : (d : PipelinePlan) (b : StageSources) (own : ℕ → List (OwnSite (Name Part))) (outs : ℕ → List (Target (Name Part))) (rs : List (RecordNets (Name Part))) → AreRecordsAt d b own outs rs → AreRecordsOf d rs
 records_of d b own outs rs are = record { sites = are.sites; each = λ i x lt. (are.each i x lt).of }

@@ -7,6 +7,7 @@ use Rattle.std.proofs.lemmas.List.Elements.{filter-append, All-nil, All-cons, Al
 use Rattle.std.proofs.lemmas.List.Kept.{AllPairs-cons, AllPairs-filter}
 use Rattle.std.proofs.lemmas.List.Sums.{length-filter, count_by-le-length}
 use Rattle.hazard_core.specs.cell_core.Rows.{numbers}
+use Rattle.hazard_core.proofs.cell_core_laws.NumberLaws.{numbers_long, numbers_below}
 
 -- ---- the next of a list
 module _ (q : ℕ → Bool) (xs : List ℕ) (i : ℕ) (lt : i < length xs) where
@@ -20,9 +21,6 @@ module _ (q : ℕ → Bool) (xs : List ℕ) (i : ℕ) (lt : i < length xs) where
   filter_same e = next ∙ ap (λ b. filter q (take i xs) ++ cond b (get_or xs i 0 ∷ []) []) e ∙ append-nil (filter q (take i xs))
 
 -- ---- those of all numbers
-numbers_below : (most n from : ℕ) → from + n ≤ most → All (λ k. k < most) (numbers from n)
-numbers_below most zero from h = All-nil (λ k. k < most)
-numbers_below most (suc n) from h = All-cons (λ k. k < most) from (numbers (suc from) n) (omega arith) (numbers_below most n (suc from) (omega arith))
 
 numbers_behind : (low n from : ℕ) → low < from → All (λ k. low < k) (numbers from n)
 numbers_behind low zero from h = All-nil (λ k. low < k)
@@ -31,10 +29,6 @@ numbers_behind low (suc n) from h = All-cons (λ k. low < k) from (numbers (suc 
 numbers_rise : (from n : ℕ) → AllPairs (λ x y. x < y) (numbers from n)
 numbers_rise from zero = λ i j d a b. absurd (omega (arith, b))
 numbers_rise from (suc n) = AllPairs-cons (λ x y. x < y) from (numbers (suc from) n) (numbers_behind from n (suc from) (omega arith)) (numbers_rise (suc from) n)
-
-numbers_long : (from n : ℕ) → length (numbers from n) ≡ n
-numbers_long from zero = refl
-numbers_long from (suc n) = omega (arith, numbers_long (suc from) n)
 
 module _ (q : ℕ → Bool) (n : ℕ) where
   pub kept_below : All (λ k. k < n) (filter q (numbers 0 n))

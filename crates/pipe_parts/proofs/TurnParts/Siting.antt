@@ -1,8 +1,8 @@
--- The sites of a draft at which operations may write, and what stands for them behind a place.
+-- The sites of a pipeline plan at which operations may write, and what stands for them after a place.
 use Rattle.std.specs.Prelude.{Contains, ◌*◌, ◌^◌}
 use Rattle.std.specs.List.{filter, AllPairs}
 use Rattle.std.proofs.Common.{◌≡◌, ◌∙◌, ℕ, ◌+◌, ◌<◌, ◌≤◌, Bool, true, false, All, List, [], ◌∷◌, ◌++◌, length, get_or, take, refl, sym, ap, subst, arith}
-use Rattle.std.proofs.lemmas.List.{length-map, get_or-map, map-append}
+use Rattle.std.proofs.lemmas.List.{length-map, get_or-map, map-append, get_or_default}
 use Rattle.std.proofs.lemmas.List.Elements.{Contains-get_or}
 use Rattle.hazard_core.specs.xdp_maps.declared.decl.MapDecl.{MapDecl}
 use Rattle.hazard_core.specs.xdp_maps.State.{no_decl}
@@ -18,29 +18,27 @@ use Rattle.read_net.specs.declared.sites.OwnSite.{OwnSite}
 use Rattle.read_net.specs.declared.sites.MapNets.{MapNets}
 use Rattle.read_net.specs.Sites.{sites_of, IsWhole}
 use Rattle.commit_net.specs.declared.map_block.form.MapForm.{MapForm}
-use Rattle.turn_net.specs.Turns.{record_sites}
+use Rattle.turn_net.specs.Actions.{record_sites}
 use Rattle.pipe_net.specs.declared.parts.Part.{Part}
-use Rattle.pipe_parts.specs.declared.pipe_draft.draft.Draft.{Draft}
-use Rattle.pipe_parts.specs.declared.pipe_draft.places.Behind.{Behind}
-use Rattle.pipe_parts.specs.PipeDraft.Draft.{program_in, decls_in, IsDraft}
-use Rattle.pipe_parts.specs.PipeDraft.Places.{IsBehind}
-use Rattle.pipe_parts.proofs.SlotParts.Filling.{same_there}
+use Rattle.pipe_parts.specs.declared.pipe_draft.pipeline_plan.PipelinePlan.{PipelinePlan}
+use Rattle.pipe_parts.specs.declared.pipe_draft.places.StageSources.{StageSources}
+use Rattle.pipe_parts.specs.PipeDraft.PipelinePlan.{program_in, decls_in, IsPipelinePlan}
+use Rattle.pipe_parts.specs.PipeDraft.Places.{AreStageSources}
 use Rattle.pipe_parts.specs.TurnParts.Sites.{IsWholeOf, IsOwnOf}
-use Rattle.pipe_parts.proofs.TurnParts.Listing.{filter_more, filter_same, kept_below, kept_rise, kept_few}
+use Rattle.pipe_parts.proofs.TurnParts.Listing.{filter_more, filter_same, kept_rise, kept_few}
+use Rattle.pipe_parts.proofs.TurnParts.SiteLaws.{record_known}
 
 -- ---- maps
 pub no_form : MapForm
 no_form = record { number = 0; bits = 0; decl = no_decl }
 
-pub decl_is : (d : Draft) (m : ℕ) (f : MapForm) → m < length d.forms.items → (get_or d.forms.items m f).decl ≡ decl_of (decls_in d) m
+pub decl_is : (d : PipelinePlan) (m : ℕ) (f : MapForm) → m < length d.forms.items → (get_or d.forms.items m f).decl ≡ decl_of (decls_in d) m
 decl_is d m f lt = sym (get_or-map (λ (g : MapForm). g.decl) d.forms.items m f no_decl lt)
 
-pub maps_there : (d : Draft) (m : ℕ) → m < length (decls_in d) → m < length d.forms.items
+pub maps_there : (d : PipelinePlan) (m : ℕ) → m < length (decls_in d) → m < length d.forms.items
 maps_there d m lt = omega (arith, lt, length-map d.forms.items (λ (g : MapForm). g.decl))
 
 -- ---- record sites
-pub record_known : (p : ProgramView) → All (λ j. j < length p.sites) (record_sites p)
-record_known p = kept_below (λ j. records (site_at p.sites j).act) (length p.sites)
 
 pub records_rise : (p : ProgramView) → AllPairs (λ i j. i < j) (record_sites p)
 records_rise p = kept_rise (λ j. records (site_at p.sites j).act) (length p.sites)
@@ -48,7 +46,7 @@ records_rise p = kept_rise (λ j. records (site_at p.sites j).act) (length p.sit
 pub records_few : (p : ProgramView) → length (record_sites p) ≤ length p.sites
 records_few p = kept_few (λ j. records (site_at p.sites j).act) (length p.sites)
 
-module _ (d : Draft) (is : IsDraft d) where
+module _ (d : PipelinePlan) (is : IsPipelinePlan d) where
   pub listed : (i : ℕ) → i < length d.records.items → get_or d.records.items i 0 < length (program_in d).sites
   listed i lt = subst (λ js. get_or js i 0 < length (program_in d).sites) (sym is.records) (record_known (program_in d) i 0 (omega (arith, lt, ap length is.records)))
 
@@ -58,19 +56,19 @@ module _ (d : Draft) (is : IsDraft d) where
   -- as it is read
   module _ (i j : ℕ) (lt : i < length d.records.items) (same : j ≡ get_or d.records.items i j) where
     pub read_there : j < length (program_in d).sites
-    read_there = omega (arith, listed i lt, same, same_there d.records.items i j 0 lt)
+    read_there = omega (arith, listed i lt, same, get_or_default d.records.items i j 0 lt)
 
     pub site_there : j < length d.program.now.sites.items
     site_there = omega (arith, read_there, length-map d.program.now.sites.items site_of)
 
     pub read_in : Contains (record_sites (program_in d)) j
-    read_in = subst (Contains (record_sites (program_in d))) (same_there d.records.items i 0 j lt ∙ sym same) (listed_in i lt)
+    read_in = subst (Contains (record_sites (program_in d))) (get_or_default d.records.items i 0 j lt ∙ sym same) (listed_in i lt)
 
   pub listed_few : length d.records.items ≤ length (program_in d).sites
   listed_few = omega (arith, ap length is.records, records_few (program_in d))
 
-  -- ---- operands behind a place
-  module _ (k : ℕ) (b : Behind) (behind : IsBehind d k b) (j : ℕ) (lt : j < length (program_in d).sites) (s : SiteNets (Name Part)) (same : s ≡ get_or b.sites.items j s) where
+  -- ---- operands after a place
+  module _ (k : ℕ) (b : StageSources) (behind : AreStageSources d k b) (j : ℕ) (lt : j < length (program_in d).sites) (s : SiteNets (Name Part)) (same : s ≡ get_or b.sites.items j s) where
     of : IsSiteOf (program_in d) b.tables.table.items b.tables.pointers.items j (operands_of s)
     of = subst (λ x. IsSiteOf (program_in d) b.tables.table.items b.tables.pointers.items j (operands_of x)) (sym same) (behind.sites.each j s lt)
 
@@ -78,7 +76,7 @@ module _ (d : Draft) (is : IsDraft d) where
     there = omega (arith, lt, behind.sites.count)
 
     pub nets_at : (x : SiteNets (Name Part)) → s ≡ get_or b.sites.items j x
-    nets_at x = same ∙ same_there b.sites.items j s x there
+    nets_at x = same ∙ get_or_default b.sites.items j s x there
 
     pub operands : All IsOperand (all_of (operands_of s))
     operands = of.operands d.bits behind.tables.behind.table.table behind.tables.behind.pointers.pointers
@@ -94,7 +92,7 @@ module _ (d : Draft) (is : IsDraft d) where
 
   -- ---- the operation there
   pub own_of :
-      (k : ℕ) (b : Behind) → IsBehind d k b → (o : OwnSite (Name Part)) → o.site < length (program_in d).sites → o.act ≡ (site_at (program_in d).sites o.site).act → o.nets.now ≡ get_or b.sites.items o.site o.nets.now
+      (k : ℕ) (b : StageSources) → AreStageSources d k b → (o : OwnSite (Name Part)) → o.site < length (program_in d).sites → o.act ≡ (site_at (program_in d).sites o.site).act → o.nets.now ≡ get_or b.sites.items o.site o.nets.now
       → IsOwnOf d b (site_at (program_in d).sites o.site).map o
   own_of k b behind o lt act same = record {
     known = lt;
@@ -110,7 +108,7 @@ module _ (d : Draft) (is : IsDraft d) where
   }
 
 -- as what stands for the map asks
-pub whole_for : (d : Draft) (m : ℕ) (n : MapNets (Name Part)) (o : OwnSite (Name Part)) → n.decl.now ≡ decl_of (decls_in d) m → n.bits ≡ d.bits → IsWholeOf d m o → IsWhole n o
+pub whole_for : (d : PipelinePlan) (m : ℕ) (n : MapNets (Name Part)) (o : OwnSite (Name Part)) → n.decl.now ≡ decl_of (decls_in d) m → n.bits ≡ d.bits → IsWholeOf d m o → IsWhole n o
 whole_for d m n o decl bits w = record {
   operands = w.operands;
   key = omega (arith, w.key, ap (λ (x : MapDecl). x.key) decl);

@@ -26,7 +26,7 @@ abbrev pub slot_at : Part → ℕ → ℕ → ℕ → TakenSlot (Name Part)
 slot_at p bits j at = record { site = j; slot = Net (name.Register p at) bits }
 
 abbrev pub slot_of : Sizes → ℕ → ℕ → ℕ → TakenSlot (Name Part)
-slot_of z bits j at = slot_at (part.turn z) bits j at
+slot_of z bits j at = slot_at (part.action z) bits j at
 
 pub taken_push : (z : Sizes) (bits at : ℕ) (js : List ℕ) (j : ℕ) → taken_at z bits at (js ++ j ∷ []) ≡ taken_at z bits at js ++ slot_of z bits j (at + length js) ∷ []
 taken_push z bits at [] j = let e : at ≡ at + 0 = omega arith in ap (λ n. slot_of z bits j n ∷ []) e
@@ -40,7 +40,7 @@ taken_long z bits at (j ∷ js) = omega (arith, taken_long z bits (suc at) js)
 
 pub taken_operands : (z : Sizes) (bits at : ℕ) (js : List ℕ) → IsWide bits → All IsOperand (slots_of (taken_at z bits at js))
 taken_operands z bits at [] wide = All-nil IsOperand
-taken_operands z bits at (j ∷ js) wide = All-cons IsOperand (Net (name.Register (part.turn z) at) bits) (slots_of (taken_at z bits (suc at) js)) wide (taken_operands z bits (suc at) js wide)
+taken_operands z bits at (j ∷ js) wide = All-cons IsOperand (Net (name.Register (part.action z) at) bits) (slots_of (taken_at z bits (suc at) js)) wide (taken_operands z bits (suc at) js wide)
 
 -- ---- one after another
 module _ (z : Sizes) (bits : ℕ) (q : ℕ → Bool) (js : List ℕ) (i : ℕ) (lt : i < length js) where
@@ -63,10 +63,10 @@ taken_few z bits q js i ss le so_far =
 -- ---- those of records
 module _ (l : Layout) (p : ProgramView) (decls : List MapDecl) where
   abbrev taken : ℕ → List ℕ → List (TakenSlot (Name Part))
-  taken at js = taken_at l.sizes l.turn_shape.slot_bits at js
+  taken at js = taken_at l.sizes l.action_shape.slot_bits at js
 
   step : (r : RecordNets (Name Part)) (rs : List (RecordNets (Name Part))) (js : List ℕ) → ((at : ℕ) → taken_from l at rs ≡ taken at js) → (t : Bool) (at : ℕ) → taken_from l at (cond t (r ∷ rs) rs) ≡ taken at (cond t (r.number ∷ js) js)
-  step r rs js rest true at = ap (λ ss. slot_of l.sizes l.turn_shape.slot_bits r.number at ∷ ss) (rest (suc at))
+  step r rs js rest true at = ap (λ ss. slot_of l.sizes l.action_shape.slot_bits r.number at ∷ ss) (rest (suc at))
   step r rs js rest false at = rest at
 
   pub taken_same : (rs : List (RecordNets (Name Part))) → All (λ r. keeps r ≡ keeps_at p decls r.number) rs → (at : ℕ) → taken_from l at (kept rs) ≡ taken at (filter (keeps_at p decls) (sites_of rs))

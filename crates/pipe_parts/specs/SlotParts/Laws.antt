@@ -1,4 +1,4 @@
--- The maps of a pipeline that is laid out by a draft, with the parts that show their slots.
+-- The maps of a pipeline that is laid out by a pipeline plan, with the parts that show their slots.
 use Rattle.std.specs.Prelude.{◌≡◌, ℕ, ◌<◌, List, length}
 use Rattle.std.proofs.Common.{get_or}
 use Rattle.block_core.specs.declared.name.Name.{Name}
@@ -11,19 +11,19 @@ use Rattle.stage_net.specs.Nets.{decls_of}
 use Rattle.pipe_net.specs.declared.parts.Part.{Part}
 use Rattle.pipe_net.specs.Parts as part
 use Rattle.pipe_net.specs.Layout.{Layout}
-use Rattle.pipe_net.specs.PipeTurns.Maps as turns
+use Rattle.pipe_net.specs.PipeTurns.Maps as actions
 use Rattle.pipe_net.specs.PipeTurns.Maps.{decl_at, IsSlotsPart}
 use Rattle.pipe_net.specs.PipePlaces.Parts as places
-use Rattle.pipe_parts.specs.declared.pipe_draft.draft.Draft.{Draft}
-use Rattle.pipe_parts.specs.declared.pipe_draft.places.Behind.{Behind}
-use Rattle.pipe_parts.specs.PipeDraft.Laid.{IsDrafted}
+use Rattle.pipe_parts.specs.declared.pipe_draft.pipeline_plan.PipelinePlan.{PipelinePlan}
+use Rattle.pipe_parts.specs.declared.pipe_draft.places.StageSources.{StageSources}
+use Rattle.pipe_parts.specs.PipeDraft.Laid.{IsPipelinePlanned}
 use Rattle.pipe_parts.specs.declared.slot_parts.slots.SlotsPart.{SlotsPart}
 use Rattle.pipe_parts.specs.SlotParts.Slots.{AreSlotsParts}
 use Rattle.pipe_parts.specs.SlotParts.Nets.{AreMapNets}
 
--- map m as the parts of turns and those of places read it, and the part that shows its slots
+-- map m as the parts of actions and those of places read it, and the part that shows its slots
 pub record IsShownMap (l : Layout) (w : Whole Part) (m : ℕ) (nets : MapNets (Name Part)) : Type 0 where
-  pub turns : turns.IsMapAt l m nets
+  pub actions : actions.IsMapAt l m nets
   pub part : IsSlotsPart l w m
   pub places : places.IsMapAt l w m nets
   pub uncounted : (decl_at l m).kind ≡ Array → nets.used ≡ Known 0
@@ -40,5 +40,5 @@ HasSlotBlocks l w rs = (m : ℕ) (r : SlotsPart) → m < length l.decls → w.bl
 -- So are all maps.
 abbrev pub SlotsAreShown : Type 0
 SlotsAreShown =
-    (d : Draft) (places : List Behind) (l : Layout) (w : Whole Part) (rs : List SlotsPart) (nets : List (MapNets (Name Part))) → IsDrafted d places l → AreSlotsParts d rs → AreMapNets d nets → HasSlotBlocks l w rs
+    (d : PipelinePlan) (places : List StageSources) (l : Layout) (w : Whole Part) (rs : List SlotsPart) (nets : List (MapNets (Name Part))) → IsPipelinePlanned d places l → AreSlotsParts d rs → AreMapNets d nets → HasSlotBlocks l w rs
     → AreShownMaps l w nets

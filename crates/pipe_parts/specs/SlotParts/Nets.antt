@@ -1,4 +1,4 @@
--- What stands for the maps of a draft.
+-- What stands for the maps of a pipeline plan.
 use Rattle.std.specs.Prelude.{◌≡◌, ℕ, ◌+◌, ◌<◌, List, [], length}
 use Rattle.std.proofs.Common.{get_or}
 use Rattle.block_core.specs.declared.name.Name.{Name}
@@ -13,7 +13,7 @@ use Rattle.commit_net.specs.declared.map_block.form.MapForm.{MapForm}
 use Rattle.pipe_net.specs.declared.parts.Part.{Part}
 use Rattle.pipe_net.specs.declared.parts.Sizes.{Sizes}
 use Rattle.pipe_net.specs.Parts as part
-use Rattle.pipe_parts.specs.declared.pipe_draft.draft.Draft.{Draft}
+use Rattle.pipe_parts.specs.declared.pipe_draft.pipeline_plan.PipelinePlan.{PipelinePlan}
 
 -- Map m of this form, where the numbers of pointers have so many bits: of a hash the wires that show its slots, and the register that counts those that are used. Of an array
 -- nothing is shown or counted.
@@ -26,11 +26,11 @@ pub record IsMapOfForm (z : Sizes) (pointer_bits m : ℕ) (f : MapForm) (nets : 
   pub none : f.decl.kind ≡ Array → nets.slots.now ≡ []
   pub uncounted : f.decl.kind ≡ Array → nets.used ≡ Known 0
 
--- map m of a draft
-abbrev pub IsMapIn : Draft → ℕ → MapNets (Name Part) → Type 0
+-- map m of a pipeline plan
+abbrev pub IsMapIn : PipelinePlan → ℕ → MapNets (Name Part) → Type 0
 IsMapIn d m nets = (f : MapForm) → IsMapOfForm d.sizes d.bits m (get_or d.forms.items m f) nets
 
 -- all its maps
-pub record AreMapNets (d : Draft) (nets : List (MapNets (Name Part))) : Type 0 where
+pub record AreMapNets (d : PipelinePlan) (nets : List (MapNets (Name Part))) : Type 0 where
   pub count : length nets ≡ length d.forms.items
   pub each : (m : ℕ) (n : MapNets (Name Part)) → m < length d.forms.items → IsMapIn d m (get_or nets m n)

@@ -9,7 +9,7 @@ use Rattle.hash_net.specs.SlotNet.Shown.{shown_slots, IsSlots}
 use Rattle.commit_net.specs.declared.map_block.form.MapForm.{MapForm}
 use Rattle.pipe_net.specs.declared.parts.Sizes.{Sizes}
 use Rattle.pipe_net.specs.Parts as part
-use Rattle.pipe_parts.specs.declared.pipe_draft.draft.Draft.{Draft}
+use Rattle.pipe_parts.specs.declared.pipe_draft.pipeline_plan.PipelinePlan.{PipelinePlan}
 use Rattle.pipe_parts.specs.declared.slot_parts.slots.SlotsPart.{SlotsPart}
 
 -- the part for map m of this form: of a hash its wires show the slots of the part with the map's memories; of an array there is nothing to show
@@ -19,11 +19,11 @@ pub record IsSlotsPartOf (z : Sizes) (m : ℕ) (f : MapForm) (r : SlotsPart) : T
   pub shown : f.decl.kind ≡ Hash → slots_of r.slots.items ≡ shown_slots (part.slots z m) f.decl
   pub none : f.decl.kind ≡ Array → r.slots.items ≡ []
 
--- for map m of a draft
-abbrev pub IsSlotsPartIn : Draft → ℕ → SlotsPart → Type 0
+-- for map m of a pipeline plan
+abbrev pub IsSlotsPartIn : PipelinePlan → ℕ → SlotsPart → Type 0
 IsSlotsPartIn d m r = (f : MapForm) → IsSlotsPartOf d.sizes m (get_or d.forms.items m f) r
 
 -- for all its maps
-pub record AreSlotsParts (d : Draft) (rs : List SlotsPart) : Type 0 where
+pub record AreSlotsParts (d : PipelinePlan) (rs : List SlotsPart) : Type 0 where
   pub count : length rs ≡ length d.forms.items
   pub each : (m : ℕ) (r : SlotsPart) → m < length d.forms.items → IsSlotsPartIn d m (get_or rs m r)

@@ -15,20 +15,20 @@ use Rattle.turn_net.specs.declared.target_net.targets.Target.{Target}
 use Rattle.turn_net.specs.declared.target_net.targets.TargetPart.{TargetPart}
 use Rattle.turn_net.specs.TargetNet.Targets.{HasTargets, IsTargets}
 use Rattle.turn_net.specs.declared.nets.RecordNets.{RecordNets}
-use Rattle.turn_net.specs.Turns.{record_sites}
+use Rattle.turn_net.specs.Actions.{record_sites}
 use Rattle.turn_net.specs.Nets.{sites_of, HasOperands}
 use Rattle.pipe_net.specs.declared.parts.Part.{Part}
 use Rattle.pipe_net.specs.Parts as part
-use Rattle.pipe_parts.specs.declared.pipe_draft.draft.Draft.{Draft}
-use Rattle.pipe_parts.specs.declared.pipe_draft.places.Behind.{Behind}
-use Rattle.pipe_parts.specs.PipeDraft.Draft.{program_in, decls_in}
+use Rattle.pipe_parts.specs.declared.pipe_draft.pipeline_plan.PipelinePlan.{PipelinePlan}
+use Rattle.pipe_parts.specs.declared.pipe_draft.places.StageSources.{StageSources}
+use Rattle.pipe_parts.specs.PipeDraft.PipelinePlan.{program_in, decls_in}
 use Rattle.pipe_parts.specs.TurnParts.Sites.{IsNetsAt}
 
 -- ---- the parts that say it, one for each map
-abbrev pub IsTargetPart : Draft → ℕ → MapNets (Name Part) → List (OwnSite (Name Part)) → List (TakenSlot (Name Part)) → MapForm → TargetPart Part → Type 0
+abbrev pub IsTargetPart : PipelinePlan → ℕ → MapNets (Name Part) → List (OwnSite (Name Part)) → List (TakenSlot (Name Part)) → MapForm → TargetPart Part → Type 0
 IsTargetPart d m map own taken f r = IsTargets (program_in d) m (part.targets d.sizes m) map f.bits own taken r.targets.items (block_of r.block)
 
-pub record AreTargetParts (d : Draft) (maps : List (MapNets (Name Part))) (own : ℕ → List (OwnSite (Name Part))) (taken : List (TakenSlot (Name Part))) (rs : List (TargetPart Part)) : Type 0 where
+pub record AreTargetParts (d : PipelinePlan) (maps : List (MapNets (Name Part))) (own : ℕ → List (OwnSite (Name Part))) (taken : List (TakenSlot (Name Part))) (rs : List (TargetPart Part)) : Type 0 where
   pub count : length rs ≡ length d.forms.items
   pub each : (m : ℕ) (n : MapNets (Name Part)) (f : MapForm) (r : TargetPart Part) → m < length d.forms.items → IsTargetPart d m (get_or maps m n) (own m) taken (get_or d.forms.items m f) (get_or rs m r)
 
@@ -36,7 +36,7 @@ abbrev pub targets_at : List (TargetPart Part) → ℕ → List (Target (Name Pa
 targets_at rs m = get_or (map_list (λ r. r.targets.items) rs) m []
 
 -- of each map what these show, for its record sites
-pub record HaveTargets (d : Draft) (own : ℕ → List (OwnSite (Name Part))) (rs : List (TargetPart Part)) : Type 0 where
+pub record HaveTargets (d : PipelinePlan) (own : ℕ → List (OwnSite (Name Part))) (rs : List (TargetPart Part)) : Type 0 where
   pub count : length rs ≡ length d.forms.items
   pub each : (m : ℕ) (f : MapForm) (r : TargetPart Part) → m < length d.forms.items → HasTargets (get_or d.forms.items m f).bits (own m) (get_or rs m r).targets.items
 
@@ -49,7 +49,7 @@ pub record IsTargetAt (owns : List (OwnSite (Name Part))) (outs : List (Target (
   pub target : (t : Target (Name Part)) → (get_or outs at t).slot ≡ slot
 
 -- the operation at a site of the program, of operands
-pub record IsRecordOf (d : Draft) (r : RecordNets (Name Part)) : Type 0 where
+pub record IsRecordOf (d : PipelinePlan) (r : RecordNets (Name Part)) : Type 0 where
   pub known : r.number < length (program_in d).sites
   pub act : (site_at (program_in d).sites r.number).act ≡ r.act
   pub decl : decl_of (decls_in d) (site_at (program_in d).sites r.number).map ≡ r.decl.now
@@ -57,16 +57,16 @@ pub record IsRecordOf (d : Draft) (r : RecordNets (Name Part)) : Type 0 where
   pub narrow : (f : MapForm) → IsNarrow (get_or d.forms.items (site_at (program_in d).sites r.number).map f).bits r.target
 
 -- those at all record sites, in order
-pub record AreRecordsOf (d : Draft) (rs : List (RecordNets (Name Part))) : Type 0 where
+pub record AreRecordsOf (d : PipelinePlan) (rs : List (RecordNets (Name Part))) : Type 0 where
   pub sites : sites_of rs ≡ record_sites (program_in d)
   pub each : All (IsRecordOf d) rs
 
--- by the operands behind a place, and by what the operations on each map write
-pub record IsRecordAt (d : Draft) (b : Behind) (own : ℕ → List (OwnSite (Name Part))) (outs : ℕ → List (Target (Name Part))) (r : RecordNets (Name Part)) : Type 0 where
+-- by the operands after a place, and by what the operations on each map write
+pub record IsRecordAt (d : PipelinePlan) (b : StageSources) (own : ℕ → List (OwnSite (Name Part))) (outs : ℕ → List (Target (Name Part))) (r : RecordNets (Name Part)) : Type 0 where
   pub of : IsRecordOf d r
   pub nets : IsNetsAt b r.number r.nets.now
   pub target : IsTargetAt (own (site_at (program_in d).sites r.number).map) (outs (site_at (program_in d).sites r.number).map) r.number r.target
 
-pub record AreRecordsAt (d : Draft) (b : Behind) (own : ℕ → List (OwnSite (Name Part))) (outs : ℕ → List (Target (Name Part))) (rs : List (RecordNets (Name Part))) : Type 0 where
+pub record AreRecordsAt (d : PipelinePlan) (b : StageSources) (own : ℕ → List (OwnSite (Name Part))) (outs : ℕ → List (Target (Name Part))) (rs : List (RecordNets (Name Part))) : Type 0 where
   pub sites : sites_of rs ≡ record_sites (program_in d)
   pub each : All (IsRecordAt d b own outs) rs

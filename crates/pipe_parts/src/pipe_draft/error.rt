@@ -1,14 +1,14 @@
-//! Why a program has no draft.
+//! Why a program has no pipeline plan.
 
 ghost use Rattle.std.specs.Prelude.{◌≡◌};
-ghost use Rattle.pipe_parts.specs.declared.pipe_draft.error.DraftError.TheVariants.{NoMemory};
+ghost use Rattle.pipe_parts.specs.declared.pipe_draft.error.PipelinePlanError.TheVariants.{NoMemory};
 
 use std::alloc::{AllocError, AllocFailed};
 use thiserror::Error;
 
-/// Why a program has no draft.
+/// Why a program has no pipeline plan.
 #[derive(Clone, Copy, PartialEq, Eq, Debug, Error)]
-pub enum DraftError {
+pub enum PipelinePlanError {
     /// There are more sites than the numbers of operations have room for.
     #[error("more than 65,536 operations on maps")]
     TooManySites,
@@ -21,18 +21,18 @@ pub enum DraftError {
     NoMemory,
 }
 
-impl From<AllocError> for DraftError {
+impl From<AllocError> for PipelinePlanError {
     ghost from_gives = { λ _ e. e ≡ NoMemory };
 
-    fn from(_error: AllocError) -> DraftError {
-        DraftError::NoMemory
+    fn from(_error: AllocError) -> PipelinePlanError {
+        PipelinePlanError::NoMemory
     }
 }
 
-impl<T: Drop> From<AllocFailed<T>> for DraftError {
+impl<T: Drop> From<AllocFailed<T>> for PipelinePlanError {
     ghost from_gives = { λ _ e. e ≡ NoMemory };
 
-    fn from(_failed: AllocFailed<T>) -> DraftError {
-        DraftError::NoMemory
+    fn from(_failed: AllocFailed<T>) -> PipelinePlanError {
+        PipelinePlanError::NoMemory
     }
 }

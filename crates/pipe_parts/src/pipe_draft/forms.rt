@@ -2,7 +2,7 @@
 
 ghost use Rattle.std.specs.Prelude.{◌≡◌, ◌≤◌, All, IfOk, length};
 ghost use Rattle.hazard_core.specs.xdp_maps.Contents.{IsWithinLimits};
-ghost use Rattle.pipe_parts.specs.PipeDraft.Draft.{decls_of, AreForms};
+ghost use Rattle.pipe_parts.specs.PipeDraft.PipelinePlan.{decls_of, AreForms};
 
 use commit_net::map_block::{MapForm, form_of};
 use hazard_core::cell_core::xdp_state::xdp_maps::decl::MapDecl;

@@ -77,7 +77,7 @@ fn keep_words(kept: &mut Vec<Kept>, cells: &[Cell], listed: &[u32]) -> Result<()
     Ok(())
 }
 
-/// What is kept of frames for these cells: words in their order, and behind them what stands beside frames.
+/// What is kept of frames for these cells: words in their order, and after them what stands beside frames.
 pub(crate) fn kept_words(
     alloc: Global,
     cells: &[Cell],

@@ -5,7 +5,7 @@ ghost use Rattle.hazard_core.specs.cell_core.Sites.{records};
 ghost use Rattle.hazard_core.specs.cell_core.Sites as sites;
 ghost use Rattle.hazard_core.specs.cell_core.View.{program_of};
 ghost use Rattle.overlay_net.specs.ValueNet.Words.{answers_number};
-ghost use Rattle.turn_net.specs.Turns.{record_sites};
+ghost use Rattle.turn_net.specs.Actions.{record_sites};
 ghost use Rattle.pipe_net.specs.PipePlaces.Layout.{load_sites};
 
 use hazard_core::cell_core::program::CellProgram;

@@ -2,7 +2,7 @@
 
 ghost use Rattle.pipe_parts.specs.SlotParts.Laws.{SlotsAreShown};
 
-/// In a pipeline by the draft that has these blocks for its parts, what stands for each map stands for it where packets are looked at.
+/// In a pipeline by the pipeline plan that has these blocks for its parts, what stands for each map stands for it where packets are looked at.
 pub fn slots_are_shown()
     ensures { SlotsAreShown }
 {}

@@ -3,14 +3,14 @@
 ghost use Rattle.std.specs.Prelude.{◌≡◌, ◌+◌, ◌<◌, IfOk, length};
 ghost use Rattle.hazard_core.specs.xdp_maps.declared.decl.MapKind.TheVariants.{Hash, Array};
 ghost use Rattle.hash_net.specs.Hash.{count_name};
-ghost use Rattle.commit_net.specs.MapBlock.Forms.{IsSuited};
+ghost use Rattle.commit_net.specs.MapBlock.Forms.{FormFits};
 ghost use Rattle.pipe_net.specs.Parts as part;
 ghost use Rattle.pipe_net.specs.Parts.{IsSmall};
-ghost use Rattle.pipe_parts.specs.PipeDraft.Draft.{IsDraft};
+ghost use Rattle.pipe_parts.specs.PipeDraft.PipelinePlan.{IsPipelinePlan};
 ghost use Rattle.pipe_parts.specs.SlotParts.Slots.{IsSlotsPartIn, AreSlotsParts};
 ghost use Rattle.pipe_parts.specs.SlotParts.Nets.{IsMapIn, AreMapNets};
 
-use crate::pipe_draft::Draft;
+use crate::pipe_draft::PipelinePlan;
 use crate::slot_parts::slots::SlotsPart;
 use block_core::name::Name;
 use commit_net::map_block::MapForm;
@@ -25,7 +25,7 @@ use std::alloc::{AllocError, Global};
 fn used(sizes: &Sizes, form: &MapForm, m: u32) -> Operand<Name<Part>>
     requires small { IsSmall sizes.now }
     requires map { m < sizes.now.maps }
-    requires suited { IsSuited form.now }
+    requires form_fits { FormFits form.now }
     ensures hash { form.now.decl.kind ≡ Hash → result ≡ Operand.Net (count_name (part.own sizes.now m)) (form.now.bits + 1) }
     ensures array { form.now.decl.kind ≡ Array → result ≡ Operand.Known 0 }
 {
@@ -36,34 +36,38 @@ fn used(sizes: &Sizes, form: &MapForm, m: u32) -> Operand<Name<Part>>
 }
 
 // What stands for a map, by the part that shows its slots.
-fn nets_of<'a>(draft: &'a Draft<'_>, part: &'a SlotsPart, m: u32) -> MapNets<'a, Name<Part>>
-    requires draft { IsDraft draft.now }
-    requires map { m < length draft.now.forms.items }
-    requires part { IsSlotsPartIn draft.now m part.now }
-    ensures { IsMapIn draft.now m result }
+fn nets_of<'a>(
+    pipeline_plan: &'a PipelinePlan<'_>,
+    part: &'a SlotsPart,
+    m: u32,
+) -> MapNets<'a, Name<Part>>
+    requires pipeline_plan { IsPipelinePlan pipeline_plan.now }
+    requires map { m < length pipeline_plan.now.forms.items }
+    requires part { IsSlotsPartIn pipeline_plan.now m part.now }
+    ensures { IsMapIn pipeline_plan.now m result }
 {
-    let form = &draft.forms[m as usize];
+    let form = &pipeline_plan.forms[m as usize];
     MapNets {
         decl: &form.decl,
         slots: &part.slots,
-        used: used(&draft.sizes, form, m),
-        bits: draft.bits,
+        used: used(&pipeline_plan.sizes, form, m),
+        bits: pipeline_plan.bits,
     }
 }
 
 /// What stands for each map, by the parts that show their slots.
 pub fn map_nets<'a>(
     alloc: Global,
-    draft: &'a Draft<'_>,
+    pipeline_plan: &'a PipelinePlan<'_>,
     parts: &'a [SlotsPart],
 ) -> Result<Vec<MapNets<'a, Name<Part>>>, AllocError>
-    requires draft { IsDraft draft.now }
-    requires parts { AreSlotsParts draft.now parts.now }
-    ensures { IfOk result (λ nets. AreMapNets draft.now nets.items) }
+    requires pipeline_plan { IsPipelinePlan pipeline_plan.now }
+    requires parts { AreSlotsParts pipeline_plan.now parts.now }
+    ensures { IfOk result (λ nets. AreMapNets pipeline_plan.now nets.items) }
 {
     let mut nets = Vec::new(alloc);
-    for m in 0..draft.sizes.maps {
-        nets.push(nets_of(draft, &parts[m as usize], m))?;
+    for m in 0..pipeline_plan.sizes.maps {
+        nets.push(nets_of(pipeline_plan, &parts[m as usize], m))?;
     }
     Ok(nets)
 }

@@ -3,16 +3,16 @@
 ghost use Rattle.std.specs.Prelude.{◌≡◌, ◌<◌, [], IfOk, length};
 ghost use Rattle.block_core.specs.View.{block_of};
 ghost use Rattle.hazard_core.specs.xdp_maps.declared.decl.MapKind.TheVariants.{Hash, Array};
-ghost use Rattle.commit_net.specs.MapBlock.Forms.{IsSuited};
+ghost use Rattle.commit_net.specs.MapBlock.Forms.{FormFits};
 ghost use Rattle.overlay_net.specs.cell_nets.OperandBlocks.Wiring.{wires_block};
 ghost use Rattle.hash_net.specs.SlotNet.Shown.{shown_slots, IsSlots};
 ghost use Rattle.hash_net.specs.SlotNet.Slots.{slots_of};
 ghost use Rattle.pipe_net.specs.Parts as part;
 ghost use Rattle.pipe_net.specs.Parts.{IsSmall};
-ghost use Rattle.pipe_parts.specs.PipeDraft.Draft.{IsDraft};
+ghost use Rattle.pipe_parts.specs.PipeDraft.PipelinePlan.{IsPipelinePlan};
 ghost use Rattle.pipe_parts.specs.SlotParts.Slots.{IsSlotsPartIn, AreSlotsParts};
 
-use crate::pipe_draft::Draft;
+use crate::pipe_draft::PipelinePlan;
 use block_core::block::Block;
 use block_core::name::Name;
 use commit_net::map_block::MapForm;
@@ -34,7 +34,7 @@ pub struct SlotsPart {
 fn hash_part(alloc: Global, sizes: &Sizes, form: &MapForm, m: u32) -> Result<SlotsPart, AllocError>
     requires small { IsSmall sizes.now }
     requires map { m < sizes.now.maps }
-    requires suited { IsSuited form.now }
+    requires form_fits { FormFits form.now }
     ensures block { IfOk result (λ r. IsSlots (part.slots sizes.now m) (part.own sizes.now m) form.now.decl form.now.bits (block_of r.block)) }
     ensures slots { IfOk result (λ r. slots_of r.slots.items ≡ shown_slots (part.slots sizes.now m) form.now.decl) }
 {
@@ -55,15 +55,19 @@ fn array_part(alloc: Global) -> Result<SlotsPart, AllocError>
 }
 
 /// The part that shows the slots of a map.
-pub fn slots_part(alloc: Global, draft: &Draft<'_>, m: u32) -> Result<SlotsPart, AllocError>
-    requires draft { IsDraft draft.now }
-    requires map { m < length draft.now.forms.items }
-    ensures { IfOk result (IsSlotsPartIn draft.now m) }
+pub fn slots_part(
+    alloc: Global,
+    pipeline_plan: &PipelinePlan<'_>,
+    m: u32,
+) -> Result<SlotsPart, AllocError>
+    requires pipeline_plan { IsPipelinePlan pipeline_plan.now }
+    requires map { m < length pipeline_plan.now.forms.items }
+    ensures { IfOk result (IsSlotsPartIn pipeline_plan.now m) }
 {
-    let form = &draft.forms[m as usize];
+    let form = &pipeline_plan.forms[m as usize];
     match form.decl.kind {
         MapKind::Hash => {
-            let part = hash_part(alloc, &draft.sizes, form, m)?;
+            let part = hash_part(alloc, &pipeline_plan.sizes, form, m)?;
             Ok(part)
         }
         MapKind::Array => {
@@ -74,13 +78,16 @@ pub fn slots_part(alloc: Global, draft: &Draft<'_>, m: u32) -> Result<SlotsPart,
 }
 
 /// The parts of all maps, in their order.
-pub fn slots_parts(alloc: Global, draft: &Draft<'_>) -> Result<Vec<SlotsPart>, AllocError>
-    requires { IsDraft draft.now }
-    ensures { IfOk result (λ parts. AreSlotsParts draft.now parts.items) }
+pub fn slots_parts(
+    alloc: Global,
+    pipeline_plan: &PipelinePlan<'_>,
+) -> Result<Vec<SlotsPart>, AllocError>
+    requires { IsPipelinePlan pipeline_plan.now }
+    ensures { IfOk result (λ parts. AreSlotsParts pipeline_plan.now parts.items) }
 {
     let mut parts = Vec::new(alloc);
-    for m in 0..draft.sizes.maps {
-        parts.push(slots_part(alloc, draft, m)?)?;
+    for m in 0..pipeline_plan.sizes.maps {
+        parts.push(slots_part(alloc, pipeline_plan, m)?)?;
     }
     Ok(parts)
 }

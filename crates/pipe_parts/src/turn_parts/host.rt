@@ -3,15 +3,15 @@
 ghost use Rattle.std.specs.Prelude.{◌≡◌, ◌<◌, IfOk, map};
 ghost use Rattle.net_core.specs.View.{tree_of};
 ghost use Rattle.block_core.specs.View.{block_of};
-ghost use Rattle.commit_net.specs.MapBlock.Forms.{IsSuited};
+ghost use Rattle.commit_net.specs.MapBlock.Forms.{FormFits};
 ghost use Rattle.commit_net.specs.MapBlock.Stored.{host_may};
 ghost use Rattle.pipe_net.specs.Parts as part;
 ghost use Rattle.pipe_net.specs.Parts.{IsSmall};
-ghost use Rattle.pipe_parts.specs.PipeDraft.Draft.{IsDraft};
-ghost use Rattle.pipe_parts.specs.TurnParts.Nets.{calm_of, writes_of, present_of, host_nets_of};
+ghost use Rattle.pipe_parts.specs.PipeDraft.PipelinePlan.{IsPipelinePlan};
+ghost use Rattle.pipe_parts.specs.TurnParts.Nets.{idle_of, writes_of, present_of, host_nets_of};
 ghost use Rattle.pipe_parts.specs.TurnParts.Parts.{IsHostPart, AreMay};
 
-use crate::pipe_draft::Draft;
+use crate::pipe_draft::PipelinePlan;
 use block_core::block::Block;
 use block_core::name::Name;
 use commit_net::map_block::{ArrayBlock, HashBlock, MapBlock, MapForm};
@@ -47,7 +47,7 @@ fn host_nets(sizes: &Sizes) -> HostNets<Part>
     HostNets {
         partial: Name::Register(sizes.gather(), 0),
         present: present(sizes),
-        done: Name::Register(sizes.turn(), 0),
+        done: Name::Register(sizes.action(), 0),
         control: sizes.control(),
     }
 }
@@ -61,36 +61,47 @@ fn may_write(
 ) -> Result<Expr<Name<Part>>, AllocError>
     requires small { IsSmall sizes.now }
     requires map { m < sizes.now.maps }
-    requires suited { IsSuited form.now }
-    ensures { IfOk result (λ e. tree_of e ≡ host_may form.now (part.own sizes.now m) (calm_of sizes.now)) }
+    requires form_fits { FormFits form.now }
+    ensures { IfOk result (λ e. tree_of e ≡ host_may form.now (part.own sizes.now m) (idle_of sizes.now)) }
 {
     let own = sizes.own(m);
-    let calm = wire_name(sizes.host(), Wire::Calm);
+    let idle = wire_name(sizes.host(), Wire::Idle);
     match form.decl.kind {
-        MapKind::Hash => HashBlock::of(form.number, &form.decl).host_may(alloc, own, calm),
-        MapKind::Array => ArrayBlock::of(form.number, &form.decl).host_may(alloc, own, calm),
+        MapKind::Hash => HashBlock::of(form.number, &form.decl).host_may(alloc, own, idle),
+        MapKind::Array => ArrayBlock::of(form.number, &form.decl).host_may(alloc, own, idle),
     }
 }
 
 // So of each map.
-fn all_may(alloc: Global, draft: &Draft<'_>) -> Result<Vec<Expr<Name<Part>>>, AllocError>
-    requires { IsDraft draft.now }
-    ensures { IfOk result (λ may. AreMay draft.now (map tree_of may.items)) }
+fn all_may(
+    alloc: Global,
+    pipeline_plan: &PipelinePlan<'_>,
+) -> Result<Vec<Expr<Name<Part>>>, AllocError>
+    requires { IsPipelinePlan pipeline_plan.now }
+    ensures { IfOk result (λ may. AreMay pipeline_plan.now (map tree_of may.items)) }
 {
     let mut may = Vec::new(alloc);
-    for m in 0..draft.sizes.maps {
-        may.push(may_write(alloc, &draft.sizes, &draft.forms[m as usize], m)?)?;
+    for m in 0..pipeline_plan.sizes.maps {
+        may.push(may_write(
+            alloc,
+            &pipeline_plan.sizes,
+            &pipeline_plan.forms[m as usize],
+            m,
+        )?)?;
     }
     Ok(may)
 }
 
 /// The block of the part, by what each map lets the host write.
-pub(crate) fn host_block(alloc: Global, draft: &Draft<'_>) -> Result<Block<Name<Part>>, AllocError>
-    requires { IsDraft draft.now }
-    ensures { IfOk result (λ b. IsHostPart draft.now (block_of b)) }
+pub(crate) fn host_block(
+    alloc: Global,
+    pipeline_plan: &PipelinePlan<'_>,
+) -> Result<Block<Name<Part>>, AllocError>
+    requires { IsPipelinePlan pipeline_plan.now }
+    ensures { IfOk result (λ b. IsHostPart pipeline_plan.now (block_of b)) }
 {
-    let may = all_may(alloc, draft)?;
-    let nets = host_nets(&draft.sizes);
-    let block = host(alloc, draft.sizes.host(), &nets, may)?;
+    let may = all_may(alloc, pipeline_plan)?;
+    let nets = host_nets(&pipeline_plan.sizes);
+    let block = host(alloc, pipeline_plan.sizes.host(), &nets, may)?;
     Ok(block)
 }

@@ -1,12 +1,12 @@
-//! What holds of the parts of turns. The function's contract is a law; it computes nothing.
+//! What holds of the parts of actions. The function's contract is a law; it computes nothing.
 
-ghost use Rattle.pipe_parts.specs.TurnParts.Laws.{PartsAreOfTurns};
+ghost use Rattle.pipe_parts.specs.TurnParts.Laws.{PartsAreOfActions};
 
-use crate::pipe_draft::laws::drafted_are_laid;
+use crate::pipe_draft::laws::pipeline_planned_are_laid;
 
-/// In a pipeline by the draft that has these blocks they are its parts of turns.
-pub fn parts_are_of_turns()
-    ensures { PartsAreOfTurns }
+/// In a pipeline by the pipeline plan that has these blocks they are its parts of actions.
+pub fn parts_are_of_actions()
+    ensures { PartsAreOfActions }
 {
-    drafted_are_laid();
+    pipeline_planned_are_laid();
 }

@@ -7,7 +7,7 @@ use Rattle.pipe_core.specs.net_core.declared.ports.Inputs.{Inputs}
 use Rattle.pipe_core.specs.net_core.Nets.{Netlist}
 use Rattle.pipe_core.specs.net_core.Ports.{words_of}
 use Rattle.pipe_core.specs.net_core.Clock.{Stored, after}
-use Rattle.pipe_core.specs.net_core.History.{NeverStops, stored_after}
+use Rattle.pipe_core.specs.net_core.Trace.{NeverStops, stored_after}
 use Rattle.pipe_core.specs.realization.HostHistory.Host.{load}
 use Rattle.pipe_core.specs.Machine.{Build}
 use Rattle.pipe_core.specs.History.{Trace, next, run, begin}
@@ -38,16 +38,16 @@ never_stops b d [] t st h = tt
 never_stops b d (i ∷ is) t st h = (h.0, never_stops b d is (next b (input_of i) t) (after d (words_of i) st) h.2)
 
 pub designs_follow : LoadedRunsAreRight → LoadsMayCome → LoadsTraces → DesignsFollow
-designs_follow right come loads l suited maps are sound few is quiet may d st follows =
+designs_follow right come loads l pipelinable maps are sound few is quiet may d st follows =
     let t = begin l.build (opened_state maps.decls) in
-    let all = always l d (load maps ++ is) t st (come l.build maps sound few is may) (right l suited maps are sound few is quiet) follows in
+    let all = always l d (load maps ++ is) t st (come l.build maps sound few is may) (right l pipelinable maps are sound few is quiet) follows in
     record {
       loads = first_part l.build d (load maps) is t st all;
       runs = subst (λ (u : Trace). FollowsAlways l.build d is u (stored_after d st (load maps))) (loads l.build maps sound) (later_part l.build d (load maps) is t st all);
       never = never_stops l.build d (load maps ++ is) t st all;
     }
 
--- ---- a clock behind others
+-- ---- a clock after others
 behind : (l : Layout) (d : Netlist) (xs ys : List Inputs) (t : Trace) (st : Stored) → AllMayCome l.build xs t → AreRightClocks l xs t → FollowsRight l d (xs ++ ys) t st
     → FollowsRight l d ys (run l.build (map_list input_of xs) t) (stored_after d st xs)
 behind l d [] ys t st come right h = h
@@ -70,9 +70,9 @@ quiet_more [] i quiet none = (none, tt)
 quiet_more (x ∷ is) i quiet none = (quiet.0, quiet_more is i quiet.1 none)
 
 pub designs_show : LoadedRunsAreRight → LoadsMayCome → LoadsTraces → DesignsShow
-designs_show right come loads l suited maps are sound few is i quiet may fits none d st follows =
+designs_show right come loads l pipelinable maps are sound few is i quiet may fits none d st follows =
     let t = begin l.build (opened_state maps.decls) in
-    let clocks = right l suited maps are sound few (is ++ i ∷ []) (quiet_more is i quiet none) in
+    let clocks = right l pipelinable maps are sound few (is ++ i ∷ []) (quiet_more is i quiet none) in
     let loaded = behind l d (load maps) (is ++ i ∷ []) t st (come_first l.build (load maps) is t (come l.build maps sound few is may)) (right_first l (load maps) (is ++ i ∷ []) t clocks) follows in
     let from = subst (λ (u : Trace). FollowsRight l d (is ++ i ∷ []) u (stored_after d st (load maps))) (loads l.build maps sound) loaded in
     let later = subst (AreRightClocks l (is ++ i ∷ [])) (loads l.build maps sound) (right_later l (load maps) (is ++ i ∷ []) t clocks) in

@@ -6,11 +6,12 @@ use Rattle.cell_core.specs.beat_core.Ports.{Arrival}
 use Rattle.cell_core.specs.xdp_maps.State.{opened_state}
 use Rattle.pipe_core.specs.net_core.declared.ports.Inputs.{Inputs}
 use Rattle.pipe_core.specs.realization.HostHistory.Host.{load}
-use Rattle.pipe_core.specs.Machine.{Packet, State, Build, Commits, place_at, inside, some_send, swept, turn_of, turn_as, commits_as, commits_or_moves, chosen, host_writes, host_ready, is_calm, beat_over, is_ready}
+use Rattle.pipe_core.specs.Machine.{Packet, State, Build, Commits, place_at, inside, flushed, action_of, action_as, commits_as, commits_or_moves, chosen, host_writes, host_ready, is_idle, beat_over, is_ready}
 use Rattle.pipe_core.specs.History.{Trace, next, run, begin, came_in, IsInOrder, KeepsOrder, IsAlwaysInOrder}
 use Rattle.pipe_core.specs.HostRuns.Inputs.{input_of, beat_in}
 use Rattle.pipe_core.specs.HostRuns.Loads.{LoadsTraces}
 use Rattle.pipe_core.specs.HostRuns.Fits.{IsHostClock, LoadsFit}
+use Rattle.pipe_core.proofs.FlushLaws.{flushed_at}
 use Rattle.pipe_net.specs.Layout.{Layout}
 use Rattle.pipe_runs.specs.PipeAnswers.Going.{IsRightClock, AreRightClocks, RunsAreRight}
 use Rattle.pipe_runs.specs.PipeAnswers.Loading.{EmptyRunsAreRight, LoadedRunsAreRight}
@@ -22,16 +23,7 @@ none_at (None ∷ xs) zero x e f = cc
 none_at (None ∷ xs) (suc k) x e f = none_at xs k x e f
 none_at (Some y ∷ xs) k x e f = cc
 
-kept_was : (b : Build) (k : ℕ) (xs : List (Option Packet)) (n : ℕ) (x : Packet) → place_at (swept b k xs) n ≡ Some x → place_at xs n ≡ Some x
-kept_was b k [] n x e = e
-kept_was b k (y ∷ xs) zero x e = by (some_send b k (y ∷ xs)) e
-  where
-    by : (c : Bool) → (if c then None else y) ≡ Some x → y ≡ Some x
-    by true e = cc
-    by false e = e
-kept_was b k (y ∷ xs) (suc n) x e = kept_was b (suc k) xs n x e
-
-commits_at : (b : Build) (s : State) (rest : List (Option Packet)) (j : ℕ) (x : Packet) (w : Option _) → turn_as b s rest w ≡ Commits j x → place_at rest b.plan.commit ≡ Some x
+commits_at : (b : Build) (s : State) (rest : List (Option Packet)) (j : ℕ) (x : Packet) (w : Option _) → action_as b s rest w ≡ Commits j x → place_at rest b.plan.commit ≡ Some x
 commits_at b s rest j x (Some w) e = cc
 commits_at b s rest j x None e = by (place_at rest b.plan.commit) e
   where
@@ -46,13 +38,13 @@ commits_at b s rest j x None e = by (place_at rest b.plan.commit) e
 empty_is_right : (l : Layout) (i : Inputs) (s : State) → inside s.places ≡ 0 → IsRightClock l i s
 empty_is_right l i s none = record {
   tables = λ k x le e. none_at s.places k x none e;
-  turn = record { tables = λ j x e. no_commit j x e; commits = λ j x e. no_commit j x e };
+  action = record { tables = λ j x e. no_commit j x e; commits = λ j x e. no_commit j x e };
 }
   where
-    no_commit : {X : Type 0} (j : ℕ) (x : Packet) → turn_of l.build (input_of i) s (swept l.build 0 s.places) ≡ Commits j x → X
+    no_commit : {X : Type 0} (j : ℕ) (x : Packet) → action_of l.build (input_of i) s (flushed l.build 0 s.places) ≡ Commits j x → X
     no_commit j x e =
         none_at s.places l.build.plan.commit x none
-        (kept_was l.build 0 s.places l.build.plan.commit x (commits_at l.build s (swept l.build 0 s.places) j x (host_writes (host_ready l.build s) (is_calm s) s.tables (input_of i).host) e))
+        (flushed_at l.build 0 s.places l.build.plan.commit x (commits_at l.build s (flushed l.build 0 s.places) j x (host_writes (host_ready l.build s) (is_idle s) s.tables (input_of i).host) e))
 
 -- ---- while no beat is offered
 pub no_beat : (b : Build) (s : State) (i : Inputs) → i.in_valid ≡ false → beat_over b s (input_of i) ≡ None
@@ -87,7 +79,7 @@ empty_all keeps l (i ∷ is) offers t order none =
 pub empty_runs : KeepsOrder → IsAlwaysInOrder → EmptyRunsAreRight
 empty_runs keeps always l maps is offers = empty_all keeps l is offers (begin l.build maps) (always l.build maps []) refl
 
--- ---- a load, and what comes behind it
+-- ---- a load, and what comes after it
 both_right : (l : Layout) (xs ys : List Inputs) (t : Trace) → AreRightClocks l xs t → AreRightClocks l ys (run l.build (map_list input_of xs) t) → AreRightClocks l (xs ++ ys) t
 both_right l [] ys t h g = g
 both_right l (x ∷ xs) ys t h g = (h.0, both_right l xs ys (next l.build (input_of x) t) h.1 g)
@@ -97,7 +89,7 @@ none_offered [] h = tt
 none_offered (i ∷ is) h = (h.0.offers, none_offered is h.1)
 
 pub loaded_runs : EmptyRunsAreRight → RunsAreRight → LoadsTraces → LoadsFit → LoadedRunsAreRight
-loaded_runs empty runs loads fit l suited maps are sound few is quiet =
+loaded_runs empty runs loads fit l pipelinable maps are sound few is quiet =
     both_right l (load maps) is (begin l.build (opened_state maps.decls))
     (empty l (opened_state maps.decls) (load maps) (none_offered (load maps) (fit maps sound few).load))
-    (subst (AreRightClocks l is) (sym (loads l.build maps sound)) (runs l suited maps are sound is quiet))
+    (subst (AreRightClocks l is) (sym (loads l.build maps sound)) (runs l pipelinable maps are sound is quiet))

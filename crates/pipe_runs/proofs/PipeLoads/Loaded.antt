@@ -1,4 +1,4 @@
--- Designs of pipelines follow the machine through a load and behind it.
+-- Designs of pipelines follow the machine through a load and after it.
 use Rattle.std.specs.Prelude.{◌≡◌, ℕ, ◌<◌, List, [], ◌∷◌, ◌++◌, length}
 use Rattle.std.proofs.Common.{sym, subst}
 use Rattle.cell_core.specs.xdp_maps.declared.decl.MapDecl.{MapDecl}
@@ -24,9 +24,9 @@ use Rattle.pipe_runs.specs.PipeLoads.Loaded.{PipelinesFollowLoaded, PipelinesSho
 rightly : (l : Layout) (d : Whole Part) (names : List (List ℕ)) (is : List Inputs) (t : Trace) (st : Stored) → FollowsAll l d names is t st → FollowsRight l (design l d names) is t st
 rightly l d names [] t st h = tt
 rightly l d names (i ∷ is) t st h = (
-  λ within right. h.0 within (record { tables = right.tables; commits = right.turn.commits }),
+  λ within right. h.0 within (record { tables = right.tables; commits = right.action.commits }),
   λ come right.
-      let now = h.1 come (record { tables = right.tables; commits = right.turn.commits }) in
+      let now = h.1 come (record { tables = right.tables; commits = right.action.commits }) in
       (now.0, rightly l d names is (next l.build (input_of i) t) (after (design l d names) (words_of i) st) now.1),
 )
 
@@ -38,11 +38,11 @@ first_maps first opened l maps are sound = record {
 }
 
 pub loads_follow : PipelinesFollow → OpenedAreFirst → OpenedAreSound → DesignsFollow → PipelinesFollowLoaded
-loads_follow pipelines first opened designs l d names pipe goes suited maps are sound few is quiet come =
-    designs l suited maps are sound few is quiet come (design l d names) (first_stored (design l d names))
+loads_follow pipelines first opened designs l d names pipe goes pipelinable maps are sound few is quiet come =
+    designs l pipelinable maps are sound few is quiet come (design l d names) (first_stored (design l d names))
     (rightly l d names (load maps ++ is) _ _ (pipelines l d names (opened_state maps.decls) pipe goes (first_maps first opened l maps are sound) (load maps ++ is)))
 
 pub loads_show : PipelinesFollow → OpenedAreFirst → OpenedAreSound → DesignsShow → PipelinesShowLoaded
-loads_show pipelines first opened designs l d names pipe leads suited maps are sound few is i quiet come within none =
-    designs l suited maps are sound few is i quiet come within none (design l d names) (first_stored (design l d names))
+loads_show pipelines first opened designs l d names pipe leads pipelinable maps are sound few is i quiet come within none =
+    designs l pipelinable maps are sound few is i quiet come within none (design l d names) (first_stored (design l d names))
     (rightly l d names (load maps ++ (is ++ i ∷ [])) _ _ (pipelines l d names (opened_state maps.decls) pipe leads (first_maps first opened l maps are sound) (load maps ++ (is ++ i ∷ []))))

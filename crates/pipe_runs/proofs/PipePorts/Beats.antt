@@ -12,7 +12,7 @@ pub frame_append : (xs : List Beat) (x : Beat) → frame_of (xs ++ x ∷ []) ≡
 frame_append [] x = append-nil (bytes_of_beat x)
 frame_append (y ∷ xs) x = ap (λ t. bytes_of_beat y ++ t) (frame_append xs x) ∙ sym (append_assoc (bytes_of_beat y) (frame_of xs) (bytes_of_beat x))
 
--- the beat behind the first so many
+-- the beat after the first so many
 pub take_beat : (pos : ℕ) (f : List ℕ) → pos < beat_count (length f) → take (suc pos) (beats_of f) ≡ take pos (beats_of f) ++ first_beat (drop (8 * pos) f) ∷ []
 take_beat zero f l = ap (take 1) (beats_of-step f (omega (arith, l)))
 take_beat (suc pos) f l =

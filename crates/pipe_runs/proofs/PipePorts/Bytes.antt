@@ -1,10 +1,11 @@
 -- Frames that come, and their answers, have bytes.
-use Rattle.std.specs.Prelude.{◌≡◌, ℕ, zero, suc, ◌^◌, ◌<◌, ◌≤◌, if◌then◌else◌, Bool, true, false, Contains, Option, Some, None, List, [], ◌∷◌, ◌++◌, length, min, slice_set}
+use Rattle.std.specs.Prelude.{◌≡◌, ℕ, ◌^◌, ◌<◌, ◌≤◌, if◌then◌else◌, Bool, true, false, Contains, Option, Some, None, List, [], ◌∷◌, length, min}
 use Rattle.std.specs.List.{AllByRecursion}
-use Rattle.std.proofs.Common.{get_or, refl, ◌∙◌, arith, length-append, length-set}
+use Rattle.std.proofs.Common.{get_or, refl, arith, length-append}
 use Rattle.std.proofs.Math.Nat.{pow-le-pow_right}
 use Rattle.std.proofs.lemmas.List.Elements.{Contains-get_or}
 use Rattle.cell_core.specs.list_laws.Bytes.{IsBytes}
+use Rattle.list_laws.proofs.ByteLaws.{IsBytes-append}
 use Rattle.cell_core.specs.beat_core.declared.beat.Beat.{Beat}
 use Rattle.cell_core.specs.beat_core.declared.answer.Answer.{Answer}
 use Rattle.cell_core.specs.beat_core.Beats.{bytes_of_beat, IsOffer}
@@ -16,8 +17,9 @@ use Rattle.pipe_core.specs.net_core.declared.ports.Inputs.{Inputs}
 use Rattle.cell_core.specs.declared.program.FrameByte.{FrameByte}
 use Rattle.cell_core.specs.Cells.{cell_at}
 use Rattle.cell_core.specs.CellLaws.{ValuesFit}
-use Rattle.cell_core.specs.Sites.{ProgramView, IsCellRun, with_bytes, after}
-use Rattle.pipe_core.specs.hazard_core.Held.{Held, held_value}
+use Rattle.cell_core.specs.Sites.{ProgramView, IsCellRun, after}
+use Rattle.cell_core.proofs.FrameLaws.{with_bytes_bytes, with_bytes_length}
+use Rattle.pipe_core.specs.hazard_core.StageValues.{StageValues, stage_value}
 use Rattle.pipe_core.specs.Machine.{State, Build, packet_of}
 use Rattle.pipe_core.specs.History.{came_in, answers_of}
 use Rattle.pipe_core.specs.Sequential.{AreCellRuns}
@@ -35,10 +37,6 @@ PartHasBytes None = Unit {0}
 PartHasBytes (Some c) = HasBytes c.frame
 
 -- ---- frames
-bytes_append : (xs ys : List ℕ) → IsBytes xs → IsBytes ys → IsBytes (xs ++ ys)
-bytes_append [] ys h k i = k i
-bytes_append (x ∷ xs) ys h k zero = h 0
-bytes_append (x ∷ xs) ys h k (suc i) = bytes_append xs ys (λ j. h (suc j)) k i
 
 beat_bytes : (x : Beat) → IsOffer x → HasBytes (bytes_of_beat x)
 beat_bytes x offer = record { bytes = IsBytes-low_bytes (min x.bytes 8) x.word; some = let n = length-low_bytes (min x.bytes 8) x.word in let c = IsOffer-count x offer in omega (arith, n, c) }
@@ -46,7 +44,7 @@ beat_bytes x offer = record { bytes = IsBytes-low_bytes (min x.bytes 8) x.word; 
 with_beat : (part : Option Arrival) (o : Offered) → PartHasBytes part → IsOffer o.beat → HasBytes (arrived part o).frame
 with_beat None o h offer = beat_bytes o.beat offer
 with_beat (Some c) o h offer = record {
-  bytes = bytes_append c.frame (bytes_of_beat o.beat) h.bytes (beat_bytes o.beat offer).bytes;
+  bytes = IsBytes-append c.frame (bytes_of_beat o.beat) h.bytes (beat_bytes o.beat offer).bytes;
   some = omega (arith, h.some, length-append c.frame (bytes_of_beat o.beat));
 }
 
@@ -67,20 +65,6 @@ came_bytes s i (Some x) h offers = by x.last
     by false = tt
 
 -- ---- answers
-with_bytes_length : (v : ℕ → ℕ) (frame : List ℕ) (bs : List FrameByte) → length (with_bytes v frame bs) ≡ length frame
-with_bytes_length v frame [] = refl
-with_bytes_length v frame (x ∷ bs) = with_bytes_length v (slice_set frame x.at (v x.cell)) bs ∙ length-set frame x.at (v x.cell)
-
-set_bytes : (xs : List ℕ) (k x : ℕ) → x < 256 → IsBytes xs → IsBytes (slice_set xs k x)
-set_bytes [] k x h b i = b i
-set_bytes (y ∷ ys) zero x h b zero = h
-set_bytes (y ∷ ys) zero x h b (suc i) = b (suc i)
-set_bytes (y ∷ ys) (suc k) x h b zero = b 0
-set_bytes (y ∷ ys) (suc k) x h b (suc i) = set_bytes ys k x h (λ j. b (suc j)) i
-
-with_bytes_bytes : (v : ℕ → ℕ) (frame : List ℕ) (bs : List FrameByte) → ((j : ℕ) (d : FrameByte) → j < length bs → v (get_or bs j d).cell < 256) → IsBytes frame → IsBytes (with_bytes v frame bs)
-with_bytes_bytes v frame [] h b = b
-with_bytes_bytes v frame (x ∷ bs) h b = with_bytes_bytes v (slice_set frame x.at (v x.cell)) bs (λ j d lt. h (suc j) d (omega arith)) (set_bytes frame x.at (v x.cell) (h 0 x (omega arith)) b)
 
 module _ (fit : ValuesFit) (b : Build) (has : HasAnswer b) where
   abbrev p : ProgramView
@@ -92,14 +76,14 @@ module _ (fit : ValuesFit) (b : Build) (has : HasAnswer b) where
       let pow : 2 ^ (cell_at p.cells x.cell).width ≤ 2 ^ 8 = pow-le-pow_right {n = 2} (omega arith) {i = (cell_at p.cells x.cell).width} {j = 8} (has.byte_width x there) in
       omega (arith, lt, pow)
 
-  pub answers_bytes : (maps : MapState) (hs : List Held) (cs : List Arrival) (last : MapState) → AreCellRuns p maps hs cs last → AllByRecursion (λ (c : Arrival). HasBytes c.frame) cs
+  pub answers_bytes : (maps : MapState) (hs : List StageValues) (cs : List Arrival) (last : MapState) → AreCellRuns p maps hs cs last → AllByRecursion (λ (c : Arrival). HasBytes c.frame) cs
       → AllByRecursion (λ (r : Answer). HasBytes r.frame) (answers_of p hs cs)
   answers_bytes maps [] cs last runs h = tt
   answers_bytes maps (x ∷ xs) [] last runs h = tt
   answers_bytes maps (x ∷ xs) (c ∷ cs) last runs h = (
     record {
-      bytes = with_bytes_bytes (held_value x) c.frame p.frame (λ j d lt. small c maps (held_value x) runs.0 (get_or p.frame j d) (Contains-get_or p.frame j d lt)) h.0.bytes;
-      some = omega (arith, with_bytes_length (held_value x) c.frame p.frame, h.0.some);
+      bytes = with_bytes_bytes (stage_value x) c.frame p.frame (λ j d lt. small c maps (stage_value x) runs.0 (get_or p.frame j d) (Contains-get_or p.frame j d lt)) h.0.bytes;
+      some = omega (arith, with_bytes_length (stage_value x) c.frame p.frame, h.0.some);
     },
-    answers_bytes (after (held_value x) maps p.sites) xs cs last runs.1 h.1,
+    answers_bytes (after (stage_value x) maps p.sites) xs cs last runs.1 h.1,
   )

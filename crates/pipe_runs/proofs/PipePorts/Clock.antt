@@ -7,7 +7,7 @@ use Rattle.cell_core.specs.beat_core.declared.beat.Beat.{Beat}
 use Rattle.cell_core.specs.beat_core.declared.answer.Answer.{Answer}
 use Rattle.cell_core.specs.beat_core.Beats.{first_beat, beat_count, beats_of, frame_of, bytes_of_beat}
 use Rattle.pipe_core.specs.net_core.declared.ports.Inputs.{Inputs}
-use Rattle.pipe_core.specs.Machine.{Packet, State, Input, Build, Turn, Commits, Writes, Moves, swept, some_send, turn_of, worked, work, beat_over, came_with, gathered, beat_at, taken_beat, scattered, first_answer, clock}
+use Rattle.pipe_core.specs.Machine.{Packet, State, Input, Build, Action, Commits, Writes, Moves, flushed, some_send, action_of, worked, work, beat_over, came_with, gathered, beat_at, taken_beat, scattered, first_answer, clock}
 use Rattle.pipe_core.specs.HostRuns.Inputs.{input_of}
 use Rattle.pipe_net.specs.Relation.{IsAt}
 use Rattle.pipe_runs.specs.PipePorts.Ports.{begun}
@@ -20,14 +20,14 @@ record Keeps (s w : State) : Type 0 where
   more : List Answer
   answers : w.answers ≡ s.answers ++ more
 
-turn_keeps : (b : Build) (s : State) (back : Bool) (rest : List (Option Packet)) (u : Turn) → Keeps s (worked b s back rest u)
-turn_keeps b s back rest (Commits j x) = record { pos = refl; part = refl; more = []; answers = sym (append-nil s.answers) }
-turn_keeps b s back rest (Writes a n) = record { pos = refl; part = refl; more = []; answers = sym (append-nil s.answers) }
-turn_keeps b s back rest Moves = record { pos = refl; part = refl; more = _; answers = refl }
+action_keeps : (b : Build) (s : State) (back : Bool) (rest : List (Option Packet)) (u : Action) → Keeps s (worked b s back rest u)
+action_keeps b s back rest (Commits j x) = record { pos = refl; part = refl; more = []; answers = sym (append-nil s.answers) }
+action_keeps b s back rest (Writes a n) = record { pos = refl; part = refl; more = []; answers = sym (append-nil s.answers) }
+action_keeps b s back rest Moves = record { pos = refl; part = refl; more = _; answers = refl }
 
 work_keeps : (b : Build) (i : Input) (s : State) → Keeps s (work b i s)
 unfolding work
-work_keeps b i s = turn_keeps b s (some_send b 0 s.places) (swept b 0 s.places) (turn_of b i s (swept b 0 s.places))
+work_keeps b i s = action_keeps b s (some_send b 0 s.places) (flushed b 0 s.places) (action_of b i s (flushed b 0 s.places))
 
 -- ---- beats inwards
 record Gathers (i : Inputs) (o : Option Beat) (w g : State) : Type 0 where

@@ -1,5 +1,5 @@
 -- Clock after clock a design that follows the machine takes and gives what it does.
-use Rattle.std.specs.Prelude.{◌≡◌, ℕ, false, if◌then◌else◌, Option, Some, None, List, [], ◌∷◌, ◌++◌, map as map_list}
+use Rattle.std.specs.Prelude.{◌≡◌, ℕ, false, if◌then◌else◌, Some, None, List, [], ◌∷◌, ◌++◌, map as map_list}
 use Rattle.std.proofs.Common.{refl, sym, ap, ◌∙◌, subst, append-nil, append_assoc}
 use Rattle.cell_core.specs.beat_core.declared.beat.Beat.{Beat}
 use Rattle.cell_core.specs.beat_core.Beats.{frame_of}
@@ -11,15 +11,17 @@ use Rattle.pipe_core.specs.net_core.declared.ports.Inputs.{Inputs}
 use Rattle.pipe_core.specs.net_core.Nets.{Netlist}
 use Rattle.pipe_core.specs.net_core.Ports.{words_of}
 use Rattle.pipe_core.specs.net_core.Clock.{Stored, after, shown}
-use Rattle.pipe_core.specs.net_core.History.{Cycle, trace, beats_in, offers_in, given_out, arrivals, answers_given, open_beats}
+use Rattle.pipe_core.specs.net_core.Trace.{Cycle, trace}
+use Rattle.pipe_core.specs.realization.History.{beats_in, offers_in, given_out, arrivals, answers_given, open_beats}
 use Rattle.cell_core.specs.CellLaws.{ValuesFit}
 use Rattle.pipe_net.specs.frame_net.Frames.{position_of}
 use Rattle.pipe_core.specs.Machine.{Build, beat_over, taken_beat, clock, output}
 use Rattle.pipe_core.specs.History.{Trace, came_in, gave_in, next, run, begin}
 use Rattle.pipe_core.specs.Drive.{ahead, beats_in as machine_beats}
-use Rattle.pipe_core.specs.Pipeable.{IsSuited}
+use Rattle.pipe_core.specs.Pipeable.{IsPipelinable}
 use Rattle.pipe_core.specs.HostRuns.Inputs.{access_in, input_of}
 use Rattle.pipe_core.specs.HostRuns.Silent.{silent, ReadsAreSilent}
+use Rattle.pipe_core.proofs.HistoryLaws.{ahead_append}
 use Rattle.pipe_net.specs.Machine.{Shows}
 use Rattle.pipe_net.specs.Layout.{HasAnswer}
 use Rattle.pipe_runs.specs.PipeAnswers.Coming.{AllMayCome}
@@ -33,19 +35,15 @@ use Rattle.pipe_runs.proofs.PipePorts.Standing.{Stands, begins, ticks_at, first_
 
 pub record HistoryLaws : Type 0 where
   pub fit : ValuesFit
-  pub turn : ReadsRunInTurn
+  pub action : ReadsRunInTurn
   pub reads : ReadsAreSilent
 
-ahead_append : (o : Option Beat) (xs ys : List Beat) → ahead o xs ++ ys ≡ ahead o (xs ++ ys)
-ahead_append None xs ys = refl
-ahead_append (Some x) xs ys = refl
-
-module _ (laws : HistoryLaws) (b : Build) (maps : MapState) (suited : IsSuited maps.decls b) (has : HasAnswer b) (sound : IsSound maps) where
+module _ (laws : HistoryLaws) (b : Build) (maps : MapState) (pipelinable : IsPipelinable maps.decls b) (has : HasAnswer b) (sound : IsSound maps) where
   abbrev Here : Trace → Type 0
-  Here t = Stands laws.fit laws.turn b maps suited has sound t
+  Here t = Stands laws.fit laws.action b maps pipelinable has sound t
 
   abbrev ticking : (t : Trace) → Here t → (i : Inputs) → Ticks b t.state i
-  ticking = ticks_at laws.fit laws.turn b maps suited has sound
+  ticking = ticks_at laws.fit laws.action b maps pipelinable has sound
 
   -- ---- a clock before others
   module _ (t : Trace) (h : Here t) (i : Inputs) (at : ℕ → Word) (shows : Shows (output b (input_of i) t.state) at) (ms : List Cycle) where
@@ -65,7 +63,7 @@ module _ (laws : HistoryLaws) (b : Build) (maps : MapState) (suited : IsSuited m
         ap (λ xs. t.gave ++ xs)
         (ap (answers_among (frame_of (begun t.state))) (gives_now b t.state i at shows ms)
         ∙ answers_now t.state (output b (input_of i) t.state) (begun t.state) e (given_out ms) refl refl
-        (whole_then t.state.pos t.state.answers i.out_ready h.position (first_at laws.fit laws.turn b maps suited has sound t h))
+        (whole_then t.state.pos t.state.answers i.out_ready h.position (first_at laws.fit laws.action b maps pipelinable has sound t h))
         ∙ ap (λ bs. gave_in t.state.answers e ++ answers_among (frame_of bs) (given_out ms)) (sym (ticking t h i).begun))
         ∙ sym (append_assoc t.gave (gave_in t.state.answers e) (answers_among (frame_of (begun (clock b (input_of i) t.state))) (given_out ms)))
 
@@ -100,7 +98,7 @@ module _ (laws : HistoryLaws) (b : Build) (maps : MapState) (suited : IsSuited m
       let over = beat_over b t.state (input_of i) in
       let shows = follows.1 in
       let beats = (ports_show_clocks b t.state i at shows).beats ms in
-      let standing = stands_then laws.fit laws.turn b maps suited has sound t i quiet.0 come.0 h in
+      let standing = stands_then laws.fit laws.action b maps pipelinable has sound t i quiet.0 come.0 h in
       let r = runs n is (next b (input_of i) t) st' standing quiet.1 come.1 follows.2 in
       record {
         stands = r.stands;
@@ -113,5 +111,5 @@ module _ (laws : HistoryLaws) (b : Build) (maps : MapState) (suited : IsSuited m
 
 pub ports_show_histories : HistoryLaws → PortsShowHistories
 ports_show_histories laws b maps n st h is quiet come =
-    let r = runs laws b maps h.suited h.answer h.sound n is (begin b maps) st (begins laws.fit laws.turn b maps h.suited h.answer h.sound) quiet come (h.follows.clocks is quiet come) in
+    let r = runs laws b maps h.pipelinable h.answer h.sound n is (begin b maps) st (begins laws.fit laws.action b maps h.pipelinable h.answer h.sound) quiet come (h.follows.clocks is quiet come) in
     record { came = r.came; gave = r.gave; opens = r.opens; beats = r.beats; position = r.stands.position; rest = r.rest }

@@ -1,4 +1,4 @@
--- Lists of clocks one behind the other.
+-- Lists of clocks one after the other.
 use Rattle.std.specs.Prelude.{◌≡◌, if◌then◌else◌, Bool, true, false, List, [], ◌∷◌, ◌++◌, map as map_list}
 use Rattle.std.specs.List.{AllByRecursion}
 use Rattle.std.proofs.Common.{refl, ap, ◌∙◌}
@@ -6,7 +6,8 @@ use Rattle.pipe_core.specs.net_core.declared.ports.Inputs.{Inputs}
 use Rattle.pipe_core.specs.net_core.Nets.{Netlist}
 use Rattle.pipe_core.specs.net_core.Ports.{words_of}
 use Rattle.pipe_core.specs.net_core.Clock.{Stored, after}
-use Rattle.pipe_core.specs.net_core.History.{Cycle, cycle_of, trace, stored_after, goes_in, offered_beat, beats_in}
+use Rattle.pipe_core.specs.net_core.Trace.{Cycle, cycle_of, trace, stored_after}
+use Rattle.pipe_core.specs.realization.History.{goes_in, offered_beat, beats_in}
 use Rattle.pipe_core.specs.Machine.{Build}
 use Rattle.pipe_core.specs.History.{Trace, next, run}
 use Rattle.pipe_core.specs.HostRuns.Inputs.{input_of}

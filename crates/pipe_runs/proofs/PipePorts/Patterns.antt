@@ -9,7 +9,8 @@ use Rattle.pipe_core.specs.net_core.declared.ports.Inputs.{Inputs}
 use Rattle.pipe_core.specs.net_core.Nets.{Netlist}
 use Rattle.pipe_core.specs.net_core.Ports.{words_of}
 use Rattle.pipe_core.specs.net_core.Clock.{Stored, after, shown}
-use Rattle.pipe_core.specs.net_core.History.{NeverStops, trace, stored_after, beats_in, IsInput, IsSilent}
+use Rattle.pipe_core.specs.net_core.Trace.{NeverStops, trace, stored_after, IsInput, IsSilent}
+use Rattle.pipe_core.specs.realization.History.{beats_in}
 use Rattle.pipe_core.specs.realization.Realizes.{IsPattern}
 use Rattle.pipe_net.specs.frame_net.Frames.{position_of}
 use Rattle.pipe_core.specs.Machine.{State, Build, beat_over}
@@ -42,7 +43,7 @@ may_come b s i fits bs offers = record {
 }
 
 module _ (clocks : PortsShowClocks) (histories : PortsShowHistories) (b : Build) (maps : MapState) (n : Netlist) (st : Stored) (h : IsFollowed b maps n st) where
-  -- Behind clocks in which only what may come did, so does the next one: what is offered is known from the design's outputs, which show what the machine does whatever it is.
+  -- After clocks in which only what may come did, so does the next one: what is offered is known from the design's outputs, which show what the machine does whatever it is.
   next_may_come : (xs : List Inputs) → WriteNothing xs → AllMayCome b xs (begin b maps) → (i : Inputs) (is : List Inputs) → IsInput i → i.host_write ≡ false → AreOffers 0 (beats_in (trace n st (xs ++ i ∷ is))) → MayCome b (ran b maps xs).state i
   next_may_come xs silent come i is fits quiet offers =
       let s = (ran b maps xs).state in

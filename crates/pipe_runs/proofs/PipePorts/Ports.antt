@@ -13,7 +13,8 @@ use Rattle.pipe_core.specs.net_core.declared.tree.Word.{Word}
 use Rattle.pipe_core.specs.net_core.declared.ports.Inputs.{Inputs}
 use Rattle.pipe_core.specs.net_core.declared.ports.TheConstants.{IN_READY, OUT_VALID, OUT_DATA, OUT_BYTES, OUT_LAST, OUT_VERDICT, OUT_TARGET}
 use Rattle.pipe_core.specs.net_core.Value.{bit}
-use Rattle.pipe_core.specs.net_core.History.{Cycle, beats_in, offers_in, given_out, open_beats, owed_after}
+use Rattle.pipe_core.specs.net_core.Trace.{Cycle}
+use Rattle.pipe_core.specs.realization.History.{beats_in, offers_in, given_out, open_beats, owed_after}
 use Rattle.pipe_net.specs.frame_net.Frames.{position_of}
 use Rattle.pipe_core.specs.Machine.{State, Output, Build, is_ready, beat_over, came_with, shown_beat, taken_beat, first_answer, output}
 use Rattle.pipe_core.specs.History.{came_in, gave_in}

@@ -9,8 +9,8 @@ use Rattle.pipe_core.specs.net_core.declared.ports.Inputs.{Inputs}
 use Rattle.cell_core.specs.CellLaws.{ValuesFit}
 use Rattle.pipe_core.specs.Machine.{Build, beat_over}
 use Rattle.pipe_core.specs.History.{Trace, next, begin, came_in}
-use Rattle.pipe_core.specs.InTurn.{left_maps}
-use Rattle.pipe_core.specs.Pipeable.{IsSuited}
+use Rattle.pipe_core.specs.SequentialOrder.{left_maps}
+use Rattle.pipe_core.specs.Pipeable.{IsPipelinable}
 use Rattle.pipe_core.specs.HostRuns.Inputs.{input_of}
 use Rattle.pipe_net.specs.Machine.{MayCome}
 use Rattle.pipe_net.specs.Layout.{HasAnswer}
@@ -29,8 +29,8 @@ first_of : (answers : List Answer) → AllByRecursion (λ (r : Answer). HasBytes
 first_of [] h = tt
 first_of (r ∷ rest) h = h.0.bytes
 
-module _ (fit : ValuesFit) (turn : ReadsRunInTurn) (b : Build) (maps : MapState) (suited : IsSuited maps.decls b) (has : HasAnswer b) (sound : IsSound maps) where
-  -- the machine is here behind clocks in which the host wrote nothing
+module _ (fit : ValuesFit) (action : ReadsRunInTurn) (b : Build) (maps : MapState) (pipelinable : IsPipelinable maps.decls b) (has : HasAnswer b) (sound : IsSound maps) where
+  -- the machine is here after clocks in which the host wrote nothing
   pub record Reached (t : Trace) : Type 0 where
     pub clocks : List Inputs
     pub silent : WriteNothing clocks
@@ -44,7 +44,7 @@ module _ (fit : ValuesFit) (turn : ReadsRunInTurn) (b : Build) (maps : MapState)
   }
 
   pub runs_at : (t : Trace) → Reached t → RunsFrom b maps t
-  runs_at t r = subst (RunsFrom b maps) r.is (turn b maps suited sound r.clocks r.silent)
+  runs_at t r = subst (RunsFrom b maps) r.is (action b maps pipelinable sound r.clocks r.silent)
 
   -- frames have bytes, and the next beat of the first answer is there
   pub record Stands (t : Trace) : Type 0 where

@@ -2,7 +2,7 @@
 use Rattle.std.specs.Prelude.{◌≡◌, ◌≤◌, false, List, [], ◌∷◌, ◌++◌, length}
 use Rattle.cell_core.specs.xdp_maps.State.{MapState, IsSound, opened_state}
 use Rattle.pipe_core.specs.net_core.declared.ports.Inputs.{Inputs}
-use Rattle.pipe_core.specs.net_core.History.{IsInput}
+use Rattle.pipe_core.specs.net_core.Trace.{IsInput}
 use Rattle.pipe_core.specs.realization.HostHistory.Host.{load}
 use Rattle.pipe_core.specs.Machine.{State, Build}
 use Rattle.pipe_core.specs.History.{Trace, next, begin}
@@ -18,7 +18,7 @@ AllMayCome b (i ∷ is) t = MayCome b t.state i × AllMayCome b is (next b (inpu
 abbrev pub HostMayCome : Type 0
 HostMayCome = (b : Build) (s : State) (i : Inputs) → i.in_valid ≡ false → IsInput i → MayCome b s i
 
--- So a load may come, and behind it what may come from the loaded maps on.
+-- So a load may come, and after it what may come from the loaded maps on.
 abbrev pub LoadsMayCome : Type 0
 LoadsMayCome =
     (b : Build) (maps : MapState) → IsSound maps → length maps.decls ≤ 16 → (is : List Inputs) → AllMayCome b is (begin b maps) → AllMayCome b (load maps ++ is) (begin b (opened_state maps.decls))

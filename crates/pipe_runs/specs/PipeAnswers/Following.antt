@@ -6,11 +6,11 @@ use Rattle.pipe_core.specs.net_core.declared.ports.Inputs.{Inputs}
 use Rattle.pipe_core.specs.net_core.Nets.{Netlist}
 use Rattle.pipe_core.specs.net_core.Ports.{words_of}
 use Rattle.pipe_core.specs.net_core.Clock.{Stored, after, shown, stopping}
-use Rattle.pipe_core.specs.net_core.History.{IsInput, NeverStops, stored_after}
+use Rattle.pipe_core.specs.net_core.Trace.{IsInput, NeverStops, stored_after}
 use Rattle.pipe_core.specs.realization.HostHistory.Host.{load}
 use Rattle.pipe_core.specs.Machine.{Build, output}
 use Rattle.pipe_core.specs.History.{Trace, next, run, begin}
-use Rattle.pipe_core.specs.Pipeable.{IsSuited}
+use Rattle.pipe_core.specs.Pipeable.{IsPipelinable}
 use Rattle.pipe_core.specs.HostRuns.Inputs.{input_of}
 use Rattle.pipe_net.specs.Machine.{MayCome, Shows}
 use Rattle.pipe_net.specs.Layout.{Layout}
@@ -33,7 +33,7 @@ FollowsAlways b d (i ∷ is) t st =
     × Shows (output b (input_of i) t.state) (shown d (words_of i) st)
     × FollowsAlways b d is (next b (input_of i) t) (after d (words_of i) st)
 
--- Through a load, and behind it from the machine over the maps that are loaded on; no divisor is 0 in any of these clocks.
+-- Through a load, and after it from the machine over the maps that are loaded on; no divisor is 0 in any of these clocks.
 pub record FollowsLoaded (l : Layout) (d : Netlist) (maps : MapState) (is : List Inputs) (st : Stored) : Type 0 where
   pub loads : FollowsAlways l.build d (load maps) (begin l.build (opened_state maps.decls)) st
   pub runs : FollowsAlways l.build d is (begin l.build maps) (stored_after d st (load maps))
@@ -42,14 +42,14 @@ pub record FollowsLoaded (l : Layout) (d : Netlist) (maps : MapState) (is : List
 -- the law
 abbrev pub DesignsFollow : Type 0
 DesignsFollow =
-    (l : Layout) → IsSuited l.decls l.build → (maps : MapState) → maps.decls ≡ l.decls → IsSound maps → length maps.decls ≤ 16
+    (l : Layout) → IsPipelinable l.decls l.build → (maps : MapState) → maps.decls ≡ l.decls → IsSound maps → length maps.decls ≤ 16
     → (is : List Inputs) → AllByRecursion (λ i. i.host_write ≡ false) is → AllMayCome l.build is (begin l.build maps)
     → (d : Netlist) (st : Stored) → FollowsRight l d (load maps ++ is) (begin l.build (opened_state maps.decls)) st → FollowsLoaded l d maps is st
 
--- And in a clock behind these it shows what the machine does, whatever beat is offered there.
+-- And in a clock after these it shows what the machine does, whatever beat is offered there.
 abbrev pub DesignsShow : Type 0
 DesignsShow =
-    (l : Layout) → IsSuited l.decls l.build → (maps : MapState) → maps.decls ≡ l.decls → IsSound maps → length maps.decls ≤ 16
+    (l : Layout) → IsPipelinable l.decls l.build → (maps : MapState) → maps.decls ≡ l.decls → IsSound maps → length maps.decls ≤ 16
     → (is : List Inputs) (i : Inputs) → AllByRecursion (λ i. i.host_write ≡ false) is → AllMayCome l.build is (begin l.build maps) → IsInput i → i.host_write ≡ false
     → (d : Netlist) (st : Stored) → FollowsRight l d (load maps ++ (is ++ i ∷ [])) (begin l.build (opened_state maps.decls)) st
     → Shows (output l.build (input_of i) (run l.build (map_list input_of is) (begin l.build maps)).state) (shown d (words_of i) (stored_after d (stored_after d st (load maps)) is))

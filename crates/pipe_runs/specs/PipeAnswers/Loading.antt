@@ -1,11 +1,11 @@
--- The clocks of a load, and those behind it.
+-- The clocks of a load, and those after it.
 use Rattle.std.specs.Prelude.{◌≡◌, ◌≤◌, false, List, ◌++◌, length}
 use Rattle.std.specs.List.{AllByRecursion}
 use Rattle.cell_core.specs.xdp_maps.State.{MapState, IsSound, opened_state}
 use Rattle.pipe_core.specs.net_core.declared.ports.Inputs.{Inputs}
 use Rattle.pipe_core.specs.realization.HostHistory.Host.{load}
 use Rattle.pipe_core.specs.History.{begin}
-use Rattle.pipe_core.specs.Pipeable.{IsSuited}
+use Rattle.pipe_core.specs.Pipeable.{IsPipelinable}
 use Rattle.pipe_net.specs.Layout.{Layout}
 use Rattle.pipe_runs.specs.PipeAnswers.Going.{AreRightClocks}
 
@@ -16,5 +16,5 @@ EmptyRunsAreRight = (l : Layout) (maps : MapState) (is : List Inputs) → AllByR
 -- From maps that nothing is written to yet, a load, and then a host that writes nothing.
 abbrev pub LoadedRunsAreRight : Type 0
 LoadedRunsAreRight =
-    (l : Layout) → IsSuited l.decls l.build → (maps : MapState) → maps.decls ≡ l.decls → IsSound maps → length maps.decls ≤ 16 → (is : List Inputs) → AllByRecursion (λ i. i.host_write ≡ false) is
+    (l : Layout) → IsPipelinable l.decls l.build → (maps : MapState) → maps.decls ≡ l.decls → IsSound maps → length maps.decls ≤ 16 → (is : List Inputs) → AllByRecursion (λ i. i.host_write ≡ false) is
     → AreRightClocks l (load maps ++ is) (begin l.build (opened_state maps.decls))

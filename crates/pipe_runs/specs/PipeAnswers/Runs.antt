@@ -8,8 +8,8 @@ use Rattle.pipe_core.specs.hazard_core.Tables.{maps_of}
 use Rattle.pipe_core.specs.Machine.{Build, inside}
 use Rattle.pipe_core.specs.History.{Trace, run, begin, IsInOrder}
 use Rattle.pipe_core.specs.Sequential.{AreCellRuns}
-use Rattle.pipe_core.specs.InTurn.{left_maps}
-use Rattle.pipe_core.specs.Pipeable.{IsSuited}
+use Rattle.pipe_core.specs.SequentialOrder.{left_maps}
+use Rattle.pipe_core.specs.Pipeable.{IsPipelinable}
 use Rattle.pipe_core.specs.HostRuns.Inputs.{input_of}
 
 -- Packets that left are cell runs one after another on these maps, each on those that the one before it left; answers are theirs in the order in which frames came; and when no packet
@@ -22,10 +22,10 @@ pub record RunsFrom (b : Build) (maps : MapState) (t : Trace) : Type 0 where
 -- So it is over every list of clocks in which the host writes nothing: from maps that are loaded on,
 abbrev pub ReadsRunInTurn : Type 0
 ReadsRunInTurn =
-    (b : Build) (maps : MapState) → IsSuited maps.decls b → IsSound maps → (is : List Inputs) → AllByRecursion (λ i. i.host_write ≡ false) is → RunsFrom b maps (run b (map_list input_of is) (begin b maps))
+    (b : Build) (maps : MapState) → IsPipelinable maps.decls b → IsSound maps → (is : List Inputs) → AllByRecursion (λ i. i.host_write ≡ false) is → RunsFrom b maps (run b (map_list input_of is) (begin b maps))
 
--- and behind a load.
+-- and after a load.
 abbrev pub LoadsRunInTurn : Type 0
 LoadsRunInTurn =
-    (b : Build) (maps : MapState) → IsSuited maps.decls b → IsSound maps → (is : List Inputs) → AllByRecursion (λ i. i.host_write ≡ false) is
+    (b : Build) (maps : MapState) → IsPipelinable maps.decls b → IsSound maps → (is : List Inputs) → AllByRecursion (λ i. i.host_write ≡ false) is
     → RunsFrom b maps (run b (map_list input_of (load maps ++ is)) (begin b (opened_state maps.decls)))

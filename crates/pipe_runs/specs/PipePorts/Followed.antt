@@ -6,10 +6,10 @@ use Rattle.pipe_core.specs.net_core.declared.ports.Inputs.{Inputs}
 use Rattle.pipe_core.specs.net_core.Nets.{Netlist}
 use Rattle.pipe_core.specs.net_core.Ports.{words_of}
 use Rattle.pipe_core.specs.net_core.Clock.{Stored, shown}
-use Rattle.pipe_core.specs.net_core.History.{IsInput, stored_after}
+use Rattle.pipe_core.specs.net_core.Trace.{IsInput, stored_after}
 use Rattle.pipe_core.specs.Machine.{Build, output}
 use Rattle.pipe_core.specs.History.{Trace, run, begin}
-use Rattle.pipe_core.specs.Pipeable.{IsSuited}
+use Rattle.pipe_core.specs.Pipeable.{IsPipelinable}
 use Rattle.pipe_core.specs.HostRuns.Inputs.{input_of}
 use Rattle.pipe_net.specs.Machine.{Shows}
 use Rattle.pipe_net.specs.Layout.{HasAnswer}
@@ -20,11 +20,11 @@ use Rattle.pipe_runs.specs.PipeAnswers.Following.{FollowsAlways}
 abbrev pub WriteNothing : List Inputs → Type 0
 WriteNothing is = AllByRecursion (λ i. i.host_write ≡ false) is
 
--- the machine behind these clocks, by what stood at the ports
+-- the machine after these clocks, by what stood at the ports
 abbrev pub ran : Build → MapState → List Inputs → Trace
 ran b maps is = run b (map_list input_of is) (begin b maps)
 
--- The design holds values from which on it follows the machine over these maps, while the host writes nothing and only what may come does. Behind such clocks its outputs show what the machine does,
+-- The design holds values from which on it follows the machine over these maps, while the host writes nothing and only what may come does. After such clocks its outputs show what the machine does,
 -- whatever beat is offered.
 pub record RunsFollow (b : Build) (maps : MapState) (n : Netlist) (st : Stored) : Type 0 where
   pub clocks : (is : List Inputs) → WriteNothing is → AllMayCome b is (begin b maps) → FollowsAlways b n is (begin b maps) st
@@ -33,7 +33,7 @@ pub record RunsFollow (b : Build) (maps : MapState) (n : Netlist) (st : Stored) 
 
 -- what is asked of the pipe and its maps beside that
 pub record IsFollowed (b : Build) (maps : MapState) (n : Netlist) (st : Stored) : Type 0 where
-  pub suited : IsSuited maps.decls b
+  pub pipelinable : IsPipelinable maps.decls b
   pub answer : HasAnswer b
   pub sound : IsSound maps
   pub follows : RunsFollow b maps n st

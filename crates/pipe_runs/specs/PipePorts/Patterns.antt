@@ -5,7 +5,7 @@ use Rattle.pipe_core.specs.net_core.declared.ports.Inputs.{Inputs}
 use Rattle.pipe_core.specs.net_core.Ports.{words_of}
 use Rattle.pipe_core.specs.net_core.Nets.{Netlist}
 use Rattle.pipe_core.specs.net_core.Clock.{Stored, shown, stopping}
-use Rattle.pipe_core.specs.net_core.History.{NeverStops, stored_after}
+use Rattle.pipe_core.specs.net_core.Trace.{NeverStops, stored_after}
 use Rattle.pipe_core.specs.realization.Realizes.{IsPattern}
 use Rattle.pipe_core.specs.Machine.{Build, output}
 use Rattle.pipe_core.specs.History.{begin}

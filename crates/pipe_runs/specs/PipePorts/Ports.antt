@@ -11,7 +11,8 @@ use Rattle.pipe_core.specs.net_core.declared.ports.TheConstants.{IN_READY}
 use Rattle.pipe_core.specs.net_core.Ports.{outputs_at}
 use Rattle.pipe_core.specs.net_core.Nets.{Netlist}
 use Rattle.pipe_core.specs.net_core.Clock.{Stored}
-use Rattle.pipe_core.specs.net_core.History.{Cycle, trace, offers_in, beats_in, arrivals, answers_given, open_beats, owed_after}
+use Rattle.pipe_core.specs.net_core.Trace.{Cycle, trace}
+use Rattle.pipe_core.specs.realization.History.{offers_in, beats_in, arrivals, answers_given, open_beats, owed_after}
 use Rattle.pipe_net.specs.frame_net.Frames.{position_of}
 use Rattle.pipe_core.specs.Machine.{State, Build, is_ready, beat_over, taken_beat, first_answer, new_state, output}
 use Rattle.pipe_core.specs.History.{gave_in, begin}

@@ -1,6 +1,6 @@
 //! What holds of the clocks of a pipeline's machine. Each function's contract is a law; it computes nothing.
 
-ghost use Rattle.pipe_runs.specs.PipeAnswers.Going.{RightTurns, GoOn, BeginGoing, RunsAreRight};
+ghost use Rattle.pipe_runs.specs.PipeAnswers.Going.{RightActions, GoOn, BeginGoing, RunsAreRight};
 ghost use Rattle.pipe_runs.specs.PipeAnswers.Loading.{EmptyRunsAreRight, LoadedRunsAreRight};
 ghost use Rattle.pipe_runs.specs.PipeAnswers.Coming.{HostMayCome, LoadsMayCome, OpenedAreSound};
 ghost use Rattle.pipe_runs.specs.PipeAnswers.Following.{DesignsFollow, DesignsShow};
@@ -10,7 +10,7 @@ ghost use Rattle.pipe_runs.specs.PipeAnswers.Dumps.{RunsGoOn, DumpsAreShown};
 /// While the host writes nothing the tables are tables of their declarations, whose slots hold bytes of the declared lengths, and what commits is right: in every
 /// clock from maps that are loaded on.
 pub fn reads_are_right()
-    ensures turns { RightTurns }
+    ensures actions { RightActions }
     ensures clock { GoOn }
     ensures first { BeginGoing }
     ensures runs { RunsAreRight }
@@ -21,7 +21,7 @@ pub fn reads_are_right()
     pipe_core::host_runs::laws::reads_are_silent();
 }
 
-/// While no beat is offered no packet is inside, whatever the host writes. So all clocks are right in which maps are loaded, and those behind them in which the
+/// While no beat is offered no packet is inside, whatever the host writes. So all clocks are right in which maps are loaded, and those after them in which the
 /// host only reads.
 pub fn loads_are_right()
     ensures empty { EmptyRunsAreRight }
@@ -44,8 +44,8 @@ pub fn loads_may_come()
     cell_core::xdp_state::xdp_maps::laws::keeps_over();
 }
 
-/// So a design that shows what the machine does wherever only what may come does and what commits is right shows it in every clock of a load, and of a run behind it
-/// in which the host only reads: there what the machine over the loaded maps does. No divisor is 0 in any of these clocks. In the clock behind them it shows what the
+/// So a design that shows what the machine does wherever only what may come does and what commits is right shows it in every clock of a load, and of a run after it
+/// in which the host only reads: there what the machine over the loaded maps does. No divisor is 0 in any of these clocks. In the clock after them it shows what the
 /// machine does, too, whatever beat is offered there.
 pub fn designs_follow()
     ensures runs { DesignsFollow }
@@ -56,7 +56,7 @@ pub fn designs_follow()
     pipe_core::host_runs::laws::loads_maps();
 }
 
-/// While the host writes nothing, packets that leave are cell runs one after another on the loaded maps, and behind the last one the tables stand for the maps that it left.
+/// While the host writes nothing, packets that leave are cell runs one after another on the loaded maps, and after the last one the tables stand for the maps that it left.
 pub fn runs_in_turn()
     ensures reads { ReadsRunInTurn }
     ensures loads { LoadsRunInTurn }

@@ -2,7 +2,7 @@
 
 ghost use Rattle.pipe_runs.specs.PipeLoads.Loaded.{PipelinesFollowLoaded, PipelinesShowLoaded};
 
-/// Whatever blocks of these contracts are linked: through a load, and behind it in every clock in which the host only reads, the design shows what the machine of the
+/// Whatever blocks of these contracts are linked: through a load, and after it in every clock in which the host only reads, the design shows what the machine of the
 /// pipe does, and no divisor in it is 0; and so it shows what the machine does in the clock behind, whatever beat is offered there.
 pub fn loads_follow()
     ensures runs { PipelinesFollowLoaded }

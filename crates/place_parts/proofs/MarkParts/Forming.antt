@@ -1,12 +1,14 @@
 -- What is made for marks is made of operands, of sites of the program.
 use Rattle.std.specs.Prelude.{◌^◌, ◌≤◌, IfSome, Option, Some, None, slice_index}
 use Rattle.std.specs.List.{filter}
-use Rattle.std.proofs.Common.{◌≡◌, ℕ, zero, suc, ◌+◌, ◌<◌, Bool, All, List, [], ◌∷◌, ◌++◌, length, get_or, refl, sym, ap, subst, arith}
+use Rattle.std.proofs.Common.{◌≡◌, ℕ, ◌<◌, Bool, All, List, length, get_or, refl, sym, ap, subst, arith}
 use Rattle.std.proofs.lemmas.List.{length-map}
 use Rattle.std.proofs.lemmas.List.Sums.{length-filter, count_by-le-length}
+use Rattle.block_core.proofs.list_laws_laws.PlaceLaws.{some_of}
 use Rattle.block_core.specs.declared.name.Name.{Name}
 use Rattle.hazard_core.specs.cell_core.Rows.{numbers}
 use Rattle.hazard_core.specs.cell_core.View.{site_of}
+use Rattle.hazard_core.proofs.cell_core_laws.NumberLaws.{numbers_long}
 use Rattle.overlay_net.specs.cell_nets.declared.operand.Operand.{Operand}
 use Rattle.overlay_net.specs.cell_nets.declared.operand.Operand.TheVariants.{Net}
 use Rattle.overlay_net.specs.cell_nets.Operands.{IsOperand}
@@ -19,20 +21,11 @@ use Rattle.pipe_net.specs.declared.parts.Part.{Part}
 use Rattle.pipe_net.specs.declared.parts.Sizes.{Sizes}
 use Rattle.place_parts.specs.declared.mark_parts.layout.MarkLayout.{MarkLayout}
 use Rattle.place_parts.specs.MarkParts.Places.{program_in, rows_in, reads_in, register_of, IsMarkLayout, HaveOperands}
-use Rattle.place_parts.specs.MarkParts.Due.{IsGuard, AreMarkNets}
+use Rattle.place_parts.specs.MarkParts.Reload.{IsGuard, AreMarkNets}
 use Rattle.place_parts.proofs.MarkParts.Listing.{kept_below}
-
--- an element of a list that has one
-pub some_of : {A : Type 0} (xs : List A) (n : ℕ) → n < length xs → A
-some_of [] n lt = absurd (omega (arith, lt))
-some_of (x ∷ xs) n lt = x
 
 pub read_known : (f : MarkLayout) (k : ℕ) → All (λ j. j < length (program_in f).sites) (reads_in f k)
 read_known f k = kept_below (has_read (program_in f) (rows_in f) k) (length (program_in f).sites)
-
-numbers_long : (from n : ℕ) → length (numbers from n) ≡ n
-numbers_long from zero = refl
-numbers_long from (suc n) = omega (arith, numbers_long (suc from) n)
 
 filter_short : (q : ℕ → Bool) (xs : List ℕ) → length (filter q xs) ≤ length xs
 filter_short q xs = omega (arith, length-filter q xs, count_by-le-length q xs)
@@ -47,22 +40,6 @@ read_in f k reads is i lt = subst (λ js. get_or js i 0 < length (program_in f).
 
 pub few_in : (f : MarkLayout) (k : ℕ) (reads : List ℕ) → IsMarkLayout f → reads ≡ reads_in f k → (i : ℕ) → i < length reads → i < 2 ^ 31
 few_in f k reads of is i lt = omega (arith, lt, ap length is, reads_few f k of)
-
--- one more at the end
-pub each_more : {A : Type 0} (P : ℕ → A → Type 0) (xs : List A) (x : A) → ((i : ℕ) (d : A) → i < length xs → P i (get_or xs i d)) → P (length xs) x → (i : ℕ) (d : A) → i < length xs + 1 → P i (get_or (xs ++ x ∷ []) i d)
-each_more P [] x each here zero d lt = here
-each_more P [] x each here (suc i) d lt = absurd (omega (arith, lt))
-each_more P (y ∷ ys) x each here zero d lt = each 0 d (omega arith)
-each_more P (y ∷ ys) x each here (suc i) d lt = each_more (λ m. P (suc m)) ys x (λ m e l. each (suc m) e (omega (arith, l))) here i d (omega (arith, lt))
-
-pub each_next : {A : Type 0} (P : ℕ → A → Type 0) (n : ℕ) (xs : List A) (x : A) → length xs ≡ n → ((i : ℕ) (d : A) → i < n → P i (get_or xs i d)) → P n x → (i : ℕ) (d : A) → i < n + 1 → P i (get_or (xs ++ x ∷ []) i d)
-each_next P n xs x long each here i d lt = each_more P xs x (λ m e l. each m e (omega (arith, l, long))) (subst (λ m. P m x) (sym long) here) i d (omega (arith, lt, long))
-
--- where a list has an element, it does not matter what stands past its end
-pub same_there : {A : Type 0} (xs : List A) (n : ℕ) (a b : A) → n < length xs → get_or xs n a ≡ get_or xs n b
-same_there [] n a b lt = absurd (omega (arith, lt))
-same_there (x ∷ xs) zero a b lt = refl
-same_there (x ∷ xs) (suc n) a b lt = same_there xs n a b (omega (arith, lt))
 
 pub net_has : (n : Name Part) → IsOperand (Net n 1)
 net_has n = record { some = omega arith; most = omega arith }
@@ -80,10 +57,10 @@ module _ (f : MarkLayout) (sites : List (SiteNets (Name Part))) (ops : HaveOpera
   known_in : (i : ℕ) → i < length (reads_in f k) → slice_index (reads_in f k) i < length sites
   known_in i lt = omega (arith, read_known f k i 0 lt, ops.count)
 
-  pub nets_have : (dues : List (MarkNets (Name Part))) → AreMarkNets f sites k dues → All marking.HasOperands dues
-  nets_have dues are i m lt =
+  pub nets_have : (reloads : List (MarkNets (Name Part))) → AreMarkNets f sites k reloads → All marking.HasOperands reloads
+  nets_have reloads are i m lt =
       let x = are.each i m lt in
       record {
         marked = subst IsOperand (sym x.marked) (register_has f.sizes k i);
-        guard = guard_has (slice_index (reads_in f k) i) (known_in i (omega (arith, lt, are.count))) (get_or dues i m).guard x.guard;
+        guard = guard_has (slice_index (reads_in f k) i) (known_in i (omega (arith, lt, are.count))) (get_or reloads i m).guard x.guard;
       }

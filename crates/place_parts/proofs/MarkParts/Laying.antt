@@ -3,6 +3,7 @@ use Rattle.std.specs.Prelude.{◌==◌, ◌&&◌, if◌then◌else◌, Some, Con
 use Rattle.std.specs.List.{filter}
 use Rattle.std.proofs.Common.{◌≡◌, ◌∙◌, ℕ, zero, suc, ◌<◌, ◌≤◌, Bool, true, All, List, [], ◌∷◌, length, get_or, map as map_list, sym, ap, subst, arith}
 use Rattle.std.proofs.lemmas.Bool.{eq-eqb}
+use Rattle.block_core.proofs.list_laws_laws.PlaceLaws.{some_of}
 use Rattle.hazard_core.specs.xdp_maps.declared.decl.MapDecl.{MapDecl}
 use Rattle.hazard_core.specs.xdp_maps.declared.decl.MapKind.{MapKind}
 use Rattle.hazard_core.specs.xdp_maps.declared.decl.MapKind.TheVariants.{Hash}
@@ -12,9 +13,9 @@ use Rattle.hazard_core.specs.cell_core.Rows.{numbers}
 use Rattle.hazard_core.specs.cell_core.Sites.{ProgramView, site_at}
 use Rattle.overlay_net.specs.cell_nets.declared.operand.Operand.{Operand}
 use Rattle.overlay_net.specs.cell_nets.declared.operand.Operand.TheVariants.{Net}
-use Rattle.control_net.specs.Returns.{due_name}
+use Rattle.control_net.specs.Returns.{reload_name}
 use Rattle.hazard_core.specs.Tables.{decl_of}
-use Rattle.hazard_core.specs.Held.{is_update}
+use Rattle.hazard_core.specs.StageValues.{is_update}
 use Rattle.hazard_core.specs.Marks.{has_read}
 use Rattle.hazard_core.specs.HeldRows.Fits.{IsMadeBefore}
 use Rattle.overlay_net.specs.declared.site_operands.SiteNets.{SiteNets}
@@ -36,13 +37,13 @@ use Rattle.pipe_net.specs.PipeMarks.Parts as layout
 use Rattle.pipe_net.specs.PipeMarks.Parts.{AreMarksOf, IsMarkAt, IsMarkNets, IsOwnAt}
 use Rattle.place_parts.specs.declared.mark_parts.layout.MarkLayout.{MarkLayout}
 use Rattle.place_parts.specs.MarkParts.Places.{program_in, rows_in, reads_in, register_of}
-use Rattle.place_parts.specs.MarkParts.Due as due
-use Rattle.place_parts.specs.MarkParts.Due.{AreMarkNets, IsDuePart}
+use Rattle.place_parts.specs.MarkParts.Reload as reload
+use Rattle.place_parts.specs.MarkParts.Reload.{AreMarkNets, IsReloadPart}
 use Rattle.place_parts.specs.MarkParts.Owns.{is_hash, is_own}
 use Rattle.place_parts.specs.MarkParts.Marks.{comes_by, IsMarkOf, Unread, Read, IsMarkBefore, IsMark, advances_by, IsMarksPart}
 use Rattle.place_parts.specs.MarkParts.Laws.{IsFor, IsChangeIn}
 use Rattle.place_parts.proofs.MarkParts.Listing.{kept_in}
-use Rattle.place_parts.proofs.MarkParts.Forming.{some_of, read_known}
+use Rattle.place_parts.proofs.MarkParts.Forming.{read_known}
 
 -- ---- updates
 hash_is : (kind : MapKind) → kind ≡ Hash → is_hash kind ≡ true
@@ -76,8 +77,8 @@ module _ (l : Layout) (f : MarkLayout) (d : Whole Part) (k : ℕ) (sites : List 
   known_in : (j : ℕ) → j < length (program_in f).sites → j < length (program_of l).sites
   known_in j lt = subst (λ (p : ProgramView). j < length p.sites) (sym is.program) lt
 
-  -- ---- which are due
-  guard_at : (j : ℕ) (m : MarkNets (Name Part)) → j < length (program_of l).sites → due.IsGuard f sites k j m.guard → (g : Operand (Name Part)) → m.guard ≡ Some g → (nets : SiteOperands (Name Part)) × IsAtPlace l k j nets × (g ≡ nets.guard)
+  -- ---- which must reload
+  guard_at : (j : ℕ) (m : MarkNets (Name Part)) → j < length (program_of l).sites → reload.IsGuard f sites k j m.guard → (g : Operand (Name Part)) → m.guard ≡ Some g → (nets : SiteOperands (Name Part)) × IsAtPlace l k j nets × (g ≡ nets.guard)
   guard_at j m lt x g e =
       let s = some_of sites j (omega (arith, lt, sites_long)) in
       (operands_of (get_or sites j s), at j s lt, x.is g s e)
@@ -88,21 +89,21 @@ module _ (l : Layout) (f : MarkLayout) (d : Whole Part) (k : ℕ) (sites : List 
   reads_known : (i : ℕ) → i < length (reads_in f k) → slice_index (read_sites l k) i < length (program_of l).sites
   reads_known i lt = subst (λ j. j < length (program_of l).sites) (site_of k i) (known_in _ (read_known f k i 0 lt))
 
-  due_nets : (dues : List (MarkNets (Name Part))) → AreMarkNets f sites k dues → (i : ℕ) (m : MarkNets (Name Part)) → i < length dues → IsMarkNets l k i (get_or dues i m)
-  due_nets dues are i m lt =
+  reload_nets : (reloads : List (MarkNets (Name Part))) → AreMarkNets f sites k reloads → (i : ℕ) (m : MarkNets (Name Part)) → i < length reloads → IsMarkNets l k i (get_or reloads i m)
+  reload_nets reloads are i m lt =
       let x = are.each i m lt in
       record {
         marked = x.marked ∙ same_register k i;
-        guard = guard_at (slice_index (read_sites l k) i) (get_or dues i m) (reads_known i (omega (arith, lt, are.count))) (subst (λ j. due.IsGuard f sites k j (get_or dues i m).guard) (site_of k i) x.guard);
+        guard = guard_at (slice_index (read_sites l k) i) (get_or reloads i m) (reads_known i (omega (arith, lt, are.count))) (subst (λ j. reload.IsGuard f sites k j (get_or reloads i m).guard) (site_of k i) x.guard);
       }
 
-  due_known : (dues : List (MarkNets (Name Part))) → AreMarkNets f sites k dues → AreKnown (program_in f) (rows_in f) k (reads_in f k) dues
-  due_known dues are = record { count = are.count; each = λ n m lt. (are.each n m (omega (arith, lt, are.count))).guard.known }
+  reload_known : (reloads : List (MarkNets (Name Part))) → AreMarkNets f sites k reloads → AreKnown (program_in f) (rows_in f) k (reads_in f k) reloads
+  reload_known reloads are = record { count = are.count; each = λ n m lt. (are.each n m (omega (arith, lt, are.count))).guard.known }
 
-  dues_known : (dues : List (MarkNets (Name Part))) → AreMarkNets f sites k dues → AreKnown (program_of l) l.build.plan.row k (read_sites l k) dues
-  dues_known dues are =
-      subst (λ js. AreKnown (program_of l) l.build.plan.row k js dues) (sym (same_at k))
-      (subst (λ (row : ℕ → ℕ). AreKnown (program_of l) row k (reads_in f k) dues) (sym is.rows) (subst (λ (p : ProgramView). AreKnown p (rows_in f) k (reads_in f k) dues) (sym is.program) (due_known dues are)))
+  reloads_known : (reloads : List (MarkNets (Name Part))) → AreMarkNets f sites k reloads → AreKnown (program_of l) l.build.plan.row k (read_sites l k) reloads
+  reloads_known reloads are =
+      subst (λ js. AreKnown (program_of l) l.build.plan.row k js reloads) (sym (same_at k))
+      (subst (λ (row : ℕ → ℕ). AreKnown (program_of l) row k (reads_in f k) reloads) (sym is.rows) (subst (λ (p : ProgramView). AreKnown p (rows_in f) k (reads_in f k) reloads) (sym is.program) (reload_known reloads are)))
 
   -- ---- marks
   mark_of : (n j : ℕ) (o : Operand (Name Part)) → IsMarkOf f n j o → layout.IsMarkOf l n j o
@@ -181,15 +182,15 @@ module _ (l : Layout) (f : MarkLayout) (d : Whole Part) (k : ℕ) (sites : List 
   sites_at : (marks : List (MarkSite (Name Part))) → AreMarkSites (program_in f) f.decls.now marks → AreMarkSites (program_of l) l.decls marks
   sites_at marks m = subst (λ (ds : List MapDecl). AreMarkSites (program_of l) ds marks) (sym is.decls) (subst (λ (p : ProgramView). AreMarkSites p f.decls.now marks) (sym is.program) m)
 
-  pub of_marks : IsDuePart f sites k (due_name l.due k) (d.block (part.due k)) → IsMarksPart f sites changes k (d.block (part.marks l.sizes k)) → AreMarksOf l k d
+  pub of_marks : IsReloadPart f sites k (reload_name l.reload k) (d.block (part.reload k)) → IsMarksPart f sites changes k (d.block (part.marks l.sizes k)) → AreMarksOf l k d
   of_marks x y = record {
     sites = y.marks;
     count = y.are.count ∙ ap length (sym (same_at k));
     each = λ i m lt. mark_here i (get_or y.marks i m) (y.are.each i m lt);
     are = sites_at y.marks y.of_sites;
     block = block_at y.marks (d.block (part.marks l.sizes k)) y.is;
-    dues = x.dues;
-    known = dues_known x.dues x.are;
-    nets = due_nets x.dues x.are;
-    due = x.is;
+    reloads = x.reloads;
+    known = reloads_known x.reloads x.are;
+    nets = reload_nets x.reloads x.are;
+    reload = x.is;
   }

@@ -3,13 +3,9 @@ use Rattle.std.specs.Prelude.{Contains, ◌==◌, ◌≢◌}
 use Rattle.std.specs.List.{filter}
 use Rattle.std.proofs.Common.{◌≡◌, ◌∙◌, ℕ, zero, suc, ◌+◌, ◌<◌, ◌≤◌, Bool, true, false, cond, All, List, [], ◌∷◌, ◌++◌, append-nil, refl, sym, ap, arith}
 use Rattle.std.proofs.lemmas.Bool.{eqb-true, eqb-false}
-use Rattle.std.proofs.lemmas.List.Elements.{filter-append, All-nil, All-cons, All-filter}
+use Rattle.std.proofs.lemmas.List.Elements.{filter-append, All-filter}
 use Rattle.hazard_core.specs.cell_core.Rows.{numbers}
-use Rattle.hazard_core.proofs.cell_core_laws.NumberLaws.{numbers_more}
-
-numbers_below : (most n from : ℕ) → from + n ≤ most → All (λ k. k < most) (numbers from n)
-numbers_below most zero from h = All-nil (λ k. k < most)
-numbers_below most (suc n) from h = All-cons (λ k. k < most) from (numbers (suc from) n) (omega arith) (numbers_below most n (suc from) (omega arith))
+use Rattle.hazard_core.proofs.cell_core_laws.NumberLaws.{numbers_more, numbers_below}
 
 differ : (t : Bool) → t ≡ false → t ≡ true → ⊥
 differ t f g = cc

@@ -1,6 +1,8 @@
 -- What the block of marks takes.
 use Rattle.std.specs.Prelude.{◌*◌, ◌^◌, ◌≤◌, Contains}
 use Rattle.std.proofs.Common.{◌≡◌, ◌∙◌, ℕ, zero, suc, ◌-◌, ◌<◌, All, List, [], ◌∷◌, ◌++◌, length, get_or, refl, sym, ap, subst, arith}
+use Rattle.std.proofs.lemmas.List.{get_or_default}
+use Rattle.block_core.proofs.list_laws_laws.PlaceLaws.{some_of}
 use Rattle.hazard_core.specs.xdp_maps.declared.decl.MapDecl.{MapDecl}
 use Rattle.block_core.specs.declared.name.Name.{Name}
 use Rattle.hazard_core.specs.cell_core.Sites.{site_at}
@@ -20,7 +22,7 @@ use Rattle.place_parts.specs.declared.mark_parts.layout.MarkLayout.{MarkLayout}
 use Rattle.place_parts.specs.MarkParts.Places.{program_in, reads_before, register_of, IsMarkLayout, HaveOperands}
 use Rattle.place_parts.specs.MarkParts.Owns.{IsOwn}
 use Rattle.place_parts.specs.MarkParts.Marks.{HaveChanges, comes_by, IsMarkOf, Unread, Read, IsMarkBefore, IsChangeOf, IsMark, AreMarks}
-use Rattle.place_parts.proofs.MarkParts.Forming.{some_of, same_there, net_has, register_has, reads_few}
+use Rattle.place_parts.proofs.MarkParts.Forming.{net_has, register_has, reads_few}
 
 left_in : {A : Type 0} (P : A → Type 0) (xs ys : List A) → All P (xs ++ ys) → All P xs
 left_in P [] ys h n d lt = absurd (omega (arith, lt))
@@ -110,4 +112,4 @@ module _ (f : MarkLayout) (sites : List (SiteNets (Name Part))) (changes : List 
 pub change_of :
     (z : Sizes) (k : ℕ) (changes : List (ChangePart (Name Part))) (n m : ℕ) (c : ChangePart (Name Part)) (x : MarkSite (Name Part)) → n ≡ m → n < length changes → c ≡ get_or changes m c → IsChangeOf z k c x
     → (d : ChangePart (Name Part)) → IsChangeOf z k (get_or changes n d) x
-change_of z k changes n m c x same lt is h d = subst (λ (a : ChangePart (Name Part)). IsChangeOf z k a x) (is ∙ ap (λ i. get_or changes i c) (sym same) ∙ same_there changes n c d lt) h
+change_of z k changes n m c x same lt is h d = subst (λ (a : ChangePart (Name Part)). IsChangeOf z k a x) (is ∙ ap (λ i. get_or changes i c) (sym same) ∙ get_or_default changes n c d lt) h

@@ -20,7 +20,7 @@ use Rattle.place_parts.specs.declared.frame_parts.parts.FrameParts.{FrameParts}
 
 -- ---- what they are made for
 -- There are not too many of anything, all that stands for answers are operands, and a byte that may change lies in a word that may. Each place up to the commit place has a net
--- that says whether its packet is due.
+-- that says whether its packet must reload.
 pub record IsFrameLayout (f : FrameLayout) : Type 0 where
   pub small : IsSmall f.sizes
   pub narrow : f.shape.now.slot_bits ≤ 9
@@ -29,7 +29,7 @@ pub record IsFrameLayout (f : FrameLayout) : Type 0 where
   pub few : length f.words.now ≤ 255
   pub operands : All IsOperand (output_operands f.answer.now)
   pub covered : (b : ℕ) → Contains (byte_numbers f.answer.now) b → Contains f.words.now (b / 8)
-  pub due : length f.due.now ≡ suc f.shape.now.commit
+  pub reload : length f.reload.now ≡ suc f.shape.now.commit
 
 -- a pipeline that is laid out so
 pub record IsFor (l : Layout) (f : FrameLayout) : Type 0 where
@@ -38,7 +38,7 @@ pub record IsFor (l : Layout) (f : FrameLayout) : Type 0 where
   pub kept : l.kept ≡ f.kept.now
   pub words : l.words ≡ f.words.now
   pub answer : l.answer ≡ f.answer.now
-  pub due : l.due ≡ f.due.now
+  pub reload : l.reload ≡ f.reload.now
   pub stays : l.stays ≡ f.stays
 
 -- what control reads of other parts

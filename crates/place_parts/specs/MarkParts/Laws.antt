@@ -6,7 +6,7 @@ use Rattle.block_core.specs.Blocks.{Whole}
 use Rattle.overlay_net.specs.declared.site_operands.SiteNets.{SiteNets}
 use Rattle.overlay_net.specs.SiteOperands.Sites.{operands_of}
 use Rattle.commit_net.specs.declared.change_net.change.ChangePart.{ChangePart}
-use Rattle.control_net.specs.Returns.{due_name}
+use Rattle.control_net.specs.Returns.{reload_name}
 use Rattle.pipe_net.specs.declared.parts.Part.{Part}
 use Rattle.pipe_net.specs.Parts as part
 use Rattle.pipe_net.specs.Layout.{Layout, program_of, commit_of}
@@ -14,7 +14,7 @@ use Rattle.pipe_net.specs.Standing.{IsAtPlace}
 use Rattle.pipe_net.specs.PipeMarks.Parts.{AreMarksOf}
 use Rattle.place_parts.specs.declared.mark_parts.layout.MarkLayout.{MarkLayout}
 use Rattle.place_parts.specs.MarkParts.Places.{program_in, rows_in}
-use Rattle.place_parts.specs.MarkParts.Due.{IsDuePart}
+use Rattle.place_parts.specs.MarkParts.Reload.{IsReloadPart}
 use Rattle.place_parts.specs.MarkParts.Marks.{IsMarksPart}
 
 -- a pipeline that is laid out for the same program
@@ -39,4 +39,4 @@ PartsAreOfMarks =
     (l : Layout) (f : MarkLayout) (d : Whole Part) (k : ℕ) (sites : List (SiteNets (Name Part))) (changes : List (ChangePart (Name Part))) → IsFor l f → k ≤ commit_of l
     → ((j : ℕ) (s : SiteNets (Name Part)) → j < length (program_of l).sites → IsAtPlace l k j (operands_of (get_or sites j s))) → ((m : ℕ) (c : ChangePart (Name Part)) → m < length l.decls → IsChangeIn l m (get_or changes m c))
     → length sites ≡ length (program_of l).sites → length changes ≡ length l.decls
-    → IsDuePart f sites k (due_name l.due k) (d.block (part.due k)) → IsMarksPart f sites changes k (d.block (part.marks l.sizes k)) → AreMarksOf l k d
+    → IsReloadPart f sites k (reload_name l.reload k) (d.block (part.reload k)) → IsMarksPart f sites changes k (d.block (part.marks l.sizes k)) → AreMarksOf l k d

@@ -10,7 +10,7 @@ use Rattle.block_core.specs.declared.name.Name.{Name}
 use Rattle.hazard_core.specs.cell_core.Rows.{numbers}
 use Rattle.hazard_core.specs.cell_core.Sites.{ProgramView, site_at}
 use Rattle.hazard_core.specs.Tables.{decl_of}
-use Rattle.hazard_core.specs.Held.{is_update}
+use Rattle.hazard_core.specs.StageValues.{is_update}
 use Rattle.overlay_net.specs.declared.site_operands.SiteNets.{SiteNets}
 use Rattle.read_net.specs.declared.touch_net.change.OwnKey.{OwnKey}
 use Rattle.read_net.specs.TouchNet.Touching.{key_bytes}

@@ -83,7 +83,7 @@ pub(crate) fn returns(
     layout: &FrameLayout<'_>,
 ) -> Result<Block<Name<Part>>, AllocError>
     requires { IsFrameLayout layout.now }
-    ensures { IfOk result (λ b. IsReturns layout.now.shape.now (part.returns layout.now.sizes) (part.control layout.now.sizes) layout.now.due.now (block_of b)) }
+    ensures { IfOk result (λ b. IsReturns layout.now.shape.now (part.returns layout.now.sizes) (part.control layout.now.sizes) layout.now.reload.now (block_of b)) }
 {
     let sizes = layout.sizes;
     let block = control_net::returns::returns(
@@ -91,7 +91,7 @@ pub(crate) fn returns(
         sizes.returns(),
         layout.shape,
         sizes.control(),
-        layout.due,
+        layout.reload,
     )?;
     Ok(block)
 }

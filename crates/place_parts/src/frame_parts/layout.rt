@@ -7,7 +7,7 @@ use pipe_net::parts::{Part, Sizes};
 use row_net::place_net::Outputs;
 
 /// What the parts of frames are made for: how many parts of each sort there are, and the sizes of control; what is kept of frames, the words of a frame that may change, and what stands
-/// for the answer of the packet in the last place; the nets that say whether the packet at a place is due, up to the commit place, and the net that says whether packets
+/// for the answer of the packet in the last place; the nets that say whether the packet at a place must reload, up to the commit place, and the net that says whether packets
 /// stay where they are.
 #[derive(Clone, Copy)]
 pub struct FrameLayout<'a> {
@@ -16,6 +16,6 @@ pub struct FrameLayout<'a> {
     pub kept: &'a [Kept],
     pub words: &'a [u8],
     pub answer: &'a Outputs<Name<Part>>,
-    pub due: &'a [Name<Part>],
+    pub reload: &'a [Name<Part>],
     pub stays: Name<Part>,
 }

@@ -24,7 +24,7 @@ fn is_up_to(program: &CellProgram, rows: &[u32], cell: usize, row: u32) -> bool
 }
 
 // Whether a packet that has the rows up to one has read at a site.
-#[tactic(auto, using(crate::proofs::MarkParts::Reading::any_two))]
+#[tactic(auto, using(list_laws::proofs::ListLaws::any_two))]
 fn has_read(program: &CellProgram, rows: &[u32], row: u32, j: usize) -> bool
     ensures { result ≡ has_read (program_of program.now) (slice_index rows.now) row j }
 {

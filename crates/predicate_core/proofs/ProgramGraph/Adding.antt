@@ -1,8 +1,8 @@
 -- One edge more among the ends.
 use Rattle.std.proofs.Common.{◌≡◌, ℕ, ◌+◌, ◌<◌, ◌⊎◌, inl, inr, Bool, true, false, List, [], ◌∷◌, ◌++◌, length, get_or, set, take, Option, Some, None, refl, sym, ◌∙◌, ap, subst, arith}
-use Rattle.std.specs.Prelude.{◌≢◌, is_some, replicate, All, Contains}
+use Rattle.std.specs.Prelude.{◌≢◌, is_some, All, Contains}
 use Rattle.std.proofs.lemmas.Bool.{cases_order}
-use Rattle.std.proofs.lemmas.List.{get_or-set_same, get_or-set_other, length-set, length-replicate, get_or-replicate, get_or_default, take_more}
+use Rattle.std.proofs.lemmas.List.{get_or-set_same, get_or-set_other, length-set, get_or_default, take_more}
 use Rattle.std.proofs.lemmas.List.Elements.{All-nil, All-cons, All-append, Contains-append_left, Contains-push}
 use Rattle.unfold_core.specs.declared.links.Edge.{Edge}
 use Rattle.unfold_core.specs.RunLaws.{edge}
@@ -39,22 +39,12 @@ added_still e true false to h = h
 added_still e false true to h = h
 added_still e false false to h = refl
 
-none_along : (taken : Bool) (to : ℕ) → along no_ends taken ≡ Some to → ⊥
-none_along true to h = cc h
-none_along false to h = cc h
-
 same_or : (i j : ℕ) → (i ≡ j) ⊎ (i ≢ j)
 same_or i j = elim (cases_order i j) [
   | inl e ↦ inl e
   | inr (inl l) ↦ inr (λ e. absurd (omega arith))
   | inr (inr l) ↦ inr (λ e. absurd (omega arith))
 ]
-
-pub none_yet : (n : ℕ) → AreEndsOf [] (replicate n no_ends)
-none_yet n = record {
-  each = λ k taken to below h. absurd (none_along taken to (ap (λ e. along e taken) (sym (get_or-replicate n k no_ends no_ends (subst (λ m. k < m) (length-replicate n no_ends) below))) ∙ h));
-  some = All-nil (λ x. is_some (along (get_or (replicate n no_ends) x.from no_ends) x.taken) ≡ true);
-}
 
 module _ (edges : List Edge) (ends : List NodeEnds) (x : Edge) (h : AreEndsOf edges ends) (below : x.from < length ends) where
   abbrev more : NodeEnds

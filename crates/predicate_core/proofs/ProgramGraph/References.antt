@@ -1,5 +1,5 @@
--- Which instructions refer to maps, and how large values of maps are.
-use Rattle.std.proofs.Common.{◌≡◌, ℕ, zero, suc, ◌≤◌, ◌==◌, ◌||◌, Bool, true, false, List, [], ◌∷◌, Some, refl, sym, ◌∙◌, ap, arith}
+-- Which instructions refer to maps.
+use Rattle.std.proofs.Common.{◌≡◌, ℕ, ◌==◌, ◌||◌, Bool, true, false, List, [], ◌∷◌, Some, refl, sym, ◌∙◌, ap}
 use Rattle.std.specs.Prelude.{All}
 use Rattle.std.specs.List.{list_any}
 use Rattle.std.proofs.lemmas.Bool.{eqb-true}
@@ -7,9 +7,7 @@ use Rattle.std.proofs.lemmas.List.Elements.{All-head, All-tail}
 use Rattle.xdp_machine.specs.bpf_isa.declared.operation.Op.TheVariants.{LoadImm}
 use Rattle.xdp_machine.specs.bpf_isa.declared.instruction.Insn.{Insn}
 use Rattle.xdp_machine.specs.bpf_isa.Text.{insn_at}
-use Rattle.xdp_machine.specs.xdp_maps.declared.decl.MapDecl.{MapDecl}
-use Rattle.xdp_machine.specs.Program.{IsDeclaration, IsReference}
-use Rattle.kind_core.specs.Kinds.{value_bytes}
+use Rattle.xdp_machine.specs.Program.{IsReference}
 
 pub refers_load : (insns : List Insn) (maps : ℕ) (refs : List ℕ) (place : ℕ) (i : Insn) → All (IsReference insns maps) refs → insn_at insns place ≡ Some i → list_any (λ r. r == place) refs ≡ true → i.op ≡ LoadImm
 refers_load insns maps [] place i all is h = absurd (cc h)
@@ -22,8 +20,3 @@ refers_load insns maps (r ∷ refs) place i all is h = by (r == place) refl h (r
         let one : own.insn ≡ i = cc both in
         ap (λ j. j.op) (sym one) ∙ own.load
     by false e g later = later g
-
-pub small_values : (ds : List MapDecl) → All IsDeclaration ds → (q : ℕ) → value_bytes ds q ≤ 64
-small_values [] h q = omega arith
-small_values (d ∷ ds) h zero = (All-head IsDeclaration d ds h).limits.value_short
-small_values (d ∷ ds) h (suc q) = small_values ds (All-tail IsDeclaration d ds h) q

@@ -10,6 +10,7 @@ use Rattle.kind_core.specs.declared.kind.Kinds.{Kinds}
 use Rattle.kind_core.specs.Kinds as kinds
 use Rattle.kind_core.specs.Edges.{decided, transferred}
 use Rattle.kind_core.specs.Joins.{joined}
+use Rattle.kind_core.proofs.SizeLaws.{small_values}
 use Rattle.unfold_core.specs.declared.links.Edge.{Edge}
 use Rattle.unfold_core.specs.declared.unfolding.Unfolded.{Unfolded}
 use Rattle.unfold_core.specs.Edges.{is_reference}
@@ -26,7 +27,7 @@ use Rattle.predicate_core.specs.ProgramGraph.Graphs.{node_view, edge_view, graph
 use Rattle.edge_cells.specs.NodeCells.Feeding.{known_behind, known_on}
 use Rattle.predicate_core.specs.ProgramGraph.Sound.{IsSoundGraph, GraphsAreSound}
 use Rattle.predicate_core.proofs.ProgramGraph.Viewing.{point_at, node_is, node_count, node_inside, edge_back, edge_there, edge_here}
-use Rattle.predicate_core.proofs.ProgramGraph.References.{refers_load, small_values}
+use Rattle.predicate_core.proofs.ProgramGraph.References.{refers_load}
 use Rattle.predicate_core.proofs.ProgramGraph.Filling.{start_filled, side_filled}
 
 pub record Laws : Type 0 where

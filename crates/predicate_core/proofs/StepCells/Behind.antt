@@ -16,8 +16,8 @@ use Rattle.operator_cells.specs.row_rules.declared.place_rows.recording.Record.{
 use Rattle.operator_cells.specs.row_rules.PlaceRows.Spans.{pending_place}
 use Rattle.operator_cells.specs.row_rules.PlaceRows.Writing.{record_as}
 use Rattle.operator_cells.specs.Making.{Grows}
-use Rattle.operator_cells.specs.declared.held_cells.held.Held.{Held}
-use Rattle.operator_cells.specs.HeldCells.Held.{PointerView, AreInside}
+use Rattle.operator_cells.specs.declared.held_cells.machine_cells.RegisterCells.{RegisterCells}
+use Rattle.operator_cells.specs.HeldCells.RegisterCells.{PointerView, AreInside}
 use Rattle.operator_cells.specs.HeldCells.Carrying.{Carries}
 use Rattle.operator_cells.specs.HeldCells.Rows.{held_row, map_used, pending_before, row_before, CarriesTo, written_row, WriteWithin, OperatesTo}
 use Rattle.operator_cells.proofs.HeldCells.MonotoneLaws.{made_below, result_below, written_below}
@@ -34,17 +34,17 @@ none_writes write old new sites row last grows = record {
 -- ---- the rows of places before
 
 -- nothing is held past the target
-past_held : (row : ℕ → ℕ) (ps : List PointerView) (h : Held) (k : Kinds) (place : ℕ) → 332 ≤ place → held_row row ps h k place ≡ 0
+past_held : (row : ℕ → ℕ) (ps : List PointerView) (h : RegisterCells) (k : Kinds) (place : ℕ) → 332 ≤ place → held_row row ps h k place ≡ 0
 past_held row ps h k place past = rw (le-ltb place 11 (omega (arith, past)), le-ltb place 75 (omega (arith, past)), le-ltb place 332 past) refl
 
-pub held_within : (decls : List MapDecl) (row : ℕ → ℕ) (ps : List PointerView) (h : Held) (k : Kinds) (pending : List ℕ) (before : ℕ → ℕ) → AreWithin decls row ps h k pending before → (place : ℕ) → held_row row ps h k place ≤ before place
+pub held_within : (decls : List MapDecl) (row : ℕ → ℕ) (ps : List PointerView) (h : RegisterCells) (k : Kinds) (pending : List ℕ) (before : ℕ → ℕ) → AreWithin decls row ps h k pending before → (place : ℕ) → held_row row ps h k place ≤ before place
 held_within decls row ps h k pending before within place = by (cases_lt place 332)
   where
     by : (place < 332) ⊎ (332 ≤ place) → held_row row ps h k place ≤ before place
     by (inl l) = within.held place l
     by (inr past) = omega (arith, past_held row ps h k place past)
 
-pending_within : (decls : List MapDecl) (row : ℕ → ℕ) (ps : List PointerView) (h : Held) (k : Kinds) (pending : List ℕ) (before : ℕ → ℕ) (u : Option ℕ) (c : ℕ) → AreWithin decls row ps h k pending before
+pending_within : (decls : List MapDecl) (row : ℕ → ℕ) (ps : List PointerView) (h : RegisterCells) (k : Kinds) (pending : List ℕ) (before : ℕ → ℕ) (u : Option ℕ) (c : ℕ) → AreWithin decls row ps h k pending before
     → ((q : ℕ) → u ≡ Some q → (q < length decls) × (q < length pending → c ≡ slice_index pending q)) → (place : ℕ) → pending_before row u c place ≤ before place
 pending_within decls row ps h k pending before None c within own place = omega arith
 pending_within decls row ps h k pending before (Some q) c within own place = by (place == pending_place q) refl
@@ -56,7 +56,7 @@ pending_within decls row ps h k pending before (Some q) c within own place = by 
         rw e (omega (arith, within.pending q there, ap row ((own q refl).1 there), ap before at))
     by false e = rw e (omega arith)
 
-pub before_within : (decls : List MapDecl) (row : ℕ → ℕ) (ps : List PointerView) (h : Held) (k : Kinds) (pending : List ℕ) (before : ℕ → ℕ) (u : Option ℕ) (c : ℕ) → AreWithin decls row ps h k pending before
+pub before_within : (decls : List MapDecl) (row : ℕ → ℕ) (ps : List PointerView) (h : RegisterCells) (k : Kinds) (pending : List ℕ) (before : ℕ → ℕ) (u : Option ℕ) (c : ℕ) → AreWithin decls row ps h k pending before
     → ((q : ℕ) → u ≡ Some q → (q < length decls) × (q < length pending → c ≡ slice_index pending q)) → (place : ℕ) → row_before row ps h k u c place ≤ before place
 before_within decls row ps h k pending before u c within own place =
     by (nat_lt place 332) (held_within decls row ps h k pending before within place) (pending_within decls row ps h k pending before u c within own place)
@@ -68,7 +68,7 @@ before_within decls row ps h k pending before u c within own place =
 -- ---- by the sort of the instruction
 
 -- what is carried, by rows of places that stand within others
-carried_rows : (decls : List MapDecl) (before : (ℕ → ℕ) → ℕ → ℕ) (ps qs : List PointerView) (i : Insn) (k after : Kinds) (h next : Held) (pending : List ℕ) (old new : List CellView) (sites sites2 : List SiteView)
+carried_rows : (decls : List MapDecl) (before : (ℕ → ℕ) → ℕ → ℕ) (ps qs : List PointerView) (i : Insn) (k after : Kinds) (h next : RegisterCells) (pending : List ℕ) (old new : List CellView) (sites sites2 : List SiteView)
     → CarriesTo decls before qs i k h after next old new → ((row bound : ℕ → ℕ) → AreWithin decls row ps h k pending bound → (place : ℕ) → before row place ≤ bound place)
     → ((row bound : ℕ → ℕ) → AreRows new row → AreWithin decls row ps h k pending bound → WriteWithin (record_as decls k i i.op) old new sites sites2 row (written_row bound decls k after i))
     → InstructionRows decls k h i after next pending old new ps qs sites sites2
@@ -95,7 +95,7 @@ both_ok (Ok a) P Q R f p q = f p q
 both_ok (Err b) P Q R f p q = tt
 
 -- one that operates on no map
-pub plain_rows : {A B : Type 0} (r : Result A B) (decls : List MapDecl) (ps qs : List PointerView) (i : Insn) (node : ℕ) (is_ref : Bool) (k : Kinds) (h next : Held) (pending : List ℕ) (old new : List CellView) (sites : List SiteView)
+pub plain_rows : {A B : Type 0} (r : Result A B) (decls : List MapDecl) (ps qs : List PointerView) (i : Insn) (node : ℕ) (is_ref : Bool) (k : Kinds) (h next : RegisterCells) (pending : List ℕ) (old new : List CellView) (sites : List SiteView)
     → qs ≡ ps → verdict (effect_of decls k i) ≡ passed → AreInside decls (length old) ps h k
     → (verdict (effect_of decls k i) ≡ passed → AreInside decls (length old) qs h k → OnOk r (Carries decls qs i node is_ref false k h next old new))
     → (verdict (effect_of decls k i) ≡ passed → OnOk r (CarriesTo decls (λ row. held_row row qs h k) qs i k h (transferred decls k i node is_ref false) next old new))
@@ -109,7 +109,7 @@ plain_rows r decls ps qs i node is_ref k h next pending old new sites same allow
     (carries allowed (subst (λ (xs : List PointerView). AreInside decls (length old) xs h k) (sym same) inside)) (rows allowed))
 
 -- one that may operate on a map, before which this cell stood for what is pending of it
-pub operated_rows : {A B : Type 0} (r : Result A B) (decls : List MapDecl) (i : Insn) (k after : Kinds) (h next : Held) (pending : List ℕ) (map cell : ℕ) (old new : List CellView) (ps qs : List PointerView) (sites sites2 : List SiteView)
+pub operated_rows : {A B : Type 0} (r : Result A B) (decls : List MapDecl) (i : Insn) (k after : Kinds) (h next : RegisterCells) (pending : List ℕ) (map cell : ℕ) (old new : List CellView) (ps qs : List PointerView) (sites sites2 : List SiteView)
     → OnOk r (OperatesTo decls i cell k h after next old new ps qs sites sites2) → ((q : ℕ) → map_used k i i.op ≡ Some q → map ≡ q) → (map < length pending → cell ≡ slice_index pending map)
     → OnOk r (InstructionRows decls k h i after next pending old new ps qs sites sites2)
 operated_rows (Err b) decls i k after h next pending map cell old new ps qs sites sites2 o is own = tt

@@ -11,31 +11,19 @@ use Rattle.xdp_machine.specs.xdp_maps.declared.decl.MapDecl.{MapDecl}
 use Rattle.kind_core.specs.declared.kind.Kind.{Kind}
 use Rattle.kind_core.specs.declared.kind.Kind.TheVariants.{Packet, Stack, Entry}
 use Rattle.kind_core.specs.declared.kind.Kinds.{Kinds}
-use Rattle.kind_core.specs.declared.why.Why.{Why}
+use Rattle.xdp_state.specs.declared.refusal.Why.{Why}
 use Rattle.kind_core.specs.Kinds.{register}
-use Rattle.kind_core.specs.Tests.{◌>>=◌, Test, passed, within, aligned}
+use Rattle.kind_core.specs.Tests.{◌>>=◌, passed, within, aligned}
 use Rattle.kind_core.specs.Places.{accessed}
 use Rattle.xdp_machine.specs.Memory.{bytes_in}
 use Rattle.kind_core.specs.Access.{changed_at}
 use Rattle.kind_core.specs.Calls.{helper_of, called}
-use Rattle.kind_core.specs.Profile.{profiled}
 use Rattle.kind_core.specs.Effects.{effect_of, effect_as, verdict}
+use Rattle.kind_core.proofs.AllowedLaws.{not_allowed, allowed_as}
 use Rattle.register_cells.specs.Plain.{asks_no_map, is_plain_as}
 use Rattle.register_cells.specs.Plain as plain
 use Rattle.edge_cells.specs.NodeCells.Carrying.{is_entry, is_map_helper, touches_map}
 use Rattle.edge_cells.specs.NodeCells.Ends.{leads_on}
-
-refused : (P : Type 0) (y : Why) → verdict (Err y) ≡ passed → P
-refused P y e = absurd (cc e)
-
-behind_test : (decls : List MapDecl) (k : Kinds) (i : Insn) (t : Test) → verdict (t >>= λ _. effect_as decls k i i.op) ≡ passed → verdict (effect_as decls k i i.op) ≡ passed
-behind_test decls k i (Ok u) e = e
-behind_test decls k i (Err y) e = refused _ y e
-
--- an allowed instruction passes the tests of its operation
-pub allowed_as : (decls : List MapDecl) (k : Kinds) (i : Insn) → verdict (effect_of decls k i) ≡ passed → verdict (effect_as decls k i i.op) ≡ passed
-unfolding effect_of
-allowed_as decls k i e = behind_test decls k i (profiled i k) e
 
 -- ---- instructions that ask no map
 
@@ -76,12 +64,12 @@ deletes decls k i op allowed asks one two =
     by false false true d e p q r f w = (Decides-int_eq i.imm (pos 3)).0 r
     by false false false true e p q r f w = absurd (cc f)
     by false false false false true p q r f w = absurd (cc f)
-    by false false false false false p q r f w = refused (i.imm ≡ pos 3) _ w
+    by false false false false false p q r f w = not_allowed (i.imm ≡ pos 3) _ w
 
 -- what follows two tests is refused, whatever the first finds
 refused_behind : {A B : Type 0} (r : Result A Why) (h : A → Result B Why) (f : B → _) → ((a : A) → verdict (h a >>= f) ≡ passed → ⊥) → verdict ((r >>= h) >>= f) ≡ passed → ⊥
 refused_behind (Ok a) h f bad e = bad a e
-refused_behind (Err y) h f bad e = refused ⊥ y e
+refused_behind (Err y) h f bad e = not_allowed ⊥ y e
 
 refused_either : {B : Type 0} (b : Bool) (x y : Result B Why) (f : B → _) → (verdict (x >>= f) ≡ passed → ⊥) → (verdict (y >>= f) ≡ passed → ⊥) → verdict ((if b then x else y) >>= f) ≡ passed → ⊥
 refused_either true x y f first second e = first e
@@ -93,9 +81,9 @@ entry_changed decls k i size op allowed = by (register k i.dst) (subst (λ (o : 
   where
     by : (x : Kind) → verdict (accessed decls k.checked x i.offset size >>= λ place. changed_at k i place) ≡ passed → (q : ℕ) × (o : ℕ) × (x ≡ Entry q o)
     by (Entry q o) e = (q, o, refl)
-    by (Packet o) e = absurd (refused_behind (within (pos o +ℤ i.offset) (bytes_in size) 256) _ _ (λ a. refused_either (nat_le (a + bytes_in size) k.checked) _ _ _ (refused ⊥ _) (refused ⊥ _)) e)
-    by (Stack o) e = absurd (refused_behind (aligned ((o +ℤ i.offset) +ℤ pos 512) (bytes_in size) 512) _ _ (λ a. refused ⊥ _) e)
-    by x e = absurd (refused ⊥ _ e)
+    by (Packet o) e = absurd (refused_behind (within (pos o +ℤ i.offset) (bytes_in size) 256) _ _ (λ a. refused_either (nat_le (a + bytes_in size) k.checked) _ _ _ (not_allowed ⊥ _) (not_allowed ⊥ _)) e)
+    by (Stack o) e = absurd (refused_behind (aligned ((o +ℤ i.offset) +ℤ pos 512) (bytes_in size) 512) _ _ (λ a. not_allowed ⊥ _) e)
+    by x e = absurd (not_allowed ⊥ _ e)
 
 -- an operation that is none of these
 pub record IsOther (op : Op) : Type 0 where
@@ -125,5 +113,5 @@ none_other decls k i leads other plain allowed = by i.op leads other plain (allo
     by (StoreImm size) l o p e = o.store_imm size refl
     by (Store size) l o p e = o.store size refl
     by (Atomic size) l o p e = o.atomic size refl
-    by (Abs size) l o p e = refused ⊥ _ e
-    by (Ind size) l o p e = refused ⊥ _ e
+    by (Abs size) l o p e = not_allowed ⊥ _ e
+    by (Ind size) l o p e = not_allowed ⊥ _ e

@@ -1,12 +1,12 @@
 -- From what is known of each sort of instruction to the code of a node.
-use Rattle.std.proofs.Common.{◌≡◌, ℕ, ◌<◌, Bool, true, false, Option, Some, None, Result, Ok, Err, IfOk, List, [], ◌∷◌, ◌++◌, length, refl, sym, ◌∙◌, ap, subst}
+use Rattle.std.proofs.Common.{◌≡◌, ℕ, ◌<◌, Bool, true, false, Option, Some, None, Result, Ok, Err, List, [], ◌∷◌, ◌++◌, length, refl, sym, ◌∙◌, ap, subst}
 use Rattle.std.specs.Prelude.{OnOk, map as map_list}
 use Rattle.xdp_machine.specs.bpf_isa.declared.operation.Op.{Op}
 use Rattle.xdp_machine.specs.bpf_isa.declared.operation.Op.TheVariants.{Ja, Jump, Exit}
 use Rattle.xdp_machine.specs.bpf_isa.declared.instruction.Insn.{Insn}
 use Rattle.xdp_machine.specs.xdp_maps.declared.decl.MapDecl.{MapDecl}
 use Rattle.kind_core.specs.declared.kind.Kinds.{Kinds}
-use Rattle.kind_core.specs.declared.why.Why.{Why}
+use Rattle.xdp_state.specs.declared.refusal.Why.{Why}
 use Rattle.kind_core.specs.Kinds.{register}
 use Rattle.kind_core.specs.Tests.{◌>>=◌, passed, number_in}
 use Rattle.kind_core.specs.Profile.{profiled}
@@ -14,10 +14,10 @@ use Rattle.kind_core.specs.Effects.{effect_of, effect_as, verdict, jump}
 use Rattle.kind_core.specs.Edges.{changed_if, transferred}
 use Rattle.cell_core.specs.Cells.{CellView}
 use Rattle.cell_core.specs.Sites.{SiteView}
-use Rattle.operator_cells.specs.declared.held_cells.held.Held.{Held}
+use Rattle.operator_cells.specs.declared.held_cells.machine_cells.RegisterCells.{RegisterCells}
 use Rattle.operator_cells.specs.declared.held_cells.way.Way.{Way}
 use Rattle.operator_cells.specs.declared.held_cells.way.Exit.{Exit as End}
-use Rattle.operator_cells.specs.HeldCells.Held.{PointerView, AreInside}
+use Rattle.operator_cells.specs.HeldCells.RegisterCells.{PointerView, AreInside}
 use Rattle.operator_cells.specs.HeldCells.Carrying.{Carries}
 use Rattle.operator_cells.specs.HeldCells.Operating.{Operates}
 use Rattle.edge_cells.specs.declared.joining.Here.{Here}
@@ -28,16 +28,12 @@ use Rattle.edge_cells.specs.NodeCells.Stepping.{JumpSteps, EdgeSteps, StepsOn}
 use Rattle.predicate_core.specs.StepCells.Stepping.{NodeSteps}
 use Rattle.predicate_core.proofs.StepCells.Chosen.{plain_untouched}
 
-pub if_ok : {A B : Type 0} (r : Result A B) (P Q : A → Type 0) → ((a : A) → P a → Q a) → IfOk r P → IfOk r Q
-if_ok (Ok a) P Q f h = f a h
-if_ok (Err b) P Q f h = tt
-
 pub on_ok : {A B : Type 0} (r : Result A B) (P Q : Type 0) → (P → Q) → OnOk r P → OnOk r Q
 on_ok (Ok a) P Q f h = f h
 on_ok (Err b) P Q f h = tt
 
 -- the cells of an instruction that operates on no map
-pub plain_operates : {A B : Type 0} (r : Result A B) → CarriesOperate → (decls : List MapDecl) (ps qs : List PointerView) (i : Insn) (node guard : ℕ) (is_ref : Bool) (k : Kinds) (h next : Held) (old new : List CellView) (sites : List SiteView)
+pub plain_operates : {A B : Type 0} (r : Result A B) → CarriesOperate → (decls : List MapDecl) (ps qs : List PointerView) (i : Insn) (node guard : ℕ) (is_ref : Bool) (k : Kinds) (h next : RegisterCells) (old new : List CellView) (sites : List SiteView)
     → qs ≡ ps → is_plain k i ≡ true → verdict (effect_of decls k i) ≡ passed → AreInside decls (length old) ps h k
     → (verdict (effect_of decls k i) ≡ passed → AreInside decls (length old) qs h k → OnOk r (Carries decls qs i node is_ref false k h next old new))
     → OnOk r (Operates decls i node guard is_ref false k h next old new ps ps sites sites)
@@ -91,7 +87,7 @@ pub away_node : (decls : List MapDecl) (node : ℕ) (k : Kinds) (here : Here) (i
 away_node decls node k here i is_ref to cells cells2 ps qs sites ways ways2 exits same s g d is ends ref made =
     subst (λ (xs : List PointerView). EdgeSteps decls node k here i true to cells cells2 xs ways ways2) same s g sites exits d is ends.jump_is made
 
-pub along_node : (decls : List MapDecl) (node : ℕ) (k : Kinds) (here : Here) (i : Insn) (is_ref : Bool) (to : ℕ) (next : Held) (cells cells2 : List CellView) (ps qs : List PointerView) (sites sites2 : List SiteView) (ways mid ways2 : List Way) (exits exits2 : List End)
+pub along_node : (decls : List MapDecl) (node : ℕ) (k : Kinds) (here : Here) (i : Insn) (is_ref : Bool) (to : ℕ) (next : RegisterCells) (cells cells2 : List CellView) (ps qs : List PointerView) (sites sites2 : List SiteView) (ways mid ways2 : List Way) (exits exits2 : List End)
     → mid ≡ ways → exits2 ≡ exits → leads_on i.op ≡ true → here.guard < length cells → Operates decls i node here.guard is_ref false k here.held next cells cells2 ps qs sites sites2
     → StepsOn decls node k i is_ref here.guard next to mid ways2
     → NodeSteps decls node k here i is_ref (Some to) None (record { cells = cells; pointers = ps; sites = sites; ways = ways; exits = exits }) (record { cells = cells2; pointers = qs; sites = sites2; ways = ways2; exits = exits2 })

@@ -1,8 +1,7 @@
 -- The rows of nodes, by the sort of the instruction.
-use Rattle.std.proofs.Common.{◌≡◌, ◌∙◌, ℕ, ◌<◌, ◌≤◌, nat_le, ◌&&◌, Bool, true, false, Option, Some, None, Result, Ok, Err, IfOk, List, [], ◌∷◌, ◌++◌, length, get_or, refl, sym, ap, subst, arith}
+use Rattle.std.proofs.Common.{◌≡◌, ◌∙◌, ℕ, ◌<◌, ◌≤◌, Bool, true, false, Option, Some, None, Result, Ok, Err, IfOk, List, [], ◌∷◌, ◌++◌, length, get_or, refl, sym, ap, subst, arith}
 use Rattle.std.specs.Prelude.{All, map as map_list}
 use Rattle.std.specs.List.{list_any}
-use Rattle.std.proofs.lemmas.Bool.{le-ltb}
 use Rattle.std.proofs.lemmas.List.{append-nil, append_cancel_left, map-append}
 use Rattle.std.proofs.lemmas.List.Elements.{All-nil, All-cons, All-head, All-tail, All-append}
 use Rattle.std.proofs.lemmas.List.Folds.{list_any_none}
@@ -23,13 +22,14 @@ use Rattle.operator_cells.proofs.RisingLaws.{stand_none}
 use Rattle.operator_cells.specs.row_rules.declared.place_rows.span.Span.{Span}
 use Rattle.operator_cells.specs.row_rules.PlaceRows.Spans.{no_place, is_in}
 use Rattle.operator_cells.specs.row_rules.PlaceRows.Writing.{writes_as}
-use Rattle.operator_cells.specs.declared.held_cells.held.Held.{Held}
+use Rattle.operator_cells.specs.declared.held_cells.machine_cells.RegisterCells.{RegisterCells}
 use Rattle.operator_cells.specs.declared.held_cells.way.Way.{Way}
 use Rattle.operator_cells.specs.declared.held_cells.way.Exit.{Exit as End}
-use Rattle.operator_cells.specs.HeldCells.Held.{PointerView}
+use Rattle.operator_cells.specs.HeldCells.RegisterCells.{PointerView}
 use Rattle.operator_cells.specs.HeldCells.Rows.{held_row, leaving_row, LeaveTo}
 use Rattle.operator_cells.proofs.HeldCells.RowLaws.{grows_by}
 use Rattle.operator_cells.proofs.HeldCells.MonotoneLaws.{guard_below, leaving_below}
+use Rattle.operator_cells.proofs.row_rules_laws.PlaceRows.SpanLaws.{in_none}
 use Rattle.edge_cells.specs.declared.joining.Here.{Here}
 use Rattle.edge_cells.proofs.EdgeRowLaws.{jump_held_row, single_held_row}
 use Rattle.edge_cells.specs.NodeCells.Ends.{leads_on, brought, brought_along, all_brought}
@@ -61,17 +61,10 @@ all_along P decls node k i is_ref next jump each = All-append (λ (b : ℕ × Ki
 -- ---- jumps and ends
 
 -- they write no place
-none_in : (place : ℕ) → is_in place no_place ≡ false
-none_in place = ap (λ (b : Bool). nat_le 0 place && b) (le-ltb place 0 (omega arith)) ∙ by (nat_le 0 place)
-  where
-    by : (b : Bool) → (b && false) ≡ false
-    by true = refl
-    by false = refl
-
 nowhere : (place : ℕ) → list_any (is_in place) (no_place ∷ no_place ∷ []) ≡ true → ⊥
 nowhere place is =
-    let none = list_any_none (is_in place) (no_place ∷ no_place ∷ []) (All-cons (λ (s : Span). is_in place s ≡ false) no_place (no_place ∷ []) (none_in place)
-    (All-cons (λ (s : Span). is_in place s ≡ false) no_place [] (none_in place) (All-nil (λ (s : Span). is_in place s ≡ false)))) in
+    let none = list_any_none (is_in place) (no_place ∷ no_place ∷ []) (All-cons (λ (s : Span). is_in place s ≡ false) no_place (no_place ∷ []) (in_none place)
+    (All-cons (λ (s : Span). is_in place s ≡ false) no_place [] (in_none place) (All-nil (λ (s : Span). is_in place s ≡ false)))) in
     let bad : true ≡ false = sym is ∙ none in
     absurd (cc bad)
 
@@ -81,7 +74,7 @@ none_written k i (Jump w c s) e place is = nowhere place is
 none_written k i Exit e place is = nowhere place is
 none_written k i op e place is = absurd (cc e)
 
-abbrev StandsAs : List PointerView → Held → Kinds → Kinds → Type 0
+abbrev StandsAs : List PointerView → RegisterCells → Kinds → Kinds → Type 0
 StandsAs ps h k j = (row : ℕ → ℕ) (place : ℕ) → held_row row ps h j place ≤ held_row row ps h k place
 
 ends_stand : (decls : List MapDecl) (node : ℕ) (k : Kinds) (here : Here) (i : Insn) (is_ref : Bool) (pending : List ℕ) (bs : List (ℕ × Kinds)) (cells cells2 : List CellView) (ps : List PointerView) (sites : List SiteView) (ways ways2 : List Way) (exits exits2 : List End)
@@ -99,7 +92,7 @@ ends_stand decls node k here i is_ref pending bs cells cells2 ps sites ways ways
     cells = λ c low high. omega (arith, l.grows.each row rows c low high, leaving_below (held_row row ps here.held k) before under k i (row here.guard));
     bits = λ j d there. omega (arith, l.bits row rows j d there, leaving_below (held_row row ps here.held k) before under k i (row here.guard));
     written = λ place low is. absurd (none_written k i i.op leads place is);
-    kept = λ place low is j d there. subst (λ (x : Held). held_row row ps x (get_or l.more j d).kinds place ≤ before place) (sym (l.held j d there)) (omega (arith, kinds j d there row place, under place));
+    kept = λ place low is j d there. subst (λ (x : RegisterCells). held_row row ps x (get_or l.more j d).kinds place ≤ before place) (sym (l.held j d there)) (omega (arith, kinds j d there row place, under place));
     writes = none_writes _ cells cells2 sites row _ grows;
   };
 }
@@ -107,7 +100,7 @@ ends_stand decls node k here i is_ref pending bs cells cells2 ps sites ways ways
     kinds : All (λ (e : Way). StandsAs ps here.held k e.kinds) l.more
     kinds = kinds_brought (StandsAs ps here.held k) l.more bs (brought_more ways ways2 l.more bs l.ways_are brings) all
 
-leave_by : {old new : List CellView} {ways ways2 : List Way} {h : Held} {f g : (ℕ → ℕ) → ℕ} → LeaveTo old new ways ways2 h f → ((row : ℕ → ℕ) → f row ≤ g row) → LeaveTo old new ways ways2 h g
+leave_by : {old new : List CellView} {ways ways2 : List Way} {h : RegisterCells} {f g : (ℕ → ℕ) → ℕ} → LeaveTo old new ways ways2 h f → ((row : ℕ → ℕ) → f row ≤ g row) → LeaveTo old new ways ways2 h g
 leave_by l below = record {
   grows = grows_by l.grows below;
   more = l.more;
@@ -154,7 +147,7 @@ exit_rows (Ok a) decls node k here i is_ref pending cells ps sites ways exits ex
     (record { grows = stand_none.grows; more = []; ways_are = sym (append-nil ways); held = All-nil _; bits = λ row rows. All-nil _ }) (sym (append-nil (map_list brought ways))) (All-nil _)
 
 -- ---- instructions that lead on
-along_stands : (decls : List MapDecl) (node : ℕ) (k : Kinds) (here : Here) (i : Insn) (is_ref : Bool) (pending : List ℕ) (to : ℕ) (next : Held) (cells cells2 : List CellView) (ps qs : List PointerView) (sites sites2 : List SiteView) (ways mid ways2 : List Way) (exits exits2 : List End)
+along_stands : (decls : List MapDecl) (node : ℕ) (k : Kinds) (here : Here) (i : Insn) (is_ref : Bool) (pending : List ℕ) (to : ℕ) (next : RegisterCells) (cells cells2 : List CellView) (ps qs : List PointerView) (sites sites2 : List SiteView) (ways mid ways2 : List Way) (exits exits2 : List End)
     → mid ≡ ways → InstructionRows decls k here.held i (transferred decls k i node is_ref false) next pending cells cells2 ps qs sites sites2
     → LeaveTo cells2 cells2 mid ways2 next (λ row. row here.guard) → map_list brought ways2 ≡ map_list brought mid ++ brought_along decls node k i is_ref false (Some to)
     → NodeRows decls node k here i is_ref pending (record { cells = cells; pointers = ps; sites = sites; ways = ways; exits = exits }) (record { cells = cells2; pointers = qs; sites = sites2; ways = ways2; exits = exits2 })
@@ -181,10 +174,10 @@ along_stands decls node k here i is_ref pending to next cells cells2 ps qs sites
 
     on : (row : ℕ → ℕ) (place j : ℕ) (d : Way) → j < length l.more → {n : ℕ} → held_row row qs next (transferred decls k i node is_ref false) place ≤ n → held_row row qs (get_or l.more j d).held (get_or l.more j d).kinds place ≤ n
     on row place j d there {n} below =
-        subst (λ (x : Held). held_row row qs x (get_or l.more j d).kinds place ≤ n) (sym (l.held j d there))
+        subst (λ (x : RegisterCells). held_row row qs x (get_or l.more j d).kinds place ≤ n) (sym (l.held j d there))
         (subst (λ (x : Kinds). held_row row qs next x place ≤ n) (sym (kinds j d there)) below)
 
-pub along_rows : {A B : Type 0} (r : Result A B) (decls : List MapDecl) (node : ℕ) (k : Kinds) (here : Here) (i : Insn) (is_ref : Bool) (pending : List ℕ) (to : ℕ) (next : Held) (cells cells2 : List CellView) (ps qs : List PointerView) (sites sites2 : List SiteView)
+pub along_rows : {A B : Type 0} (r : Result A B) (decls : List MapDecl) (node : ℕ) (k : Kinds) (here : Here) (i : Insn) (is_ref : Bool) (pending : List ℕ) (to : ℕ) (next : RegisterCells) (cells cells2 : List CellView) (ps qs : List PointerView) (sites sites2 : List SiteView)
     (ways mid ways2 : List Way) (exits exits2 : List End)
     → mid ≡ ways → InstructionRows decls k here.held i (transferred decls k i node is_ref false) next pending cells cells2 ps qs sites sites2
     → IfOk r (λ done. LeaveTo cells2 cells2 mid ways2 next (λ row. row here.guard)) → IfOk r (λ done. map_list brought ways2 ≡ map_list brought mid ++ brought_along decls node k i is_ref false (Some to))

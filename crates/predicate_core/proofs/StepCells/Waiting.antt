@@ -6,13 +6,13 @@ use Rattle.std.proofs.Math.Seq.{get_or-append_seam}
 use Rattle.std.proofs.Math.ListN.{get_or-eq_default}
 use Rattle.std.proofs.lemmas.Bool.{cases_lt}
 use Rattle.std.proofs.lemmas.Bool.Decides.{nat_tests}
-use Rattle.std.proofs.lemmas.List.{length-map, get_or-map}
+use Rattle.std.proofs.lemmas.List.{get_or-map}
 use Rattle.std.proofs.lemmas.List.Elements.{All-nil, All-cons, All-head, All-tail, All-append, All-push, Contains-append_left, Contains-append_right}
 use Rattle.cell_core.specs.declared.cell.Cell.{Cell}
 use Rattle.cell_core.specs.declared.site.Site.{Site}
 use Rattle.cell_core.specs.Cells.{CellView, no_cell, cell_at, site_in}
 use Rattle.cell_core.specs.Sites.{SiteView, no_site, site_at, records}
-use Rattle.cell_core.specs.View.{cell_of, site_of}
+use Rattle.cell_core.specs.View.{site_of}
 use Rattle.cell_core.specs.Rows.{taken_by, greatest}
 use Rattle.cell_core.specs.Formed.{IsBelow}
 use Rattle.operator_cells.specs.declared.joining.Arm.{Arm}
@@ -21,7 +21,10 @@ use Rattle.operator_cells.specs.Joining.{flat}
 use Rattle.operator_cells.specs.Rising.{Rises}
 use Rattle.operator_cells.proofs.MakingLaws.{grown_none}
 use Rattle.operator_cells.proofs.RisingLaws.{rises_none}
+use Rattle.operator_cells.proofs.SeenLaws.{seen_length, seen_at}
+use Rattle.operator_cells.proofs.ArmLaws.{flat_first}
 use Rattle.site_cells.specs.Sited.{sited}
+use Rattle.site_cells.proofs.SitedLaws.{sited_length}
 use Rattle.predicate_core.specs.StepCells.Waiting.{waiting_for, AreReaders, WaitsBehind, Gathers}
 
 pub flat_there : (n : ℕ) (arms : List Arm) → All (λ a. (a.bit < n) × (a.cell < n)) arms → All (λ i. i < n) (flat arms)
@@ -30,14 +33,6 @@ flat_there n (a ∷ more) there =
     let first = All-head (λ (x : Arm). (x.bit < n) × (x.cell < n)) a more there in
     All-cons (λ i. i < n) a.bit (a.cell ∷ flat more) first.0
     (All-cons (λ i. i < n) a.cell (flat more) first.1 (flat_there n more (All-tail (λ (x : Arm). (x.bit < n) × (x.cell < n)) a more there)))
-
-pub seen_count : (cells : List Cell) → length (seen cells) ≡ length cells
-unfolding seen
-seen_count cells = length-map cells cell_of
-
-seen_at : (cells : List Cell) (i : ℕ) (x : Cell) → i < length cells → cell_at (seen cells) i ≡ cell_of (get_or cells i x)
-unfolding seen
-seen_at cells i x l = get_or-map cell_of cells i x no_cell l
 
 -- ---- the cells that read a site
 
@@ -55,7 +50,7 @@ pub one_more : (cells : List Cell) (number first i c : ℕ) (x : Cell) (all all2
 one_more cells number first i c x all all2 l same reads_it is so =
     subst (AreSoFar (seen cells) number first (i + 1)) (sym is) (
       omega (arith, so.0),
-      All-push (λ k. k < length (seen cells)) all c so.1 (omega (arith, l, same, seen_count cells)),
+      All-push (λ k. k < length (seen cells)) all c so.1 (omega (arith, l, same, seen_length cells)),
       (λ k low high reads. by k low high reads (cases_lt k i)),
       All-push (λ k. (first ≤ k) × (site_in (cell_at (seen cells) k).op ≡ Some number)) all c so.3 (omega (arith, so.0, same), own),
     )
@@ -83,13 +78,9 @@ none_more cells number first i x all all2 l other is so = subst (AreSoFar (seen 
         absurd (cc bad)
 
 pub all_read : (cells : List Cell) (number first i : ℕ) (all : List ℕ) → length cells ≤ i → AreSoFar (seen cells) number first i all → AreReaders (seen cells) number first all
-all_read cells number first i all l so = record { there = so.1; each = λ k low high reads. so.2 k low (omega (arith, high, l, seen_count cells)) reads; only = so.3 }
+all_read cells number first i all l so = record { there = so.1; each = λ k low high reads. so.2 k low (omega (arith, high, l, seen_length cells)) reads; only = so.3 }
 
--- ---- the cell behind a node
-
-pub sited_count : (sites : List Site) → length (sited sites) ≡ length sites
-unfolding sited
-sited_count sites = length-map sites site_of
+-- ---- the cell after a node
 
 pub site_seen : (sites : List Site) (n : ℕ) (x : Site) → n < length sites → x ≡ get_or sites n x → site_at (sited sites) n ≡ site_of x
 unfolding sited
@@ -106,7 +97,7 @@ stays cells sites number first before there none = record {
 -- no site is added
 pub stays_alone : (cells : List CellView) (sites : List Site) (number first before : ℕ) → before < length cells → length sites ≤ number → WaitsBehind cells cells (sited sites) number first before before
 stays_alone cells sites number first before there past =
-    stays cells (sited sites) number first before there (ap (λ (s : SiteView). records s.act) (get_or-eq_default (sited sites) no_site (omega (arith, past, sited_count sites))))
+    stays cells (sited sites) number first before there (ap (λ (s : SiteView). records s.act) (get_or-eq_default (sited sites) no_site (omega (arith, past, sited_length sites))))
 
 -- one that does not write
 pub stays_unwritten : (cells : List CellView) (sites : List Site) (number first before : ℕ) (x : Site) → before < length cells → number < length sites → x ≡ get_or sites number x → records x.act ≡ false
@@ -145,10 +136,6 @@ waits old new sites number first before c s ins readers at writes read is adds g
     same = is ∙ ap (λ (x : SiteView). before ∷ taken_by x ++ readers) (sym at)
 
 -- ---- where edges meet
-first_below : (row : ℕ → ℕ) (arms : List Arm) (d : Arm) → 1 ≤ length arms → row (get_or arms 0 d).cell ≤ greatest row (flat arms)
-first_below row [] d some = absurd (omega (arith, some))
-first_below row (a ∷ arms) d some = omega arith
-
 -- all bring what the first does
 pub gathers_one : (cells : List CellView) (arms : List Arm) (d : Arm) (first : ℕ) → 1 ≤ length arms → first ≡ (get_or arms 0 d).cell → All (λ a. (a.bit < length cells) × (a.cell < length cells)) arms → All (λ a. a.cell ≡ first) arms
     → Gathers cells cells arms first
@@ -156,7 +143,7 @@ gathers_one cells arms d first some is there all = record {
   grows = grown_none;
   there = omega (arith, is, (there 0 d some).1);
   stays = λ c same. (is ∙ same 0 d some, refl);
-  rises = rises_none first (λ row. greatest row (flat arms)) (λ row. omega (arith, ap row is, first_below row arms d some));
+  rises = rises_none first (λ row. greatest row (flat arms)) (λ row. omega (arith, ap row is, flat_first row arms d some));
   is = inl all;
 }
 

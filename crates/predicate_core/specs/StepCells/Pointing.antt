@@ -3,7 +3,7 @@ use Rattle.std.specs.Prelude.{ℕ, ◌≡◌, ◌++◌, ◌⊎◌, List, All}
 use Rattle.xdp_machine.specs.bpf_isa.declared.instruction.Insn.{Insn}
 use Rattle.xdp_machine.specs.xdp_maps.declared.decl.MapDecl.{MapDecl}
 use Rattle.kind_core.specs.declared.kind.Kinds.{Kinds}
-use Rattle.operator_cells.specs.declared.held_cells.held.Held.{Held}
+use Rattle.operator_cells.specs.declared.held_cells.machine_cells.RegisterCells.{RegisterCells}
 use Rattle.operator_cells.specs.declared.held_cells.way.Way.{Way}
 use Rattle.operator_cells.specs.HeldCells.Pointing.{InstructionPoints, LeavePoints}
 use Rattle.edge_cells.specs.declared.joining.Here.{Here}
@@ -13,7 +13,7 @@ use Rattle.predicate_core.specs.StepCells.Stepping.{MadeView}
 -- leaves.
 pub record AlongPoints (decls : List MapDecl) (i : Insn) (pending : List ℕ) (k : Kinds) (here : Here) (old new : MadeView) : Type 0 where
   pub after : Kinds
-  pub next : Held
+  pub next : RegisterCells
   pub points : InstructionPoints decls i pending k here.held after next old.cells new.cells old.pointers new.pointers old.sites new.sites
   pub to : ℕ
   pub more : List Way

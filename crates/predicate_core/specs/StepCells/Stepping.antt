@@ -9,7 +9,7 @@ use Rattle.operator_cells.specs.Making.{seen}
 use Rattle.operator_cells.specs.declared.held_cells.way.Way.{Way}
 use Rattle.operator_cells.specs.declared.held_cells.way.Exit.{Exit}
 use Rattle.operator_cells.specs.HeldCells.Paths.{GraphView}
-use Rattle.operator_cells.specs.HeldCells.Held.{PointerView, pointed}
+use Rattle.operator_cells.specs.HeldCells.RegisterCells.{PointerView, pointed}
 use Rattle.operator_cells.specs.HeldCells.Steps.{AreMade, Steps}
 use Rattle.edge_cells.specs.declared.joining.Here.{Here}
 use Rattle.site_cells.specs.Sited.{sited}

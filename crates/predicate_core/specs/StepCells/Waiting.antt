@@ -26,7 +26,7 @@ pub record WaitsFor (old new : List CellView) (site : SiteView) (number first be
   pub is : cell_at new c ≡ waiting_for (before ∷ taken_by site ++ readers)
   pub rises : Rises old new c (λ row. greatest row (before ∷ taken_by site ++ readers))
 
--- The cell of the writes of a map behind a node: the one before it, unless the site of this number, if there is one, may write.
+-- The cell of the writes of a map after a node: the one before it, unless the site of this number, if there is one, may write.
 pub record WaitsBehind (old new : List CellView) (sites : List SiteView) (number first before c : ℕ) : Type 0 where
   pub grows : Grows old new
   pub there : c < length new

@@ -2,7 +2,7 @@
 
 use cell_core::cell::Cell;
 use cell_core::site::Site;
-use operator_cells::held_cells::held::Pointer;
+use operator_cells::held_cells::machine_cells::Pointer;
 use operator_cells::held_cells::way::{Exit, Way};
 
 /// The cells, pointers and sites of the nodes that are done, and the edges and ends that leave them.

@@ -8,7 +8,7 @@ ghost use Rattle.kind_core.specs.Kinds as kind;
 ghost use Rattle.kind_core.specs.Edges.{transferred};
 ghost use Rattle.cell_core.specs.Formed.{AreFormed};
 ghost use Rattle.operator_cells.specs.Making.{seen};
-ghost use Rattle.operator_cells.specs.HeldCells.Held.{pointed, AreInside};
+ghost use Rattle.operator_cells.specs.HeldCells.RegisterCells.{pointed, AreInside};
 ghost use Rattle.operator_cells.specs.HeldCells.Operating.{Operates};
 ghost use Rattle.operator_cells.specs.HeldCells.Rows.{map_used, OperatesTo};
 ghost use Rattle.operator_cells.specs.HeldCells.Pointing.{OperationPoints, InstructionPoints};
@@ -24,7 +24,7 @@ use cell_core::cell::Cell;
 use cell_core::site::Site;
 use edge_cells::node_cells::laws::carries_operate;
 use kind_core::{Kind, Kinds};
-use operator_cells::held_cells::held::{Held, Pointer};
+use operator_cells::held_cells::machine_cells::{Pointer, RegisterCells};
 use register_cells::plain::{carry_plain, is_plain};
 use site_cells::access::{operate_load, operate_load_signed, operate_store, operate_store_imm};
 use site_cells::atomic::operate_atomic;
@@ -71,7 +71,7 @@ fn pending_of(pending: &[u32], map: u32, guard: u32) -> u32
 // A call of a helper that asks a map.
 fn operate_call(
     made: &mut Made,
-    held: &mut Held,
+    held: &mut RegisterCells,
     decls: &[MapDecl],
     kinds: &Kinds,
     insn: &Insn,
@@ -128,7 +128,7 @@ fn operate_call(
 // An access to an entry of a map.
 fn operate_access(
     made: &mut Made,
-    held: &mut Held,
+    held: &mut RegisterCells,
     decls: &[MapDecl],
     kinds: &Kinds,
     insn: &Insn,
@@ -175,7 +175,7 @@ fn operate_access(
 /// An allowed instruction that leads on: its cells, pointers and sites, and what they hold.
 pub(crate) fn operate_at(
     made: &mut Made,
-    held: &mut Held,
+    held: &mut RegisterCells,
     decls: &[MapDecl],
     node: u32,
     kinds: &Kinds,

@@ -42,7 +42,7 @@ fn taken(alloc: Global, site: &Site, before: u32) -> Result<Vec<u32>, AllocError
     Ok(all)
 }
 
-/// The writes of a map behind a node: where the node has added a site that may write, these and those that came before it, else those alone.
+/// The writes of a map after a node: where the node has added a site that may write, these and those that came before it, else those alone.
 /// Before the node there were so many sites, and its code began at this cell.
 pub fn pending_behind(
     cells: &mut Vec<Cell>,

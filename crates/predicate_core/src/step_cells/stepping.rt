@@ -8,7 +8,7 @@ ghost use Rattle.kind_core.specs.Kinds as kind;
 ghost use Rattle.cell_core.specs.Formed.{AreFormed};
 ghost use Rattle.operator_cells.specs.Making.{seen};
 ghost use Rattle.operator_cells.specs.declared.held_cells.way.Way.{Way};
-ghost use Rattle.operator_cells.specs.HeldCells.Held.{pointed, AreInside};
+ghost use Rattle.operator_cells.specs.HeldCells.RegisterCells.{pointed, AreInside};
 ghost use Rattle.edge_cells.specs.NodeCells.Ends.{AreEnds, brought, all_brought, leads_on};
 ghost use Rattle.predicate_core.specs.StepCells.Stepping.{made_of, NodeSteps};
 ghost use Rattle.predicate_core.specs.StepCells.Rows.{NodeRows};

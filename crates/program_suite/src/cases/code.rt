@@ -46,7 +46,7 @@ impl Code {
         Ok(true)
     }
 
-    // Adds to the program, behind its hole where it has one.
+    // Adds to the program, after its hole where it has one.
     fn add(&mut self, code: &[u8]) -> Result<(), AllocError> {
         match &mut self.behind {
             Some(behind) => behind.extend_from_slice(code),

@@ -7,7 +7,7 @@ pub(crate) fn front(rest: &str) -> (&str, &str) {
     rest.split_once(' ').unwrap_or((rest, ""))
 }
 
-/// A number, decimal or hexadecimal behind `0x`.
+/// A number, decimal or hexadecimal after `0x`.
 pub(crate) fn number(word: &str) -> Result<u64> {
     match word.strip_prefix("0x") {
         Some(digits) => u64::from_str_radix(digits, 16),

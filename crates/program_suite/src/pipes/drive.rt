@@ -107,7 +107,7 @@ pub(crate) fn drive(
     ensure!(plan.rows() <= 256, "too many rows");
     is_usable(cells, plan, maps);
     let mut pipe = Pipe::new(alloc, cells, plan, maps, plan.rows() + 4)?;
-    ensure!(pipe.is_calm(), "a frame in a new pipe");
+    ensure!(pipe.is_idle(), "a frame in a new pipe");
     pipe.load(alloc, maps)?;
     let offers = offers_of(alloc, packets)?;
     let mut given = Given::new(alloc);

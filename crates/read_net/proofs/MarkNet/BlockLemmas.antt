@@ -14,17 +14,17 @@ use Rattle.block_core.specs.Formed.{IsThere}
 use Rattle.overlay_net.specs.xdp_maps.declared.decl.MapDecl.{MapDecl}
 use Rattle.overlay_net.specs.cell_core.Cells.{bit, on, bits_from}
 use Rattle.overlay_net.specs.cell_core.Sites.{ProgramView}
-use Rattle.overlay_net.specs.hazard_core.Held.{Held}
+use Rattle.overlay_net.specs.hazard_core.StageValues.{StageValues}
 use Rattle.overlay_net.specs.hazard_core.declared.change.Change.{Change}
 use Rattle.overlay_net.specs.cell_nets.declared.operand.Operand.{Operand}
 use Rattle.overlay_net.specs.cell_nets.declared.operand.Operand.TheVariants.{Known, Net, Part}
 use Rattle.overlay_net.specs.cell_nets.Operands.{number_in, IsOperand, IsWide, AreFit, IsAvailable, IsNetOf}
 use Rattle.overlay_net.specs.cell_nets.Wires.{own, behind, always, AreWires}
 use Rattle.overlay_net.specs.cell_nets.StepNets.Standing.{Stands}
-use Rattle.overlay_net.proofs.cell_nets_laws.StepNets.StepLaws.{bit_bits}
 use Rattle.overlay_net.specs.cell_nets.declared.operand_blocks.registers.Taken.{Taken}
 use Rattle.overlay_net.specs.cell_nets.OperandBlocks.Registers.{operand_in, width_in, taken_word, zero_word, IsRegistered}
 use Rattle.overlay_net.proofs.cell_nets_laws.OperandBlocks.WiringLaws.{own_all, all_wires, all_there, all_known, wires_flat}
+use Rattle.overlay_net.proofs.cell_core_laws.BitLaws.{bit_bits}
 use Rattle.read_net.specs.declared.mark_net.nets.MarkSite.{MarkSite}
 use Rattle.read_net.specs.MarkNet.Sites.{outside, is_touched, ShowsMarkSite, ShowMarkSites}
 use Rattle.read_net.specs.MarkNet.Marks.{IsBit, TakeMarks, unmarked, mark_before, mark_behind, with_words, IsMarks}
@@ -73,7 +73,7 @@ module _ {N : Type 0} where
         λ i. first i ∷ rest i
 
     behinds :
-        (held : Held) (e : Option Change) → (v.net advance).value ≡ 0 → (ms : List (MarkSite N)) (ts : List (Taken N)) → ShowMarkSites v p decls held e ms → TakeMarks v p decls advance ms ts → All IsBit ts
+        (held : StageValues) (e : Option Change) → (v.net advance).value ≡ 0 → (ms : List (MarkSite N)) (ts : List (Taken N)) → ShowMarkSites v p decls held e ms → TakeMarks v p decls advance ms ts → All IsBit ts
         → map_list (taken_word v) ts ≡ map_list (mark_behind v p decls held e) ms
     behinds held e off [] [] shows k h = refl
     behinds held e off [] (t ∷ ts) shows k h = absurd k
@@ -84,7 +84,7 @@ module _ {N : Type 0} where
         let rest = behinds held e off ms ts (All-tail (ShowsMarkSite v p decls held e) m ms shows) k.1 (All-tail IsBit t ts h) in
         λ i. first i ∷ rest i
 
--- ---- nets behind wires
+-- ---- nets after wires
 abbrev OfNet : {P : Type 0} → (Name P → Type 0) → Operand (Name P) → Type 0
 OfNet q (Known n) = Unit {0}
 OfNet q (Net n w) = q n

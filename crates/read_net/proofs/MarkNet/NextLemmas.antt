@@ -5,21 +5,22 @@ use Rattle.std.proofs.lemmas.Bool.{eqb-true}
 use Rattle.block_core.specs.net_core.Value.{Env}
 use Rattle.block_core.specs.declared.name.Name.{Name}
 use Rattle.block_core.specs.Blocks.{BlockWireTree}
+use Rattle.block_core.proofs.list_laws_laws.AllLaws.{all_one}
 use Rattle.overlay_net.specs.xdp_maps.declared.decl.MapDecl.{MapDecl}
 use Rattle.overlay_net.specs.cell_core.Cells.{bit, on, bits_from}
 use Rattle.overlay_net.specs.cell_core.Sites.{ProgramView, SiteView, site_at}
-use Rattle.overlay_net.specs.hazard_core.Held.{Held, access_pointer}
+use Rattle.overlay_net.specs.hazard_core.StageValues.{StageValues, access_pointer}
 use Rattle.overlay_net.specs.hazard_core.declared.change.Change.{Change}
 use Rattle.overlay_net.specs.hazard_core.Marks.{touches, touched_as}
 use Rattle.overlay_net.specs.cell_nets.declared.operand.Operand.{Operand}
 use Rattle.overlay_net.specs.cell_nets.declared.operand.Operand.TheVariants.{Net}
 use Rattle.overlay_net.specs.cell_nets.Operands.{number_in, IsAvailable}
 use Rattle.overlay_net.specs.cell_nets.Wires.{behind, always, Gives}
-use Rattle.overlay_net.proofs.cell_nets_laws.GiveLemmas.{all_one}
 use Rattle.overlay_net.specs.SiteOperands.Sites.{operands_of, ShowsSite}
 use Rattle.overlay_net.specs.cell_nets.StepNets.Standing.{Stands}
 use Rattle.overlay_net.proofs.cell_nets_laws.StepNets.ChainLaws.{starts, next, last}
-use Rattle.overlay_net.proofs.cell_nets_laws.StepNets.StepLaws.{all_each, on_bit, bit_bits}
+use Rattle.overlay_net.proofs.cell_nets_laws.StepNets.StepLaws.{all_each, on_bit}
+use Rattle.overlay_net.proofs.cell_core_laws.BitLaws.{bit_bits}
 use Rattle.read_net.specs.TouchNet.Touching.{reads_entry, ShowsChange, ShowsOwn, IsMade}
 use Rattle.read_net.specs.declared.mark_net.nets.MarkSite.{MarkSite}
 use Rattle.read_net.specs.MarkNet.Sites.{read_operands, site_operands, is_touched, ShowsMarkSite}
@@ -63,12 +64,12 @@ module _
         chosen_bit (on (v.net advance).value) (on (number_in v m.before)) (on (number_in v m.was) || (on (number_in v m.comes) && on (t v))) (number_in v before) (number_in v stays) k.1
         (k.0.1 ∙ ap (λ b. bit (on (number_in v m.was) || b)) (ap on k.0.0.1 ∙ on_bit (on (number_in v m.comes) && on (number_in v touched)) ∙ ap (λ n. on (number_in v m.comes) && on n) k.0.0.0.1)))
 
-  abbrev Touching : Held → Change → Env (Name P) → Type 0
+  abbrev Touching : StageValues → Change → Env (Name P) → Type 0
   Touching h e v = ShowsSite v p h m.site (operands_of m.nets.now) × ShowsChange v m.decl.now.key e m.change × ShowsOwn v p h m.owns.now × (reads_entry m.act ≡ true → IsMade p decls m.decl.now.key (access_pointer h s) m.owns.now)
 
-  module _ (x : (h : Held) (e : Change) → s.map ≡ e.map → Gives part old w1 (read_operands m) (Touching h e) (λ v. bit (touches p decls h m.site e)) 1 touched) where
+  module _ (x : (h : StageValues) (e : Change) → s.map ≡ e.map → Gives part old w1 (read_operands m) (Touching h e) (λ v. bit (touches p decls h m.site e)) 1 touched) where
     -- any packet, and any change of the map
-    abbrev no_held : Held
+    abbrev no_held : StageValues
     no_held = record { values = []; pointers = [] }
 
     abbrev no_change : Change
@@ -89,7 +90,7 @@ module _
           ∙ ap (λ b. stays_as v (b && on n)) (on_bit c)
           ∙ ap (λ b. stays_as v (c && b)) f
 
-    module _ (v : Env (Name P)) (h : Held) (off : (v.net advance).value ≡ 0) (any : number_in v out ≡ taken v (number_in v touched)) (real : (c : Change) → s.map ≡ c.map → Touching h c v → number_in v out ≡ taken v (bit (touches p decls h m.site c))) where
+    module _ (v : Env (Name P)) (h : StageValues) (off : (v.net advance).value ≡ 0) (any : number_in v out ≡ taken v (number_in v touched)) (real : (c : Change) → s.map ≡ c.map → Touching h c v → number_in v out ≡ taken v (bit (touches p decls h m.site c))) where
       standing : (e : Option Change) → ShowsMarkSite v p decls h e m → number_in v out ≡ stays_as v (is_touched p decls h m.site e)
       standing None shows = any ∙ left v off (number_in v touched) false (on (number_in v touched)) shows.comes refl
       standing (Some c) shows = by (s.map == c.map) refl

@@ -1,4 +1,4 @@
--- Wires that stand one behind another, with what is known of several operands.
+-- Wires that stand one after another, with what is known of several operands.
 use Rattle.std.proofs.Common.{ℕ, zero, suc, ◌+◌, All, List, [], ◌∷◌, ◌++◌, length, length-append, get_or, refl, subst, arith}
 use Rattle.std.proofs.lemmas.List.{get_or_append_left, get_or-append-add}
 use Rattle.std.proofs.lemmas.List.Elements.{All-append}
@@ -8,7 +8,7 @@ use Rattle.block_core.specs.Blocks.{BlockWireTree}
 use Rattle.overlay_net.specs.cell_nets.declared.operand.Operand.{Operand}
 use Rattle.overlay_net.specs.cell_nets.Operands.{number_in, IsAvailable}
 use Rattle.overlay_net.specs.cell_nets.Wires.{behind, always, Gives}
-use Rattle.overlay_net.proofs.cell_nets_laws.ApartLemmas.{stay_none, stay_as, stay_next}
+use Rattle.overlay_net.proofs.cell_nets_laws.ApartLaws.{stay_none, stay_as, stay_next}
 use Rattle.overlay_net.specs.cell_nets.StepNets.Standing.{Stands}
 
 -- ---- of several some
@@ -26,7 +26,7 @@ module _ {X : Type 0} (Q : X → Type 0) where
   put_first x xs h k zero d lt = h
   put_first x xs h k (suc n) d lt = k n d (omega (arith, lt))
 
-  -- the first one of several stands behind some of them
+  -- the first one of several stands after some of them
   pub first_last : (xs ys : List X) (x : X) → All Q (x ∷ xs ++ ys) → All Q ((xs ++ x ∷ []) ++ ys)
   first_last xs ys x h =
       let rest = behind_first x (xs ++ ys) h in
@@ -58,7 +58,7 @@ module _ {P : Type 0} {p : P} where
     apart = stay_next p old new new args outs outs lasts (λ ins h k. k) x.apart (stay_none p new outs lasts sub);
   }
 
-  -- some behind others
+  -- some after others
   module _ {old mid new : List (BlockWireTree (Name P))} {args outs bs lasts : List (Operand (Name P))} {needs knows more shows : Env (Name P) → Type 0} (x : Stands p old mid args needs outs knows) (y : Stands p mid new bs more lasts shows)
       (sub : (ins : List (Operand (Name P))) → All (IsAvailable ins) outs → All (IsAvailable ins) bs) (enough : (v : Env (Name P)) → knows v → more v) where
     pub joined : Stands p old new args needs (lasts ++ outs) (λ v. knows v × shows v)

@@ -13,17 +13,15 @@ use Rattle.block_core.specs.net_core.Value.{Env}
 use Rattle.block_core.specs.Blocks.{BlockWireTree}
 use Rattle.block_core.specs.declared.name.Name.{Name}
 use Rattle.overlay_net.specs.xdp_maps.declared.decl.MapDecl.{MapDecl}
-use Rattle.overlay_net.specs.xdp_maps.Operations.{key_in}
 use Rattle.overlay_net.specs.xdp_machine.Arithmetic.{low}
-use Rattle.overlay_net.specs.cell_core.declared.site.Act.{Act}
 use Rattle.overlay_net.specs.cell_core.declared.site.Act.TheVariants as act
 use Rattle.overlay_net.specs.cell_core.Cells.{bit, on, bits_from}
-use Rattle.overlay_net.specs.cell_core.Sites.{ProgramView, site_at, spelled, bytes_of, operation_with}
+use Rattle.overlay_net.specs.cell_core.Sites.{ProgramView, site_at, spelled, bytes_of}
 use Rattle.pipe_core.proofs.cell_core_laws.SpelledLaws.{spelled_length}
 use Rattle.pipe_core.specs.hazard_core.declared.change.Change.{Change}
 use Rattle.pipe_core.specs.hazard_core.declared.pointer.Pointer.{Pointer}
 use Rattle.pipe_core.specs.hazard_core.declared.pointer.Pointer.TheVariants.{Null, InSlot, Pending}
-use Rattle.pipe_core.specs.hazard_core.Held.{Held, held_value, asked_key}
+use Rattle.pipe_core.specs.hazard_core.StageValues.{StageValues, stage_value, asked_key}
 use Rattle.pipe_core.specs.hazard_core.Marks.{entry_touched}
 use Rattle.pipe_core.specs.hazard_core.Tables.{decl_of}
 use Rattle.overlay_net.specs.cell_nets.declared.operand.Operand.{Operand}
@@ -31,7 +29,9 @@ use Rattle.overlay_net.specs.cell_nets.Operands.{number_in, IsAvailable}
 use Rattle.overlay_net.specs.cell_nets.Wires.{always, Gives}
 use Rattle.overlay_net.specs.SiteOperands.Pointers.{pointer_number}
 use Rattle.overlay_net.proofs.cell_nets_laws.StepNets.ChainLaws.{starts, next, last}
-use Rattle.overlay_net.proofs.cell_nets_laws.StepNets.StepLaws.{small_bits, bit_small}
+use Rattle.overlay_net.proofs.cell_nets_laws.StepNets.StepLaws.{bit_small}
+use Rattle.overlay_net.proofs.cell_core_laws.BitLaws.{small_bits}
+use Rattle.overlay_net.proofs.hazard_core_laws.ActsLaws.{key_is}
 use Rattle.read_net.specs.declared.touch_net.change.ChangeNets.{ChangeNets}
 use Rattle.read_net.specs.declared.touch_net.change.OwnKey.{OwnKey}
 use Rattle.read_net.specs.TouchNet.Touching.{change_operands, own_operands, key_bytes, HaveKeys, ShowsOwn, IsMade}
@@ -46,14 +46,6 @@ index_is n s w h k =
     let quarter : n / 4 ≡ n / 4 / 1 = omega arith in
     ap (λ z. low w z) quarter ∙ small_bits (n / 4) w small
 
-key_is : (d : MapDecl) (a : Act) (ks xs : List ℕ) → key_in (operation_with d a ks xs) ≡ bytes_of d.key ks
-key_is d act.Lookup ks xs = refl
-key_is d (act.Load at size) ks xs = refl
-key_is d act.Update ks xs = refl
-key_is d act.Delete ks xs = refl
-key_is d (act.Store at size) ks xs = refl
-key_is d (act.Atomic at a) ks xs = refl
-
 -- whether it is to a slot
 abbrev pub in_slot : ℕ → ℕ → Bool
 in_slot n slot = on (bits_from n 0 1) && (n / 4 == slot)
@@ -62,7 +54,7 @@ in_slot n slot = on (bits_from n 0 1) && (n / 4 == slot)
 abbrev pub over : {N : Type 0} → Env N → ℕ → List (Operand N) → ℕ → ℕ → OwnKey N → ℕ
 over v bytes key n x o = bits_from (if n == 4 * o.site + 2 then bit (bytes_eq (bytes_of bytes (map_list (number_in v) o.key.now)) (bytes_of bytes (map_list (number_in v) key))) else x) 0 1
 
--- what stands behind the first own updates
+-- what stands after the first own updates
 abbrev pub fold_of : {N : Type 0} → ℕ → Operand N → ChangeNets N → List (OwnKey N) → Env N → ℕ
 fold_of bytes n e owns v = fold (over v bytes e.key.now (number_in v n)) (bit (in_slot (number_in v n) (number_in v e.slot))) owns
 
@@ -117,16 +109,16 @@ other_length a b ne = by (bytes_eq a b) refl
 bytes_long : (n : ℕ) (ws : List ℕ) → n ≤ 8 * length ws → length (bytes_of n ws) ≡ n
 bytes_long n ws h = length-take-le n (spelled ws) (omega (arith, h, spelled_length ws))
 
-module _ {N : Type 0} (v : Env N) (p : ProgramView) (decls : List MapDecl) (h : Held) (e : Change) (bytes : ℕ) (key : List (Operand N)) (owns : List (OwnKey N)) (enough : bytes ≤ 8 * length key) (shown : bytes_of bytes (map_list (number_in v) key) ≡ e.key)
+module _ {N : Type 0} (v : Env N) (p : ProgramView) (decls : List MapDecl) (h : StageValues) (e : Change) (bytes : ℕ) (key : List (Operand N)) (owns : List (OwnKey N)) (enough : bytes ≤ 8 * length key) (shown : bytes_of bytes (map_list (number_in v) key) ≡ e.key)
     (are : HaveKeys p decls bytes owns) (own : ShowsOwn v p h owns) where
-  asked_is : (i : ℕ) → bytes_of (key_bytes p decls i) (map_list (held_value h) (site_at p.sites i).key) ≡ asked_key decls h (site_at p.sites i)
-  asked_is i = sym (key_is (decl_of decls (site_at p.sites i).map) (site_at p.sites i).act (map_list (held_value h) (site_at p.sites i).key) (map_list (held_value h) (site_at p.sites i).operands))
+  asked_is : (i : ℕ) → bytes_of (key_bytes p decls i) (map_list (stage_value h) (site_at p.sites i).key) ≡ asked_key decls h (site_at p.sites i)
+  asked_is i = sym (key_is (decl_of decls (site_at p.sites i).map) (site_at p.sites i).act (map_list (stage_value h) (site_at p.sites i).key) (map_list (stage_value h) (site_at p.sites i).operands))
 
-  asks : (o : OwnKey N) → key_bytes p decls o.site ≡ bytes → map_list (number_in v) o.key.now ≡ map_list (held_value h) (site_at p.sites o.site).key → bytes_of bytes (map_list (number_in v) o.key.now) ≡ asked_key decls h (site_at p.sites o.site)
-  asks o is k = ap (bytes_of bytes) k ∙ ap (λ n. bytes_of n (map_list (held_value h) (site_at p.sites o.site).key)) (sym is) ∙ asked_is o.site
+  asks : (o : OwnKey N) → key_bytes p decls o.site ≡ bytes → map_list (number_in v) o.key.now ≡ map_list (stage_value h) (site_at p.sites o.site).key → bytes_of bytes (map_list (number_in v) o.key.now) ≡ asked_key decls h (site_at p.sites o.site)
+  asks o is k = ap (bytes_of bytes) k ∙ ap (λ n. bytes_of n (map_list (stage_value h) (site_at p.sites o.site).key)) (sym is) ∙ asked_is o.site
 
   -- the key of each update to whose entry a pointer is
-  made_key : (i : ℕ) (o : OwnKey N) → key_bytes p decls o.site ≡ bytes → map_list (number_in v) o.key.now ≡ map_list (held_value h) (site_at p.sites o.site).key → o.site ≡ i
+  made_key : (i : ℕ) (o : OwnKey N) → key_bytes p decls o.site ≡ bytes → map_list (number_in v) o.key.now ≡ map_list (stage_value h) (site_at p.sites o.site).key → o.site ≡ i
       → bit (bytes_eq (bytes_of bytes (map_list (number_in v) o.key.now)) (bytes_of bytes (map_list (number_in v) key))) ≡ bit (bytes_eq (asked_key decls h (site_at p.sites i)) e.key)
   made_key i o is k at =
       ap (λ l. bit (bytes_eq l (bytes_of bytes (map_list (number_in v) key)))) (asks o is k)
@@ -136,9 +128,9 @@ module _ {N : Type 0} (v : Env N) (p : ProgramView) (decls : List MapDecl) (h : 
   -- a key of another length is not that of the change
   apart : (i : ℕ) → key_bytes p decls i ≤ 8 * length (site_at p.sites i).key → key_bytes p decls i ≢ bytes → bytes_eq (asked_key decls h (site_at p.sites i)) e.key ≡ false
   apart i words ne =
-      let ks = map_list (held_value h) (site_at p.sites i).key in
+      let ks = map_list (stage_value h) (site_at p.sites i).key in
       let ws = map_list (number_in v) key in
-      let asked : length (asked_key decls h (site_at p.sites i)) ≡ key_bytes p decls i = ap length (sym (asked_is i)) ∙ bytes_long (key_bytes p decls i) ks (omega (arith, words, length-map (site_at p.sites i).key (held_value h))) in
+      let asked : length (asked_key decls h (site_at p.sites i)) ≡ key_bytes p decls i = ap length (sym (asked_is i)) ∙ bytes_long (key_bytes p decls i) ks (omega (arith, words, length-map (site_at p.sites i).key (stage_value h))) in
       let changed : length e.key ≡ bytes = ap length (sym shown) ∙ bytes_long bytes ws (omega (arith, enough, length-map key (number_in v))) in
       other_length (asked_key decls h (site_at p.sites i)) e.key (λ same. ne (sym asked ∙ same ∙ changed))
 

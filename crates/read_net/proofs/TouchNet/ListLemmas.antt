@@ -2,7 +2,6 @@
 use Rattle.std.proofs.Common.{◌≡◌, ℕ, zero, suc, ◌<◌, All, List, [], ◌∷◌, ◌++◌, length, get_or, sym, subst, arith}
 use Rattle.std.proofs.lemmas.List.Elements.{All-append}
 use Rattle.overlay_net.specs.cell_nets.declared.operand.Operand.{Operand}
-use Rattle.overlay_net.specs.SiteOperands.Sites.{SiteOperands, all_of}
 use Rattle.read_net.specs.declared.touch_net.change.OwnKey.{OwnKey}
 use Rattle.read_net.specs.TouchNet.Touching.{own_operands}
 
@@ -26,12 +25,6 @@ module _ {X : Type 0} (Q : X → Type 0) where
   -- all but the last of three lists
   pub but_last : (xs ys zs : List X) → All Q (xs ++ (ys ++ zs)) → All Q (xs ++ ys)
   but_last xs ys zs h = All-append Q xs ys (left_of xs (ys ++ zs) h) (left_of ys zs (right_of xs (ys ++ zs) h))
-
-pub keys_of : {N : Type 0} (Q : Operand N → Type 0) (s : SiteOperands N) → All Q (all_of s) → All Q s.key
-keys_of Q s h = left_of Q s.key s.operands (λ n d lt. h (suc (suc (suc (suc n)))) d (omega arith))
-
-pub others_of : {N : Type 0} (Q : Operand N → Type 0) (s : SiteOperands N) → All Q (all_of s) → All Q s.operands
-others_of Q s h = right_of Q s.key s.operands (λ n d lt. h (suc (suc (suc (suc n)))) d (omega arith))
 
 pub own_at : {N : Type 0} (Q : Operand N → Type 0) (owns : List (OwnKey N)) (k : ℕ) (o : OwnKey N) → k < length owns → o ≡ get_or owns k o → All Q (own_operands owns) → All Q o.key.now
 own_at Q [] k o lt is h = absurd (omega arith)

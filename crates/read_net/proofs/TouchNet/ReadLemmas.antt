@@ -1,8 +1,8 @@
 -- Which reads a change touches, by what a site does.
 use Rattle.std.specs.Prelude.{not, nat_lt, slice_index}
 use Rattle.std.specs.Str.{bytes_eq}
-use Rattle.std.proofs.Common.{◌≡◌, ◌≢◌, ◌∙◌, ℕ, ◌+◌, ◌*◌, ◌==◌, ◌<◌, Bool, true, false, ◌&&◌, ◌||◌, List, ◌++◌, refl, sym, ap, subst, arith, map as map_list}
-use Rattle.std.proofs.lemmas.Bool.{eqb-true, eq-eqb}
+use Rattle.std.proofs.Common.{◌≡◌, ◌≢◌, ◌∙◌, ℕ, ◌+◌, Bool, true, false, ◌&&◌, ◌||◌, List, ◌++◌, refl, sym, ap, subst, map as map_list}
+use Rattle.std.proofs.lemmas.Bool.{eq-eqb}
 use Rattle.block_core.specs.net_core.Value.{Env}
 use Rattle.block_core.specs.Blocks.{BlockWireTree}
 use Rattle.block_core.specs.declared.name.Name.{Name}
@@ -14,18 +14,16 @@ use Rattle.overlay_net.specs.cell_core.declared.site.Act.TheVariants as act
 use Rattle.overlay_net.specs.cell_core.Cells.{bit, on}
 use Rattle.overlay_net.specs.cell_core.Sites.{ProgramView, site_at, bytes_of, operation_with}
 use Rattle.pipe_core.specs.hazard_core.declared.change.Change.{Change}
-use Rattle.pipe_core.specs.hazard_core.declared.pointer.Pointer.{Pointer}
-use Rattle.pipe_core.specs.hazard_core.declared.pointer.Pointer.TheVariants.{Null, InSlot, Pending}
-use Rattle.pipe_core.specs.hazard_core.Held.{Held, held_value, asked, is_null, pointer_in, found_cell, access_pointer}
+use Rattle.pipe_core.specs.hazard_core.StageValues.{StageValues, stage_value, asked, is_null, pointer_in, found_cell, access_pointer}
 use Rattle.pipe_core.specs.hazard_core.Marks.{key_touched, presence_touched, entry_touched, touched_as, touches}
 use Rattle.pipe_core.specs.hazard_core.Tables.{decl_of}
 use Rattle.overlay_net.specs.cell_nets.declared.operand.Operand.{Operand}
 use Rattle.overlay_net.specs.cell_nets.Operands.{number_in}
 use Rattle.overlay_net.specs.cell_nets.Wires.{always, Gives}
-use Rattle.overlay_net.specs.SiteOperands.Pointers.{pointer_number}
 use Rattle.overlay_net.specs.SiteOperands.Sites.{SiteOperands, ShowsSite}
 use Rattle.overlay_net.specs.Reading.{IsSite}
 use Rattle.overlay_net.proofs.cell_nets_laws.StepNets.StepLaws.{on_bit}
+use Rattle.overlay_net.proofs.PointerLaws.{found_on}
 use Rattle.read_net.specs.declared.touch_net.change.ChangeNets.{ChangeNets}
 use Rattle.read_net.specs.TouchNet.Touching.{ShowsChange, reads_entry}
 
@@ -33,18 +31,6 @@ no_case : false ≡ true → ⊥
 no_case e = cc
 
 -- ---- under a key
-some_on : (n : ℕ) → 0 < n → on n ≡ true
-some_on n h = by (n == 0) refl
-  where
-    by : (b : Bool) → (n == 0) ≡ b → not b ≡ true
-    by true e = absurd (let z : n ≡ 0 = eqb-true n 0 e in omega arith)
-    by false e = refl
-
-found_on : (q : Pointer) → on (pointer_number q) ≡ not (is_null q)
-found_on Null = refl
-found_on (InSlot n) = some_on (4 * n + 1) (omega arith)
-found_on (Pending j) = some_on (4 * j + 2) (omega arith)
-
 pub update_sees : (d : MapDecl) (a : Act) (ks xs key : List ℕ) (found : Bool) → a ≡ act.Update
     → (not (nat_lt 2 (slice_index xs 0)) && (bytes_eq (bytes_of d.key ks) key || (nat_lt (slice_index xs 0) 2 && not found))) ≡ key_touched (operation_with d a ks xs) found key
 update_sees d a ks xs key found is = ap (λ x. key_touched (operation_with d x ks xs) found key) (sym is)
@@ -57,7 +43,7 @@ other_sees d (act.Load at size) ks xs key found f u = absurd (no_case f)
 other_sees d (act.Store at size) ks xs key found f u = absurd (no_case f)
 other_sees d (act.Atomic at a) ks xs key found f u = absurd (no_case f)
 
-module _ (p : ProgramView) (decls : List MapDecl) (h : Held) (j : ℕ) (e : Change) (a : Act) (d : MapDecl) (is : IsSite p decls j a d) where
+module _ (p : ProgramView) (decls : List MapDecl) (h : StageValues) (j : ℕ) (e : Change) (a : Act) (d : MapDecl) (is : IsSite p decls j a d) where
   abbrev not_null : Bool
   not_null = not (is_null (pointer_in h (found_cell p.cells j)))
 
@@ -69,8 +55,8 @@ module _ (p : ProgramView) (decls : List MapDecl) (h : Held) (j : ℕ) (e : Chan
       → seen ≡ bit (key_touched (operation_with d a (map_list (number_in v) s.key) (map_list (number_in v) s.operands)) (on (number_in v s.found)) (bytes_of d.key (map_list (number_in v) c.key.now)))
       → bit (on (number_in v c.presence) && on seen) ≡ bit (presence_touched (decl_of decls (site_at p.sites j).map).kind (asked decls h (site_at p.sites j)) not_null e)
   hash_sees v s c seen k shows change sees =
-      let ks = map_list (held_value h) (site_at p.sites j).key in
-      let xs = map_list (held_value h) (site_at p.sites j).operands in
+      let ks = map_list (stage_value h) (site_at p.sites j).key in
+      let xs = map_list (stage_value h) (site_at p.sites j).operands in
       ap (λ b. bit (b && on seen)) (ap on change.presence ∙ on_bit e.presence)
       ∙ ap (λ b. bit (e.presence && b)) (ap on sees ∙ on_bit _)
       ∙ ap (λ l. bit (e.presence && key_touched (operation_with d a (map_list (number_in v) s.key) (map_list (number_in v) s.operands)) (on (number_in v s.found)) l)) change.key
@@ -82,7 +68,7 @@ module _ (p : ProgramView) (decls : List MapDecl) (h : Held) (j : ℕ) (e : Chan
       ∙ ap (λ x. bit (presence_touched x (asked decls h (site_at p.sites j)) not_null e)) (sym (ap (λ (y : MapDecl). y.kind) is.decl ∙ k))
 
 -- ---- by what it does
-module _ (p : ProgramView) (decls : List MapDecl) (h : Held) (j : ℕ) (e : Change) where
+module _ (p : ProgramView) (decls : List MapDecl) (h : StageValues) (j : ℕ) (e : Change) where
   abbrev through : Bool
   through = entry_touched p decls h e (access_pointer h (site_at p.sites j))
 

@@ -15,7 +15,7 @@ use Rattle.block_core.specs.Formed.{names_scope, block_registers, IsTypedBlock, 
 use Rattle.overlay_net.specs.xdp_maps.declared.decl.MapDecl.{MapDecl}
 use Rattle.overlay_net.specs.cell_core.Cells.{bit, on}
 use Rattle.overlay_net.specs.cell_core.Sites.{ProgramView}
-use Rattle.overlay_net.specs.hazard_core.Held.{Held}
+use Rattle.overlay_net.specs.hazard_core.StageValues.{StageValues}
 use Rattle.overlay_net.specs.hazard_core.declared.change.Change.{Change}
 use Rattle.overlay_net.specs.cell_nets.declared.operand.Operand.{Operand}
 use Rattle.overlay_net.specs.cell_nets.Operands.{number_in, IsOperand, AreFit, AreDeclared, IsNetOf}
@@ -32,7 +32,7 @@ pub record IsBit {N : Type 0} (t : Taken N) : Type 0 where
 -- where packets move on it is the mark of the one that comes; else a mark that stood before, or that a change makes
 pub record TakesMark {N : Type 0} (v : Env N) (p : ProgramView) (decls : List MapDecl) (advance : N) (m : MarkSite N) (o : Operand N) : Type 0 where
   pub moves : (v.net advance).value ≡ 1 → number_in v o ≡ bit (on (number_in v m.before))
-  pub stays : (h : Held) (e : Option Change) → (v.net advance).value ≡ 0 → ShowsMarkSite v p decls h e m → number_in v o ≡ bit (on (number_in v m.was) || is_touched p decls h m.site e)
+  pub stays : (h : StageValues) (e : Option Change) → (v.net advance).value ≡ 0 → ShowsMarkSite v p decls h e m → number_in v o ≡ bit (on (number_in v m.was) || is_touched p decls h m.site e)
 
 abbrev pub TakeMarks : {N : Type 0} → Env N → ProgramView → List MapDecl → N → List (MarkSite N) → List (Taken N) → Type 0
 TakeMarks v p decls advance [] [] = Unit {0}
@@ -47,7 +47,7 @@ unmarked m = word 1 0
 abbrev pub mark_before : {N : Type 0} → Env N → MarkSite N → Word
 mark_before v m = bit_word (on (number_in v m.before))
 
-abbrev pub mark_behind : {N : Type 0} → Env N → ProgramView → List MapDecl → Held → Option Change → MarkSite N → Word
+abbrev pub mark_behind : {N : Type 0} → Env N → ProgramView → List MapDecl → StageValues → Option Change → MarkSite N → Word
 mark_behind v p decls h e m = bit_word (on (number_in v m.was) || is_touched p decls h m.site e)
 
 abbrev pub with_words : List Word → Stored
@@ -71,5 +71,5 @@ pub record IsMarks {P : Type 0} (p : ProgramView) (decls : List MapDecl) (part :
   pub moves :
       (v : Env (Name P)) (s : Stored) → AreFit v (outside advance ms) → Solve v part 0 b.wires → length s.registers ≡ length ms → s.memories ≡ [] → v.net advance ≡ bit_word true → done v b.statement s ≡ with_words (map_list (mark_before v) ms)
   pub stays :
-      (v : Env (Name P)) (s : Stored) (h : Held) (e : Option Change) → AreFit v (outside advance ms) → Solve v part 0 b.wires → length s.registers ≡ length ms → s.memories ≡ [] → v.net advance ≡ bit_word false → ShowMarkSites v p decls h e ms
+      (v : Env (Name P)) (s : Stored) (h : StageValues) (e : Option Change) → AreFit v (outside advance ms) → Solve v part 0 b.wires → length s.registers ≡ length ms → s.memories ≡ [] → v.net advance ≡ bit_word false → ShowMarkSites v p decls h e ms
       → done v b.statement s ≡ with_words (map_list (mark_behind v p decls h e) ms)

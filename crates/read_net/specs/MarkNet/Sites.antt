@@ -4,7 +4,7 @@ use Rattle.block_core.specs.net_core.Value.{Env}
 use Rattle.overlay_net.specs.xdp_maps.declared.decl.MapDecl.{MapDecl}
 use Rattle.overlay_net.specs.cell_core.Cells.{bit}
 use Rattle.overlay_net.specs.cell_core.Sites.{ProgramView, site_at}
-use Rattle.overlay_net.specs.hazard_core.Held.{Held, access_pointer}
+use Rattle.overlay_net.specs.hazard_core.StageValues.{StageValues, access_pointer}
 use Rattle.overlay_net.specs.hazard_core.declared.change.Change.{Change}
 use Rattle.overlay_net.specs.hazard_core.Marks.{touches}
 use Rattle.overlay_net.specs.cell_nets.declared.operand.Operand.{Operand}
@@ -52,18 +52,18 @@ abbrev pub changes_map : ProgramView → ℕ → Option Change → Bool
 changes_map p j None = false
 changes_map p j (Some e) = (site_at p.sites j).map == e.map
 
-abbrev pub is_touched : ProgramView → List MapDecl → Held → ℕ → Option Change → Bool
+abbrev pub is_touched : ProgramView → List MapDecl → StageValues → ℕ → Option Change → Bool
 is_touched p decls h j None = false
 is_touched p decls h j (Some e) = touches p decls h j e
 
 -- ---- The operands stand for the cells that a packet holds, and for a change where it is one of the site's map. A pointer of an access to an entry that an
 -- update is to make is to that of one of the updates whose keys are given, if its key has that length.
-pub record ShowsMarkSite {N : Type 0} (v : Env N) (p : ProgramView) (decls : List MapDecl) (h : Held) (e : Option Change) (m : MarkSite N) : Type 0 where
+pub record ShowsMarkSite {N : Type 0} (v : Env N) (p : ProgramView) (decls : List MapDecl) (h : StageValues) (e : Option Change) (m : MarkSite N) : Type 0 where
   pub cells : ShowsSite v p h m.site (operands_of m.nets.now)
   pub comes : number_in v m.comes ≡ bit (changes_map p m.site e)
   pub change : (x : Change) → e ≡ Some x → (site_at p.sites m.site).map ≡ x.map → ShowsChange v m.decl.now.key x m.change
   pub owns : ShowsOwn v p h m.owns.now
   pub made : reads_entry m.act ≡ true → IsMade p decls m.decl.now.key (access_pointer h (site_at p.sites m.site)) m.owns.now
 
-abbrev pub ShowMarkSites : {N : Type 0} → Env N → ProgramView → List MapDecl → Held → Option Change → List (MarkSite N) → Type 0
+abbrev pub ShowMarkSites : {N : Type 0} → Env N → ProgramView → List MapDecl → StageValues → Option Change → List (MarkSite N) → Type 0
 ShowMarkSites v p decls h e ms = All (ShowsMarkSite v p decls h e) ms

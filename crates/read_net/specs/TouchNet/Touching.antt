@@ -8,7 +8,7 @@ use Rattle.overlay_net.specs.cell_core.Cells.{bit}
 use Rattle.overlay_net.specs.cell_core.Sites.{ProgramView, site_at, bytes_of}
 use Rattle.overlay_net.specs.xdp_maps.declared.decl.MapDecl.{MapDecl}
 use Rattle.pipe_core.specs.hazard_core.Tables.{decl_of}
-use Rattle.pipe_core.specs.hazard_core.Held.{Held, held_value}
+use Rattle.pipe_core.specs.hazard_core.StageValues.{StageValues, stage_value}
 use Rattle.pipe_core.specs.hazard_core.declared.pointer.Pointer.{Pointer}
 use Rattle.pipe_core.specs.hazard_core.declared.pointer.Pointer.TheVariants.{Pending}
 use Rattle.pipe_core.specs.hazard_core.declared.change.Change.{Change}
@@ -56,8 +56,8 @@ abbrev pub HaveKeys : {N : Type 0} → ProgramView → List MapDecl → ℕ → 
 HaveKeys p decls bytes owns = All (λ o. key_bytes p decls o.site ≡ bytes) owns
 
 -- the words stand for those of their keys
-abbrev pub ShowsOwn : {N : Type 0} → Env N → ProgramView → Held → List (OwnKey N) → Type 0
-ShowsOwn v p h owns = All (λ o. map_list (number_in v) o.key.now ≡ map_list (held_value h) (site_at p.sites o.site).key) owns
+abbrev pub ShowsOwn : {N : Type 0} → Env N → ProgramView → StageValues → List (OwnKey N) → Type 0
+ShowsOwn v p h owns = All (λ o. map_list (number_in v) o.key.now ≡ map_list (stage_value h) (site_at p.sites o.site).key) owns
 
 -- an update is among them
 abbrev pub IsAmong : {N : Type 0} → List (OwnKey N) → ℕ → Type 0

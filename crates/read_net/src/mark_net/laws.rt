@@ -1,6 +1,6 @@
 //! What registers may say of marks. Each function's contract is a law; it computes nothing.
 
-ghost use Rattle.read_net.specs.MarkNet.Standing.{EnteringStands, EntersUnmarked, StrikingStands, StrikesReadsAlone, DueOfReads};
+ghost use Rattle.read_net.specs.MarkNet.Standing.{EnteringStands, EntersUnmarked, MarkingStands, MarksReadsAlone, ReloadOfReads};
 
 /// A register that says a mark, but where the guard is known as 0, says it also where the packet moves on to the next place, though the machine drops a
 /// mark there whose guard becomes known as 0. A packet without a mark enters a place without it.
@@ -9,14 +9,14 @@ pub fn entering()
     ensures unmarked { EntersUnmarked }
 {}
 
-/// So it does where a change strikes the packet, if the packet has read at the site and the register takes a touch in. Where it has not read a change
+/// So it does where a change marks the packet, if the packet has read at the site and the register takes a touch in. Where it has not read a change
 /// makes no mark.
-pub fn striking()
-    ensures stands { StrikingStands }
-    ensures reads { StrikesReadsAlone }
+pub fn marking()
+    ensures stands { MarkingStands }
+    ensures reads { MarksReadsAlone }
 {}
 
-/// Where no mark stands but of sites at which the packet has read, these alone say whether the packet is due.
-pub fn due_of_reads()
-    ensures { DueOfReads }
+/// Where no mark stands but of sites at which the packet has read, these alone say whether the packet must reload.
+pub fn reload_of_reads()
+    ensures { ReloadOfReads }
 {}

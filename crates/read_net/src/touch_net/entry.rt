@@ -6,7 +6,7 @@ ghost use Rattle.overlay_net.specs.xdp_maps.declared.decl.MapDecl.{MapDecl};
 ghost use Rattle.overlay_net.specs.cell_core.Cells.{bit, on, bits_from};
 ghost use Rattle.overlay_net.specs.cell_core.Sites.{ProgramView, bytes_of};
 ghost use Rattle.pipe_core.specs.hazard_core.declared.pointer.Pointer.{Pointer};
-ghost use Rattle.pipe_core.specs.hazard_core.Held.{Held};
+ghost use Rattle.pipe_core.specs.hazard_core.StageValues.{StageValues};
 ghost use Rattle.pipe_core.specs.hazard_core.declared.change.Change.{Change};
 ghost use Rattle.pipe_core.specs.hazard_core.Marks.{entry_touched};
 ghost use Rattle.overlay_net.specs.cell_nets.Operands.{IsOperand, number_in};
@@ -85,7 +85,7 @@ pub(crate) fn entry_touched<P: Copy>(
     requires change { IsChangeNets bytes change.now }
     ensures operand { IfOk result IsOperand }
     ensures bits { IfOk result (HasBits 1) }
-    ensures given { (p : ProgramView) (decls : List MapDecl) (h : Held) (e : Change) (q : Pointer) → HaveKeys p decls bytes owns.now → IfOk result (Gives part (wires_of wires.old.items) (wires_of wires.new.items) (pointer ∷ change_operands change.now ++ own_operands owns.now)
+    ensures given { (p : ProgramView) (decls : List MapDecl) (h : StageValues) (e : Change) (q : Pointer) → HaveKeys p decls bytes owns.now → IfOk result (Gives part (wires_of wires.old.items) (wires_of wires.new.items) (pointer ∷ change_operands change.now ++ own_operands owns.now)
         (λ v. (number_in v pointer ≡ pointer_number q) × ShowsChange v bytes e change.now × ShowsOwn v p h owns.now × IsMade p decls bytes q owns.now) (λ v. bit (entry_touched p decls h e q)) 1) }
 {
     let mut touched = in_slot(alloc, wires, part, pointer, change.slot)?;

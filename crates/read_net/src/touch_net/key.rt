@@ -6,7 +6,7 @@ ghost use Rattle.overlay_net.specs.xdp_maps.declared.decl.MapDecl.{MapDecl};
 ghost use Rattle.overlay_net.specs.cell_core.Acts.{finds_key};
 ghost use Rattle.overlay_net.specs.cell_core.Cells.{bit, on};
 ghost use Rattle.overlay_net.specs.cell_core.Sites.{ProgramView, site_at, bytes_of, operation_with};
-ghost use Rattle.pipe_core.specs.hazard_core.Held.{Held, asked, is_null, pointer_in, found_cell};
+ghost use Rattle.pipe_core.specs.hazard_core.StageValues.{StageValues, asked, is_null, pointer_in, found_cell};
 ghost use Rattle.pipe_core.specs.hazard_core.declared.change.Change.{Change};
 ghost use Rattle.pipe_core.specs.hazard_core.Marks.{key_touched, presence_touched};
 ghost use Rattle.pipe_core.specs.hazard_core.Tables.{decl_of};
@@ -111,7 +111,7 @@ pub(crate) fn presence_touched<P: Copy>(
     requires change { IsChangeNets decl.now.key change.now }
     ensures operand { IfOk result IsOperand }
     ensures bits { IfOk result (HasBits 1) }
-    ensures given { (p : ProgramView) (decls : List MapDecl) (h : Held) (j : ℕ) (e : Change) → IsSite p decls j act decl.now → IfOk result (Gives part (wires_of wires.old.items) (wires_of wires.new.items) (all_of (operands_of nets.now) ++ change_operands change.now)
+    ensures given { (p : ProgramView) (decls : List MapDecl) (h : StageValues) (j : ℕ) (e : Change) → IsSite p decls j act decl.now → IfOk result (Gives part (wires_of wires.old.items) (wires_of wires.new.items) (all_of (operands_of nets.now) ++ change_operands change.now)
         (λ v. ShowsSite v p h j (operands_of nets.now) × ShowsChange v decl.now.key e change.now)
         (λ v. bit (presence_touched (decl_of decls (site_at p.sites j).map).kind (asked decls h (site_at p.sites j)) (not (is_null (pointer_in h (found_cell p.cells j)))) e)) 1) }
 {

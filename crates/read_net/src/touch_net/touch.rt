@@ -5,7 +5,7 @@ ghost use Rattle.overlay_net.specs.xdp_maps.declared.decl.MapDecl.{MapDecl};
 ghost use Rattle.overlay_net.specs.cell_core.Acts.{finds_key};
 ghost use Rattle.overlay_net.specs.cell_core.Cells.{bit};
 ghost use Rattle.overlay_net.specs.cell_core.Sites.{ProgramView, site_at};
-ghost use Rattle.pipe_core.specs.hazard_core.Held.{Held, access_pointer};
+ghost use Rattle.pipe_core.specs.hazard_core.StageValues.{StageValues, access_pointer};
 ghost use Rattle.pipe_core.specs.hazard_core.declared.change.Change.{Change};
 ghost use Rattle.pipe_core.specs.hazard_core.Marks.{touches};
 ghost use Rattle.overlay_net.specs.cell_nets.Operands.{IsOperand};
@@ -60,7 +60,7 @@ pub fn touches<P: Copy>(
     requires change { IsChangeNets decl.now.key change.now }
     ensures operand { IfOk result IsOperand }
     ensures bits { IfOk result (HasBits 1) }
-    ensures given { (p : ProgramView) (decls : List MapDecl) (h : Held) (j : ℕ) (e : Change) → IsSite p decls j act decl.now → (site_at p.sites j).map ≡ e.map → HaveKeys p decls decl.now.key owns.now → IfOk result (Gives part (wires_of wires.old.items) (wires_of wires.new.items)
+    ensures given { (p : ProgramView) (decls : List MapDecl) (h : StageValues) (j : ℕ) (e : Change) → IsSite p decls j act decl.now → (site_at p.sites j).map ≡ e.map → HaveKeys p decls decl.now.key owns.now → IfOk result (Gives part (wires_of wires.old.items) (wires_of wires.new.items)
         (all_of (operands_of nets.now) ++ (change_operands change.now ++ own_operands owns.now))
         (λ v. ShowsSite v p h j (operands_of nets.now) × ShowsChange v decl.now.key e change.now × ShowsOwn v p h owns.now × (reads_entry act ≡ true → IsMade p decls decl.now.key (access_pointer h (site_at p.sites j)) owns.now)) (λ v. bit (touches p decls h j e)) 1) }
 {

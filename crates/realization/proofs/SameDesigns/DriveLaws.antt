@@ -1,17 +1,19 @@
 -- A drive that ends with its last answer is the same for two designs that show the same.
 use Rattle.std.specs.Prelude.{◌≡◌, ℕ, zero, suc, Option, Some, None, List, [], ◌∷◌, ◌++◌}
 use Rattle.std.proofs.Common.{refl, sym, ap, ◌∙◌}
-use Rattle.net_core.specs.beat_core.Ports.{Offered}
+use Rattle.beat_core.specs.Ports.{Offered}
 use Rattle.net_core.specs.declared.ports.Inputs.{Inputs}
 use Rattle.net_core.specs.Nets.{Netlist}
 use Rattle.net_core.specs.Clock.{Stored, first_stored, after, stopping}
 use Rattle.net_core.specs.Ports.{words_of}
-use Rattle.net_core.specs.History.{Cycle, cycle_of, drive_inputs, left_after, owed_after, Drive, drive, and_then, Answered, Stopped}
+use Rattle.net_core.specs.Trace.{Cycle, cycle_of}
+use Rattle.realization.specs.History.{drive_inputs, left_after, owed_after, Drive, drive, and_then, Answered, Stopped}
 use Rattle.net_core.specs.SameClocks.Same.{reached, ShowTheSame}
 use Rattle.net_core.proofs.SameClocks.SameLaws.{reached_next}
+use Rattle.realization.proofs.DriveLaws.{stopped_drive}
 use Rattle.realization.proofs.SameDesigns.HistoryLaws.{same_cycle}
 
--- what is left of a drive behind its first clock, which was this one and left this stored
+-- what is left of a drive after its first clock, which was this one and left this stored
 abbrev rest : Netlist → Stored → Cycle → List Offered → ℕ → ℕ → Drive
 rest d t m left owed limit = drive d t (left_after m left) (owed_after m (suc owed)) limit
 
@@ -21,13 +23,8 @@ first_goes : (d : Netlist) (s : Stored) (left : List Offered) (owed limit : ℕ)
 unfolding drive
 first_goes d s left owed limit e = rw (e, drive)
 
-first_stops : (d : Netlist) (s : Stored) (left : List Offered) (owed limit w : ℕ) → stopping d (words_of (drive_inputs left)) s ≡ Some w
-    → drive d s left (suc owed) (suc limit) ≡ record { trace = []; ended = Stopped w }
-unfolding drive
-first_stops d s left owed limit w e = rw (e, drive)
-
 module _ (a b : Netlist) (same : ShowTheSame a b) where
-  -- the same drive, where what is left of it behind the first clock is the same
+  -- the same drive, where what is left of it after the first clock is the same
   same_behind : (before : List Inputs) (left : List Offered) (owed limit : ℕ) (stop : Option ℕ) → stopping a (words_of (drive_inputs left)) (reached a before) ≡ stop →
       (let i : Inputs = drive_inputs left in
       let m : Cycle = cycle_of a (reached a before) i in
@@ -45,7 +42,7 @@ module _ (a b : Netlist) (same : ShowTheSame a b) where
       ∙ ap (λ (r : Drive). and_then m r) (rests (sym (ap (λ (r : Drive). r.ended) goes) ∙ ended))
       ∙ sym goes
   same_behind before left owed limit (Some w) e rests ended =
-      let stops : (drive a (reached a before) left (suc owed) (suc limit)).ended ≡ Stopped w = ap (λ (r : Drive). r.ended) (first_stops a (reached a before) left owed limit w e) in
+      let stops : (drive a (reached a before) left (suc owed) (suc limit)).ended ≡ Stopped w = ap (λ (r : Drive). r.ended) (stopped_drive a (reached a before) left owed limit w e) in
       cc
 
 pub same_drive : (a b : Netlist) → ShowTheSame a b → (before : List Inputs) (left : List Offered) (owed limit : ℕ)

@@ -5,7 +5,7 @@ use Rattle.net_core.specs.declared.ports.Inputs.{Inputs}
 use Rattle.net_core.specs.Nets.{Netlist}
 use Rattle.net_core.specs.Clock.{Stored, first_stored, after}
 use Rattle.net_core.specs.Ports.{words_of, outputs_at}
-use Rattle.net_core.specs.History.{Cycle, cycle_of, trace, stored_after}
+use Rattle.net_core.specs.Trace.{Cycle, cycle_of, trace, stored_after}
 use Rattle.net_core.specs.SameClocks.Same.{reached, ShowTheSame}
 use Rattle.net_core.proofs.SameClocks.SameLaws.{reached_next}
 use Rattle.realization.specs.SameDesigns.Laws.{SameDesignsGoOn}
@@ -21,7 +21,7 @@ same_designs_go_on a b same before (i ∷ is) =
     ∙ same_designs_go_on a b same (before ++ i ∷ []) is
     ∙ ap (λ (s : Stored). trace a s is) (reached_next a (first_stored a) before i))
 
--- what is stored behind more clocks
+-- what is stored after more clocks
 pub behind : (d : Netlist) (before is : List Inputs) → stored_after d (reached d before) is ≡ reached d (before ++ is)
 behind d before is = from (first_stored d) before
   where

@@ -1,14 +1,15 @@
 -- A design that shows the same as another one meets what that one meets.
 use Rattle.std.specs.Prelude.{◌≡◌, ℕ, ◌-◌, List, [], ◌++◌, length}
 use Rattle.std.proofs.Common.{sym, subst}
-use Rattle.net_core.specs.beat_core.declared.answer.Answer.{Answer}
-use Rattle.net_core.specs.beat_core.Clocks.{AreOffers}
-use Rattle.net_core.specs.beat_core.Ports.{Offered}
+use Rattle.beat_core.specs.declared.answer.Answer.{Answer}
+use Rattle.beat_core.specs.Clocks.{AreOffers}
+use Rattle.beat_core.specs.Ports.{Offered}
 use Rattle.xdp_machine.specs.xdp_maps.State.{MapState}
 use Rattle.net_core.specs.declared.ports.Inputs.{Inputs}
 use Rattle.net_core.specs.Nets.{Netlist}
 use Rattle.net_core.specs.Clock.{Stored}
-use Rattle.net_core.specs.History.{Cycle, Arrival, Drive, drive, answers_given, beats_in, stored_after, trace}
+use Rattle.net_core.specs.Trace.{Cycle, stored_after, trace}
+use Rattle.realization.specs.History.{Arrival, Drive, drive, answers_given, beats_in}
 use Rattle.realization.specs.HostHistory.Host.{ShowsMaps, dump}
 use Rattle.net_core.specs.SameClocks.Same.{reached, ShowTheSame}
 use Rattle.net_core.proofs.SameClocks.SameLaws.{never_from}
@@ -30,7 +31,7 @@ module _ (a b : Netlist) (same : ShowTheSame a b) (before : List Inputs) where
   same_pattern : (is : List Inputs) → IsPattern b (reached b before) is → IsPattern a (reached a before) is
   same_pattern is p = record { inputs = p.inputs; silent = p.silent; offers = subst (λ (ms : List Cycle). AreOffers 0 (beats_in ms)) (same_trace is) p.offers }
 
-  -- behind more clocks, and more
+  -- after more clocks, and more
   same_maps : (is js : List Inputs) (maps : MapState) → ShowsMaps a (stored_after a (stored_after a (reached a before) is) js) maps → ShowsMaps b (stored_after b (stored_after b (reached b before) is) js) maps
   same_maps is js maps w =
       rw (behind b before is, behind b (before ++ is) js)
@@ -54,7 +55,7 @@ module _ (a b : Netlist) (same : ShowTheSame a b) (before : List Inputs) where
       shown = same_maps is (inputs_in r.trace) w.maps w.shown;
     }
 
-    -- behind a drive of its own, that begins behind these clocks
+    -- after a drive of its own, that begins after these clocks
     same_driven : (is : List Inputs) (left : List Offered) (owed limit : ℕ) (packets : List Arrival)
         → IsWhole a (reached a before) is (drive a (stored_after a (reached a before) is) left owed limit) packets wanted
         → IsWhole b (reached b before) is (drive b (stored_after b (reached b before) is) left owed limit) packets wanted

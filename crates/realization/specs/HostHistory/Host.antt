@@ -1,4 +1,4 @@
--- What the host writes before the first beat and reads behind the last answer: a word a clock, maps in the order of their
+-- What the host writes before the first beat and reads after the last answer: a word a clock, maps in the order of their
 -- declarations, indexes ascending, words ascending. No beat is offered or taken meanwhile.
 use Rattle.std.specs.Prelude.{◌≡◌, ℕ, zero, suc, ◌+◌, ◌*◌, List, [], ◌∷◌, ◌++◌, map as map_list, take, drop, true}
 use Rattle.std.specs.List.{flat_map, range_with_len}
@@ -9,7 +9,7 @@ use Rattle.net_core.specs.declared.ports.Inputs.{Inputs}
 use Rattle.net_core.specs.declared.ports.TheConstants.{SILENT}
 use Rattle.net_core.specs.Nets.{Netlist}
 use Rattle.net_core.specs.Clock.{Stored}
-use Rattle.net_core.specs.History.{Cycle, trace, NeverStops}
+use Rattle.net_core.specs.Trace.{Cycle, trace, NeverStops}
 use Rattle.realization.specs.HostHistory.Rows.{row_length, rows_of, contents_of}
 
 -- the inputs in a clock in which the host reads a word of an index of a map

@@ -2,8 +2,8 @@
 use Rattle.std.specs.Prelude.{ℕ, ◌+◌, ◌-◌, ◌==◌, if◌then◌else◌, List, [], ◌∷◌, ◌++◌, map as map_list, take, drop, replicate, unwrap_or}
 use Rattle.std.specs.List.{flat_map, range_with_len}
 use Rattle.std.specs.FinMap as map
-use Rattle.net_core.specs.beat_core.Words.{low_bytes}
-use Rattle.net_core.specs.beat_core.Beats.{beats_of, beat_count}
+use Rattle.beat_core.specs.Words.{low_bytes}
+use Rattle.beat_core.specs.Beats.{beats_of, beat_count}
 use Rattle.xdp_machine.specs.xdp_maps.declared.decl.MapKind.{MapKind}
 use Rattle.xdp_machine.specs.xdp_maps.declared.decl.MapKind.TheVariants.{Hash, Array}
 use Rattle.xdp_machine.specs.xdp_maps.declared.decl.MapDecl.{MapDecl}

@@ -1,24 +1,25 @@
 -- What holds of designs that show the same.
 use Rattle.std.specs.Prelude.{◌≡◌, ℕ, List}
-use Rattle.net_core.specs.beat_core.declared.answer.Answer.{Answer}
+use Rattle.beat_core.specs.declared.answer.Answer.{Answer}
 use Rattle.xdp_machine.specs.xdp_maps.State.{MapState}
 use Rattle.xdp_machine.specs.Touched.{Touched}
 use Rattle.net_core.specs.declared.ports.Inputs.{Inputs}
 use Rattle.net_core.specs.Nets.{Netlist}
-use Rattle.net_core.specs.History.{Arrival, trace}
+use Rattle.net_core.specs.Trace.{trace}
+use Rattle.realization.specs.History.{Arrival}
 use Rattle.realization.specs.HostHistory.Host.{ShowsMaps}
 use Rattle.net_core.specs.SameClocks.Same.{reached, ShowTheSame}
 use Rattle.realization.specs.Realizes.{Meets}
 
--- Behind the same clocks both go through the same clocks.
+-- After the same clocks both go through the same clocks.
 abbrev pub SameDesignsGoOn : Type 0
 SameDesignsGoOn = (a b : Netlist) → ShowTheSame a b → (before is : List Inputs) → trace b (reached b before) is ≡ trace a (reached a before) is
 
--- Behind the same clocks both show the host the same maps.
+-- After the same clocks both show the host the same maps.
 abbrev pub SameDesignsShowMaps : Type 0
 SameDesignsShowMaps = (a b : Netlist) → ShowTheSame a b → (before : List Inputs) (maps : MapState) → ShowsMaps a (reached a before) maps → ShowsMaps b (reached b before) maps
 
--- Behind the same clocks the second answers as is wanted, and in the stated clocks, where the first one does.
+-- After the same clocks the second answers as is wanted, and in the stated clocks, where the first one does.
 abbrev pub SameDesignsMeet : Type 1
 SameDesignsMeet =
     (a b : Netlist) → ShowTheSame a b

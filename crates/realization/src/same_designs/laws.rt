@@ -4,12 +4,12 @@
 
 ghost use Rattle.realization.specs.SameDesigns.Laws.{SameDesignsGoOn, SameDesignsShowMaps};
 
-/// Behind the same clocks both go through the same clocks.
+/// After the same clocks both go through the same clocks.
 pub fn same_designs_go_on()
     ensures { SameDesignsGoOn }
 {}
 
-/// Behind the same clocks both show the host the same maps.
+/// After the same clocks both show the host the same maps.
 pub fn same_designs_show_maps()
     ensures { SameDesignsShowMaps }
 {}

@@ -1,5 +1,5 @@
 -- What is declared, one item longer.
-use Rattle.std.specs.Prelude.{◌≡◌, ℕ, ◌+◌, ◌<◌, ◌^◌, replicate, take, List, [], ◌∷◌, ◌++◌, length}
+use Rattle.std.specs.Prelude.{◌≡◌, ℕ, ◌+◌, ◌<◌, take, List, [], ◌∷◌, ◌++◌, length}
 use Rattle.std.proofs.Common.{refl, sym, ap, ◌∙◌, arith, subst, get_or, inl, inr, length-append, append-nil, add-zero}
 use Rattle.std.proofs.lemmas.Bool.{cases_lt}
 use Rattle.std.proofs.lemmas.List.{get_or_append_left, get_or_push, take_more}
@@ -8,21 +8,10 @@ use Rattle.net_core.specs.declared.design.Declared.{Declared}
 use Rattle.net_core.specs.declared.design.Declared.TheVariants as declared
 use Rattle.net_core.specs.Value.{nothing}
 use Rattle.net_core.specs.Clock.{first_words, first_memories}
+use Rattle.net_core.proofs.DeclaredLaws.{words_append, memories_append}
 use Rattle.register_rules.specs.declared.narrow_registers.codes.Code.{Code}
 use Rattle.register_rules.specs.declared.narrow_registers.codes.Code.TheVariants.{Zeros}
 use Rattle.register_rules.specs.NarrowRegisters.Narrow.{decoded, IsNarrowedItem}
-
-words_append : (xs ys : List Declared) → first_words (xs ++ ys) ≡ first_words xs ++ first_words ys
-words_append [] ys = refl
-words_append (declared.Integer ∷ xs) ys = words_append xs ys
-words_append (declared.Register w ∷ xs) ys = ap (λ l. w ∷ l) (words_append xs ys)
-words_append (declared.Memory i w n ∷ xs) ys = words_append xs ys
-
-memories_append : (xs ys : List Declared) → first_memories (xs ++ ys) ≡ first_memories xs ++ first_memories ys
-memories_append [] ys = refl
-memories_append (declared.Integer ∷ xs) ys = memories_append xs ys
-memories_append (declared.Register w ∷ xs) ys = memories_append xs ys
-memories_append (declared.Memory i w n ∷ xs) ys = ap (λ l. replicate (2 ^ i) w ∷ l) (memories_append xs ys)
 
 -- so far, where so many registers stand there
 pub record IsSoFar (codes : List Code) (ds es : List Declared) (n : ℕ) : Type 0 where

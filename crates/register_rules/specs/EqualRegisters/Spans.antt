@@ -7,7 +7,7 @@ use Rattle.net_core.specs.Value.{nothing, Env}
 use Rattle.net_core.specs.Clock.{Stored, done}
 use Rattle.register_rules.specs.declared.equal_registers.spans.Span.{Span}
 
--- a register stands before the lowest or behind the highest one that is set
+-- a register stands before the lowest or after the highest one that is set
 abbrev pub IsOutside : Span → ℕ → Type 0
 IsOutside span k = span.low ≤ k → span.high < k
 

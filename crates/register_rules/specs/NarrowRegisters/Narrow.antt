@@ -13,11 +13,11 @@ use Rattle.register_rules.specs.declared.narrow_registers.codes.Code.{Code}
 use Rattle.register_rules.specs.declared.narrow_registers.codes.Code.TheVariants.{Zeros, Choice}
 use Rattle.register_rules.specs.declared.narrow_registers.codes.Codes.{Codes}
 
--- a word behind so many zeros
+-- a word after so many zeros
 abbrev pub widened : ℕ → Word → Word
 widened z w = word (z + w.width) w.value
 
--- the word that a narrower one stands for: this one behind so many zeros, or the second of two words where this one is not 0, else the first
+-- the word that a narrower one stands for: this one after so many zeros, or the second of two words where this one is not 0, else the first
 abbrev pub decoded : Code → Word → Word
 decoded (Zeros z) w = widened z w
 decoded (Choice a b) w = conditional w b a

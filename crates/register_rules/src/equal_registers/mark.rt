@@ -85,7 +85,7 @@ pub(crate) struct Sets<'a> {
 }
 
 impl Sets<'_> {
-    /// Keeps the statements behind this place apart from those before it: what stands on both sides is not tested together.
+    /// Keeps the statements after this place apart from those before it: what stands on both sides is not tested together.
     pub(crate) fn part(&mut self) {
         self.place = self.place.wrapping_add(1);
     }

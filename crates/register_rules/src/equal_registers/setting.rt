@@ -51,7 +51,7 @@ fn set_alike(firsts: Firsts, j: u32, k: u32, stmts: &Stmts<Net>) -> bool
     matches!(so_far, Open::Neither)
 }
 
-// What is open behind a statement.
+// What is open after a statement.
 #[cycle(setting)]
 fn next_open<'a>(
     firsts: Firsts,

@@ -5,7 +5,7 @@ use net_core::design::{Declared, Design};
 use net_core::tree::{Expr, Net, Parts, Right, Stmt, Stmts};
 use std::alloc::{AllocError, Global};
 
-/// How often a net of fewer bits is read whole at most: each time it is read behind zeros.
+/// How often a net of fewer bits is read whole at most: each time it is read after zeros.
 const MOST_READS: u8 = 8;
 
 /// Of each register and each wire how many low bits have to stay, and how often it is read whole and in part.

@@ -24,7 +24,7 @@ pub(crate) struct Codes {
     pub(crate) wires: Vec<u8>,
 }
 
-/// The code at a place, or that of a register that loses nothing behind all.
+/// The code at a place, or that of a register that loses nothing after all.
 pub(crate) fn code_at(codes: &[Code], k: usize) -> Code
     ensures { result ≡ get_or codes.now k (Code.Zeros 0) }
 {

@@ -4,7 +4,7 @@ ghost use Rattle.std.specs.Prelude.{◌≡◌, [], IfOk, IfSome, IsTrue, map};
 ghost use Rattle.net_core.specs.View.{netlist_of, wire_of, assign_of, statement_of};
 ghost use Rattle.net_core.specs.Clock.{first_words, first_memories};
 ghost use Rattle.design_rules.specs.Formed.{IsWellFormed};
-ghost use Rattle.net_core.specs.ProductRules.Products.{products_apart};
+ghost use Rattle.net_core.specs.ProductRules.Products.{no_product_chains};
 ghost use Rattle.net_core.specs.SameClocks.Same.{ShowTheSame};
 ghost use Rattle.register_rules.specs.NarrowRegisters.Narrow.{AreNarrowedWords, IsNarrowedItem, Each, AreNarrowedWires, IsSameAssign, IsSameStatement, coding_of};
 
@@ -20,7 +20,7 @@ use crate::narrow_registers::widening::wide;
 use crate::narrow_registers::zeros::number_at;
 use design_rules::formed::well_formed;
 use net_core::design::{Assign, Declared, Design, Wire};
-use net_core::product_rules::are_products_apart;
+use net_core::product_rules::has_no_product_chains;
 use net_core::tree::{Net, Stmt};
 use std::alloc::{AllocError, Global};
 
@@ -163,11 +163,11 @@ fn formed(
 ) -> Result<Option<Design>, AllocError>
     ensures same { IfOk result (λ n. IfSome n (λ d. ShowTheSame (netlist_of design.now) (netlist_of d))) }
     ensures formed { IfOk result (λ n. IfSome n (λ d. IsWellFormed (netlist_of d))) }
-    ensures apart { IfOk result (λ n. IfSome n (λ d. IsTrue (products_apart (netlist_of d)))) }
+    ensures apart { IfOk result (λ n. IfSome n (λ d. IsTrue (no_product_chains (netlist_of d)))) }
 {
     match narrower(alloc, design, registers, lost) {
         Ok(next) => {
-            if well_formed(&next).is_ok() && are_products_apart(alloc, &next)? {
+            if well_formed(&next).is_ok() && has_no_product_chains(alloc, &next)? {
                 return Ok(Some(next));
             }
             Ok(None)
@@ -178,15 +178,15 @@ fn formed(
 }
 
 /// A design that shows the same, with narrower registers and wires: one whose high bits are always 0 is declared without them, and read
-/// behind as many zeros. A register that always holds one of two words is declared as one bit, and one that always holds one word is not
+/// after as many zeros. A register that always holds one of two words is declared as one bit, and one that always holds one word is not
 /// read. Registers and wires keep their numbers and names. Where this were to break a rule, registers lose zeros alone; where that, too,
 /// were to break one, the design stays as it is.
 pub fn narrowed(alloc: Global, design: Design) -> Result<Design, AllocError>
     requires formed { IsWellFormed (netlist_of design) }
-    requires apart { IsTrue (products_apart (netlist_of design)) }
+    requires apart { IsTrue (no_product_chains (netlist_of design)) }
     ensures same { IfOk result (λ d. ShowTheSame (netlist_of design) (netlist_of d)) }
     ensures formed { IfOk result (λ d. IsWellFormed (netlist_of d)) }
-    ensures apart { IfOk result (λ d. IsTrue (products_apart (netlist_of d))) }
+    ensures apart { IfOk result (λ d. IsTrue (no_product_chains (netlist_of d))) }
 {
     let needs = bounds(alloc, &design)?;
     let zeros = high_zeros(alloc, &design, &needs)?;

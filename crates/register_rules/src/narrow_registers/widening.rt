@@ -13,7 +13,7 @@ use net_core::build::{self, binary, conditional, memory_word, unary};
 use net_core::tree::{Expr, Net, Parts, Word};
 use std::alloc::{AllocError, Global};
 
-/// A net behind so many zeros.
+/// A net after so many zeros.
 pub(crate) fn behind_zeros(alloc: Global, width: u8, n: Net) -> Result<Expr<Net>, AllocError>
     ensures { IfOk result (λ r. (t : Env Net) → value t (tree_of r) ≡ widened width (t.net n)) }
 {

@@ -12,7 +12,7 @@ pub(crate) struct Zeros {
     pub(crate) wires: Vec<u8>,
 }
 
-/// The number at a place, or 0 behind all.
+/// The number at a place, or 0 after all.
 pub(crate) fn number_at(numbers: &[u8], k: usize) -> u8
     ensures { result ≡ get_or numbers.now k 0 }
 {

@@ -5,7 +5,7 @@ use Rattle.std.proofs.Common.{get_or, refl, sym, ap, ◌∙◌, subst, arith, in
 use Rattle.std.proofs.lemmas.Bool.{le-leb}
 use Rattle.std.proofs.lemmas.List.{length-replicate, length-map, get_or-map, get_or_default, get_or-replicate, get_or-set_same, get_or-set_other, map_more, map-append}
 use Rattle.std.proofs.lemmas.List.Elements.{Contains-get_or}
-use Rattle.net_core.specs.beat_core.declared.answer.Answer.{Answer}
+use Rattle.beat_core.specs.declared.answer.Answer.{Answer}
 use Rattle.net_core.specs.declared.tree.Word.{Word}
 use Rattle.net_core.specs.declared.tree.Expr.{Expr}
 use Rattle.net_core.specs.View.{tree_of}
@@ -24,17 +24,19 @@ use Rattle.block_core.specs.Blocks.{BlockTree, Whole, first_memory}
 use Rattle.block_core.specs.Parts.{Within}
 use Rattle.block_core.specs.Order.{Reads}
 use Rattle.block_core.specs.Formed.{names_scope, name_width, memories_fit, IsTypedBlock, IsThere}
+use Rattle.block_core.proofs.list_laws_laws.BoolLaws.{and_is}
 use Rattle.overlay_net.specs.cell_core.Cells.{bits_from}
 use Rattle.cell_nets.specs.declared.operand.Operand.{Operand}
-use Rattle.cell_nets.specs.declared.operand.Operand.TheVariants.{Known, Net, Part}
+use Rattle.cell_nets.specs.declared.operand.Operand.TheVariants.{Known}
 use Rattle.cell_nets.specs.Operands.{number_in, AreDeclared, IsAvailable, IsNetOf}
 use Rattle.cell_nets.specs.Parts.{IsPart}
 use Rattle.frame_net.specs.Frames.{word_at}
 use Rattle.frame_net.specs.Answers.{byte_of, word_widths, answer_widths, HoldsAnswer}
 use Rattle.frame_net.specs.Stores.{Store, widths_memory, store_statements}
-use Rattle.frame_net.proofs.FormLaws.{and_is}
 use Rattle.frame_net.proofs.FreeLaws.{store_flat, stores_flat}
 use Rattle.frame_net.proofs.StoreLaws.{in_turn, put, taken, taken_is, store_at, registers_stay, lengths_stay, none_stored, IsOff, widths_are, AreStoresTyped, stores_typed, AllReads, stores_read, stores_within, AllSpelled, stores_deep, stores_placed, stores_pass}
+use Rattle.frame_net.proofs.AnswerLaws.{count_answers}
+use Rattle.cell_nets.proofs.AvailableLaws.{available}
 use Rattle.row_net.specs.declared.place_net.outputs.AnswerByte.{AnswerByte}
 use Rattle.row_net.specs.declared.place_net.outputs.Outputs.{Outputs}
 use Rattle.row_net.specs.PlaceNet.Exit.{byte_number, byte_operand, output_operands, byte_numbers, IsAnswer, KeepsAnswers, SeesExit, HasLeft, IsExit}
@@ -155,9 +157,6 @@ all_same_index bits words zero e l = refl
 all_same_index bits words (suc zero) e l = refl
 all_same_index bits words (suc (suc k)) e l = same_index bits words k e (omega arith)
 
-pub count_widths : (bits : ℕ) (words : List ℕ) → length (answer_widths bits words) ≡ 2 + length words
-count_widths bits words = ap (λ n. suc (suc n)) (length-map words (word_widths bits)) ∙ two (length words)
-
 -- ---- single values
 pub verdict_value : {N : Type 0} (o : Outputs N) (words : List ℕ) (values : List (Tree N)) → AreValues o words values → IsPart (output_operands o) 2 32 (λ v. bits_from (number_in v o.verdict) 0 32) (get_or values 0 (TConst nothing))
 verdict_value o words [] h = absurd h
@@ -197,7 +196,7 @@ module _ {P : Type 0} (bits : ℕ) (words : List ℕ) (exits slot : Name P) (o :
   count = sym (length-map s.memories length) ∙ ap length keeps.memories ∙ length-replicate (2 + length words) (2 ^ bits)
 
   count_stores : length stores ≡ 2 + length words
-  count_stores = length-map values (exit_store exits slot) ∙ count_values (output_operands o) (answer_widths bits words) values (values_are o bits words values some h) ∙ count_widths bits words
+  count_stores = length-map values (exit_store exits slot) ∙ count_values (output_operands o) (answer_widths bits words) values (values_are o bits words values some h) ∙ count_answers bits words
 
   size : (k : ℕ) → k < 2 + length words → length (old k) ≡ 2 ^ bits
   size k l = sym (get_or-map length s.memories k [] 0 (omega (arith, count))) ∙ ap (λ m. get_or m k 0) keeps.memories ∙ get_or-replicate (2 + length words) k (2 ^ bits) 0 l
@@ -273,13 +272,8 @@ pub bytes_all : {N : Type 0} (Q : Operand N → Type 0) (o : Outputs N) → All 
 bytes_all Q o h k d l =
     subst Q (get_or-map byte_operand o.bytes.items k d (byte_operand d) l) (h (suc (suc k)) (byte_operand d) (omega (arith, length-map o.bytes.items byte_operand)))
 
-listed_available : {N : Type 0} (ins : List (Operand N)) (a : Operand N) → Contains ins a → IsAvailable ins a
-listed_available ins (Known n) c = tt
-listed_available ins (Net n w) c = c
-listed_available ins (Part n of from w) c = inr (from, w, c)
-
 pub all_available : {N : Type 0} (ins : List (Operand N)) → All (IsAvailable ins) ins
-all_available ins k d l = listed_available ins (get_or ins k d) (Contains-get_or ins k d l)
+all_available ins k d l = available ins (get_or ins k d) (Contains-get_or ins k d l)
 
 pub values_made :
     {N : Type 0} (o : Outputs N) (words : List ℕ) (verdict target : Expr N) (more all : List (Expr N)) → all ≡ verdict ∷ target ∷ more → IsPart (output_operands o) 2 32 (λ v. bits_from (number_in v o.verdict) 0 32) (tree_of verdict)
@@ -287,7 +281,7 @@ pub values_made :
 values_made o words verdict target more all e v t m = subst (λ l. AreValues o words (map_list tree_of l)) (sym e) (v, t, m)
 
 pub values_count : {N : Type 0} (o : Outputs N) (words : List ℕ) (values : List (Tree N)) → AreValues o words values → length values ≡ 2 + length words
-values_count o words values h = count_values (output_operands o) (answer_widths 1 words) values (values_are o 1 words values (omega arith) h) ∙ count_widths 1 words
+values_count o words values h = count_values (output_operands o) (answer_widths 1 words) values (values_are o 1 words values (omega arith) h) ∙ count_answers 1 words
 
 pub memories_more :
     (bits : ℕ) (words : List ℕ) (i : ℕ) (all new : List BlockMemory) (y : BlockMemory) → new ≡ all ++ y ∷ [] → i < length words → y ≡ widths_memory (bits, 64) → all ≡ map_list widths_memory (answer_widths bits (take i words))

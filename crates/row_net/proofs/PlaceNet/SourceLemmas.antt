@@ -1,24 +1,25 @@
 -- Cells that come with a packet, one after another, in wires and in a table.
 use Rattle.std.specs.Prelude.{◌≡◌, ◌≢◌, ℕ, zero, suc, ◌+◌, ◌*◌, ◌/◌, ◌%◌, ◌^◌, ◌<◌, ◌≤◌, ◌==◌, ◌&&◌, Bool, true, false, Option, Some, None, All, Contains, List, [], ◌∷◌, ◌++◌, length, take, drop, slice_set, map as map_list}
-use Rattle.std.proofs.Common.{get_or, refl, sym, ap, ◌∙◌, subst, arith, inl, inr, ◌⊎◌, length-append}
+use Rattle.std.proofs.Common.{get_or, refl, sym, ap, ◌∙◌, subst, arith, inl, inr, ◌⊎◌}
 use Rattle.std.specs.List.{list_all}
 use Rattle.std.proofs.lemmas.Bool.{and_from, cases_eq, cases_lt, eqb-true}
 use Rattle.std.proofs.lemmas.Nat.{pow-add}
-use Rattle.std.proofs.lemmas.List.{length-set, get_or-set_same, get_or-set_other, get_or_default, get_or_past, get_or-take, get_or-drop, get_or_append_left, get_or-append-add, take_more, get_or-map}
+use Rattle.std.proofs.lemmas.List.{length-set, get_or-set_same, get_or-set_other, get_or_default, get_or_past, get_or-take, get_or-drop, take_more, get_or-map}
 use Rattle.std.proofs.lemmas.List.Elements.{All-nil, All-cons, All-head, All-append, All-weaker, All-contains, Contains-append_left, Contains-append_right}
 use Rattle.std.proofs.lemmas.List.Folds.{list_all-append}
 use Rattle.std.proofs.Math.Pow.{pow_mono}
 use Rattle.std.proofs.Math.Nat.{pow-suc, div-one, mod-eq_of_lt, div-eq_of_lt}
-use Rattle.net_core.specs.list_laws.Bytes.{IsBytes}
-use Rattle.net_core.proofs.list_laws_laws.ByteLaws.{IsBytes-take, IsBytes-drop}
-use Rattle.net_core.specs.beat_core.Words.{word_of}
-use Rattle.net_core.specs.beat_core.Ports.{Arrival}
-use Rattle.net_core.proofs.beat_core_laws.WordLaws.{get_or-low_bytes, low_bytes-word_of, word_of-lt}
+use Rattle.beat_core.specs.list_laws.Bytes.{IsBytes}
+use Rattle.beat_core.proofs.list_laws_laws.ByteLaws.{IsBytes-take, IsBytes-drop}
+use Rattle.beat_core.specs.Words.{word_of}
+use Rattle.beat_core.specs.Ports.{Arrival}
+use Rattle.beat_core.proofs.WordLaws.{get_or-low_bytes, low_bytes-word_of, word_of-lt}
 use Rattle.net_core.specs.declared.tree.Word.{Word}
 use Rattle.net_core.specs.Value.{Env}
 use Rattle.block_core.specs.ProductBlocks.Alone.{wire_flat}
 use Rattle.block_core.specs.declared.name.Name.{Name}
 use Rattle.block_core.specs.Blocks.{BlockWireTree}
+use Rattle.block_core.proofs.list_laws_laws.AllLaws.{all_one, all_left, all_right}
 use Rattle.overlay_net.specs.cell_core.declared.operator.Operator.{Operator}
 use Rattle.overlay_net.specs.cell_core.declared.operator.Operator.TheVariants.{Byte, Length, Ifindex, Time}
 use Rattle.overlay_net.specs.cell_core.declared.cell.Cell.{Cell}
@@ -28,8 +29,7 @@ use Rattle.cell_nets.specs.declared.operand.Operand.{Operand}
 use Rattle.cell_nets.specs.declared.operand.Operand.TheVariants.{Known, Net}
 use Rattle.cell_nets.specs.Operands.{number_in, IsWide, IsOperand, HasWidth, IsAvailable}
 use Rattle.cell_nets.specs.Wires.{behind, HasBits, Gives, always}
-use Rattle.cell_nets.proofs.ApartLemmas.{stay_none, stay_next}
-use Rattle.cell_nets.proofs.GiveLemmas.{all_one}
+use Rattle.cell_nets.proofs.ApartLaws.{stay_none, stay_next}
 use Rattle.frame_net.specs.declared.held.Kept.{Kept}
 use Rattle.frame_net.specs.declared.held.Kept.TheVariants as kept
 use Rattle.frame_net.specs.Gather.{kept_width}
@@ -199,25 +199,6 @@ sourced_at p sources list cells k c old new before out table source l e gives =
     (subst (λ (x : CellView). (a : Arrival) → Gives p old new (source_operands sources list) (λ v. IsShownIn sources list v a) (λ v. bits_from (number (packet_in a) x.op []) x.from x.width) x.width out) (sym (get_or-map cell_of cells k c no_cell l ∙ ap cell_of (sym e))) gives)
 
 -- ---- one after another
-pub none_sourced : {P : Type 0} (p sources : P) (list : List Kept) (cells : List CellView) (ws : List (BlockWireTree (Name P))) (before : List (Option (Operand (Name P)))) → IsTable cells before → IsSourced p sources list cells [] ws ws before before
-none_sourced p sources list cells ws before table = record {
-  table = table;
-  given = All-nil (IsIn before);
-  grows = λ k h. h;
-  kept = λ k n. refl;
-  earlier = λ v s. s;
-  stays = λ outside a t. t;
-  wires = λ outside w src. w;
-  there = λ outside w src b. b;
-  value = λ outside v a val w src fit solved shown made b. b;
-  free = λ flat. flat;
-}
-
-all_left : {X : Type 0} (Q : X → Type 0) (xs ys : List X) → All Q (xs ++ ys) → All Q xs
-all_left Q xs ys h k d l = subst Q (get_or_append_left xs ys d k l) (h k d (omega (arith, length-append xs ys)))
-
-all_right : {X : Type 0} (Q : X → Type 0) (xs ys : List X) → All Q (xs ++ ys) → All Q ys
-all_right Q xs ys h k d l = subst Q (get_or-append-add xs ys k d) (h (length xs + k) d (omega (arith, length-append xs ys)))
 
 module _ {P : Type 0} (p sources : P) (list : List Kept) (cells : List CellView) (ks : List ℕ) (k : ℕ) (old mid new : List (BlockWireTree (Name P))) (before now after : List (Option (Operand (Name P)))) (x : IsSourced p sources list cells ks old mid before now)
     (y : IsSourced p sources list cells (k ∷ []) mid new now after) where

@@ -30,9 +30,6 @@ pub record HasTaken {P : Type 0} (p : P) (cells : List CellView) (carried : List
   pub others : (k : ℕ) → ((i : ℕ) → i < upto → ¬ (get_or carried i 0 ≡ k)) → get_or now k None ≡ get_or before k None
   pub each : (k : ℕ) (a : Operand (Name P)) → Stands now k a → Stands before k a ⊎ IsRegister p cells carried upto k a
 
-pub none_taken : {P : Type 0} (p : P) (cells : List CellView) (carried : List ℕ) (before : List (Option (Operand (Name P)))) → HasTaken p cells carried 0 before before
-none_taken p cells carried before = record { count = refl; taken = λ i l. absurd (omega arith); grows = λ k h. h; others = λ k h. refl; each = λ k a h. inl h }
-
 -- one more
 module _ {P : Type 0} (p : P) (cells : List CellView) (carried : List ℕ) (upto k : ℕ) (before now : List (Option (Operand (Name P)))) (h : HasTaken p cells carried upto before now) (here : get_or carried upto 0 ≡ k) (within : k < length now) where
   abbrev net : Operand (Name P)

@@ -5,6 +5,7 @@ use Rattle.std.proofs.lemmas.Bool.{cases_lt}
 use Rattle.std.proofs.lemmas.Nat.{mod_below, pow_pos, pow-add, div-mul-add}
 use Rattle.std.proofs.lemmas.List.Elements.{All-contains}
 use Rattle.std.proofs.Math.Nat.{mul_assoc, div-one, mod-eq_of_lt, mul-add-div_right, mul-add-mod_self_right}
+use Rattle.block_core.proofs.list_laws_laws.BoolLaws.{and_is}
 use Rattle.net_core.specs.declared.tree.Word.{Word}
 use Rattle.net_core.specs.Nets.{Tree, Trees, TLast, TMore}
 use Rattle.net_core.specs.Value.{Env, value, concatenated_parts}
@@ -12,7 +13,6 @@ use Rattle.net_core.specs.Width.{parts_width, concatenation_width}
 use Rattle.net_core.proofs.LowBitsLaws.{concatenated_small}
 use Rattle.net_core.proofs.WidthLaws.{concatenation_is}
 use Rattle.frame_net.specs.Answers.{byte_of}
-use Rattle.frame_net.proofs.FormLaws.{and_is}
 use Rattle.overlay_net.specs.cell_core.Cells.{bits_from}
 use Rattle.cell_nets.specs.declared.operand.Operand.{Operand}
 use Rattle.cell_nets.specs.declared.operand.Operand.TheVariants.{Known}

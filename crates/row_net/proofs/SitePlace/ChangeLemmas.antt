@@ -1,9 +1,8 @@
 -- A table with one entry changed, and lists that grow by one.
-use Rattle.std.specs.Prelude.{◌≡◌, ◌≢◌, ℕ, ◌+◌, ◌<◌, ◌==◌, Bool, true, false, Option, Some, None, All, List, [], ◌∷◌, ◌++◌, length, slice_set}
+use Rattle.std.specs.Prelude.{◌≡◌, ◌≢◌, ℕ, ◌+◌, ◌<◌, ◌==◌, Bool, true, false, Option, Some, None, List, [], ◌∷◌, ◌++◌, length, slice_set}
 use Rattle.std.proofs.Common.{get_or, refl, sym, ap, ◌∙◌, subst, arith, inl, inr, ◌⊎◌}
 use Rattle.std.proofs.lemmas.Bool.{cases_eq, eqb-true, eqb-false}
 use Rattle.std.proofs.lemmas.List.{get_or-set_same, get_or-set_other, get_or_push, get_or_append_left}
-use Rattle.std.proofs.lemmas.List.Elements.{All-nil, All-cons, All-head, All-tail}
 use Rattle.cell_nets.specs.declared.operand.Operand.{Operand}
 use Rattle.row_net.specs.Table.{Stands, IsIn}
 
@@ -44,7 +43,3 @@ entries_more R xs ys i x count each here e n d l = subst (λ zs. R n (get_or zs 
     by_test false f =
         let less : n < i = omega (arith, l, eqb-false n i f) in
         subst (R n) (sym (get_or_append_left xs (x ∷ []) d n (omega (arith, count)))) (each n d less)
-
-pub both_all : {X : Type 0} (Q : X → Type 0) (xs ys : List X) → All Q (xs ++ ys) → All Q xs × All Q ys
-both_all Q [] ys h = (All-nil Q, h)
-both_all Q (x ∷ xs) ys h = let r = both_all Q xs ys (All-tail Q x (xs ++ ys) h) in (All-cons Q x xs (All-head Q x (xs ++ ys) h) r.0, r.1)

@@ -1,7 +1,7 @@
 -- A block whose registers take operands where a net is 1.
 use Rattle.std.specs.Prelude.{◌≡◌, ℕ, zero, suc, ◌+◌, ◌-◌, ◌^◌, ◌<◌, ◌≤◌, ◌==◌, Bool, true, false, if◌then◌else◌, Option, Some, None, All, Contains, List, [], ◌∷◌, length, map as map_list, nat_le}
 use Rattle.std.specs.List.{AllByRecursion, AllZip, list_all}
-use Rattle.std.proofs.Common.{get_or, refl, sym, ap, ◌∙◌, subst, arith, inl, inr, ◌⊎◌}
+use Rattle.std.proofs.Common.{get_or, refl, sym, ap, ◌∙◌, subst, arith, inl, inr}
 use Rattle.std.proofs.lemmas.Bool.{le-leb, lt-ltb}
 use Rattle.std.proofs.lemmas.Nat.{pow_pos}
 use Rattle.std.proofs.lemmas.List.{length-map}
@@ -19,37 +19,23 @@ use Rattle.block_core.specs.declared.name.Name.TheVariants as name
 use Rattle.block_core.specs.Blocks.{BlockTree, BlockWireTree, Whole, Among}
 use Rattle.block_core.specs.Parts.{Solve, Within}
 use Rattle.block_core.specs.Order.{Reads}
-use Rattle.block_core.specs.Formed.{names_scope, block_wire_width, block_wires, word_width, words_fit, IsTypedBlock, StatementReads, IsThere}
+use Rattle.block_core.specs.Formed.{names_scope, word_width, words_fit, IsTypedBlock, StatementReads, IsThere}
+use Rattle.block_core.proofs.list_laws_laws.BoolLaws.{and_is}
 use Rattle.overlay_net.specs.cell_core.Cells.{bits_from}
 use Rattle.cell_nets.specs.declared.operand.Operand.{Operand}
 use Rattle.cell_nets.specs.declared.operand.Operand.TheVariants.{Known, Net, Part}
-use Rattle.cell_nets.specs.Operands.{IsOperand, HasWidth, AreFit, IsDeclared, AreDeclared, HasNet, IsAvailable, IsNetOf}
+use Rattle.cell_nets.specs.Operands.{IsOperand, HasWidth, AreFit, AreDeclared, HasNet, IsAvailable, IsNetOf}
 use Rattle.cell_nets.specs.Parts.{part_tree}
 use Rattle.cell_nets.specs.Wires.{own, behind, HasBits, AreWires}
 use Rattle.cell_nets.proofs.PartLaws.{part_slice, part_small}
-use Rattle.frame_net.proofs.FormLaws.{and_is, one_is}
+use Rattle.cell_nets.proofs.OperandBlocks.WiringLaws.{behind_declared, own_all}
+use Rattle.frame_net.proofs.FormLaws.{one_is}
 use Rattle.row_net.specs.PlaceNet.Place.{HasSize}
 use Rattle.row_net.specs.PlaceNet.PlaceNets.{tree_for, set_statement}
 use Rattle.row_net.specs.SitePlace.Inputs.{Input, IsInput, number_from, width_of_input, input_word, first_word, input_tree, held_statement, HasWidths}
 use Rattle.row_net.proofs.SitePlace.SetLemmas.{OfWidth, sets_typed, sets_read, sets_within, IsSpelled, held_spelled, sets_flat, registers_are, memories_stay}
 
--- ---- wires of the block
--- what holds of each wire, holds of each that is among them
-own_all : {P : Type 0} (p : P) (Q : Operand (Name P) → Type 0) (ws : List (BlockWireTree (Name P))) (at : ℕ) → ((i : ℕ) → i < length ws → Q (Net (name.Wire p (at + i)) (get_or (map_list block_wire_width ws) i 0))) → (a : Operand (Name P)) → Contains (own p at ws) a → Q a
-own_all p Q [] at h a (k, l, e) = absurd (omega arith)
-own_all p Q (w ∷ ws) at h a (zero, l, e) = let z : at + 0 ≡ at = omega arith in subst Q (ap (λ n. Net (name.Wire p n) w.width) (sym z) ∙ ap (λ n. Net (name.Wire p n) w.width) z ∙ e) (subst (λ n. Q (Net (name.Wire p n) w.width)) z (h 0 (omega arith)))
-own_all p Q (w ∷ ws) at h a (suc k, l, e) =
-    own_all p Q ws (suc at) (λ i lt. let f : at + suc i ≡ suc at + i = omega arith in subst (λ n. Q (Net (name.Wire p n) (get_or (map_list block_wire_width ws) i 0))) f (h (suc i) (omega arith))) a (k, omega arith, e)
-
-behind_declared : {P : Type 0} (p : P) (d : Whole P) (b : BlockTree (Name P)) (outside : List (Operand (Name P))) → d.block p ≡ b → AreDeclared (names_scope d port_list) outside → AreDeclared (names_scope d port_list) (behind p outside b.wires)
-behind_declared {P = P} p d b outside here declared a c = by_case (Contains-append_cases outside (own p 0 b.wires) a c)
-  where
-    by_case : Contains outside a ⊎ Contains (own p 0 b.wires) a → IsDeclared (names_scope d port_list) a
-    by_case (inl x) = declared a x
-    by_case (inr x) =
-        own_all p (IsDeclared (names_scope d port_list)) b.wires 0
-        (λ i l. let z : 0 + i ≡ i = omega arith in ap (λ (c : BlockTree (Name P)). get_or (block_wires c) (0 + i) 0) here ∙ ap (λ k. get_or (block_wires b) k 0) z) a x
-
+-- ---- nets of the block
 abbrev NetIsThere : {P : Type 0} → Whole P → Operand (Name P) → Type 0
 NetIsThere d (Known n) = Unit {0}
 NetIsThere d (Net n w) = IsThere d n

@@ -19,7 +19,7 @@ before_end : {N : Type 0} (list : List (StatementTree N)) (a : StatementTree N) 
 before_end [] a more = refl
 before_end (b ∷ list) a more = ap (SThen b) (before_end list a more)
 
--- the last statement goes in front of those behind it
+-- the last statement goes in front of those after it
 pub popped :
     {A N : Type 0} (f : ℕ → A → StatementTree N) (F : ℕ → List A → List (StatementTree N)) (xs rest : List A) (x : A) (more next whole : StatementTrees N) → IsNumbered f F → xs ≡ rest ++ x ∷ [] → next ≡ SThen (f (length rest) x) more
     → statements_before (F 0 xs) more ≡ whole → statements_before (F 0 rest) next ≡ whole

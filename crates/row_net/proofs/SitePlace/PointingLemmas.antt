@@ -1,9 +1,9 @@
--- The numbers of pointers behind wires.
+-- The numbers of pointers after wires.
 use Rattle.std.specs.Prelude.{Option, Contains, not, if◌then◌else◌}
 use Rattle.std.proofs.Common.{◌≡◌, ◌⊎◌, inl, inr, ℕ, zero, suc, ◌+◌, ◌^◌, ◌<◌, Bool, true, false, Some, All, List, [], ◌∷◌, ◌++◌, length, length-append, take, get_or, set, map, refl, sym, ◌∙◌, ap, subst, arith, slice_index}
 use Rattle.std.proofs.lemmas.Nat.{pow_pos}
 use Rattle.std.proofs.lemmas.List.{length-set, length-map}
-use Rattle.std.proofs.lemmas.List.Elements.{All-nil, All-append, All-contains}
+use Rattle.std.proofs.lemmas.List.Elements.{All-append, All-contains}
 use Rattle.std.proofs.Math.Seq.{take-suc}
 use Rattle.net_core.specs.Value.{Env}
 use Rattle.overlay_net.specs.xdp_machine.State.{PacketIn}
@@ -12,36 +12,27 @@ use Rattle.block_core.proofs.ProductBlocks.FreeLaws.{all_marked}
 use Rattle.block_core.proofs.ProductBlocks.CleanLaws.{marked_behind}
 use Rattle.block_core.specs.declared.name.Name.{Name}
 use Rattle.block_core.specs.Blocks.{BlockWireTree}
+use Rattle.block_core.proofs.list_laws_laws.AllLaws.{both_all}
 use Rattle.overlay_net.specs.cell_core.declared.operator.Operator.{Operator}
-use Rattle.overlay_net.specs.cell_core.declared.operator.Operator.TheVariants.{Wire, Phi}
+use Rattle.overlay_net.specs.cell_core.declared.operator.Operator.TheVariants.{Phi}
 use Rattle.overlay_net.specs.cell_core.Cells.{CellView, cell_at, on, phi}
 use Rattle.overlay_net.specs.hazard_core.declared.pointer.Pointer.{Pointer}
 use Rattle.cell_nets.specs.declared.operand.Operand.{Operand}
-use Rattle.cell_nets.specs.declared.operand.Operand.TheVariants.{Known, Net, Part}
-use Rattle.cell_nets.specs.Operands.{number_in, IsOperand, IsFit, AreFit, IsAvailable}
+use Rattle.cell_nets.specs.Operands.{number_in, IsOperand, AreFit, IsAvailable}
 use Rattle.cell_nets.specs.Parts.{worth}
 use Rattle.cell_nets.specs.Apart.{Agrees, StayApart}
 use Rattle.cell_nets.specs.Wires.{behind, always, HasBits, Gives}
-use Rattle.cell_nets.proofs.ApartLemmas.{agrees_split, free_marked}
-use Rattle.cell_nets.proofs.ChoiceLemmas.{fit_of}
-use Rattle.cell_nets.proofs.SliceLemmas.{whole_bits}
-use Rattle.cell_nets.proofs.PartLaws.{part_small}
+use Rattle.cell_nets.proofs.ApartLaws.{agrees_split, free_marked}
+use Rattle.cell_nets.proofs.ChoiceLaws.{fit_of}
+use Rattle.cell_nets.proofs.SliceLaws.{whole_bits}
+use Rattle.cell_nets.proofs.PartLaws.{bits_below}
 use Rattle.overlay_net.specs.SiteOperands.Pointers.{pointer_number}
 use Rattle.row_net.specs.Table.{Stands, IsIn, AreThere, Holds}
 use Rattle.row_net.specs.Apart.{KeepApart}
-use Rattle.row_net.specs.SitePlace.Pointing.{joined_pointer, made_pointer, IsPointers, HoldsPointers, is_edge, HoldsOf, Takes, ArePointed}
+use Rattle.row_net.specs.SitePlace.Pointing.{joined_pointer, made_pointer, HoldsPointers, is_edge, HoldsOf, Takes, ArePointed}
 use Rattle.row_net.specs.SitePlace.PointerNets.{AreChoices, BothThere, AddWires, GivesPointer, IsPointerRow}
-use Rattle.row_net.proofs.SitePlace.ChangeLemmas.{at_place, of_changed, still_in, both_all}
-
--- ---- what pointers take
-pub of_as : (e f p q : ℕ → Type 0) → ((i : ℕ) → e i → f i) → ((i : ℕ) → p i → q i) → (b : Bool) (i : ℕ) → HoldsOf e p b i → HoldsOf f q b i
-of_as e f p q edges pointers true i h = edges i h
-of_as e f p q edges pointers false i h = pointers i h
-
-pub takes_as : (e f p q : ℕ → Type 0) → ((i : ℕ) → e i → f i) → ((i : ℕ) → p i → q i) → (op : Operator) (ins : List ℕ) → Takes e p op ins → Takes f q op ins
-takes_as e f p q edges pointers Wire ins h = pointers (slice_index ins 0) h
-takes_as e f p q edges pointers Phi ins h = λ n l. of_as e f p q edges pointers (is_edge n) (slice_index ins n) (h n l)
-takes_as e f p q edges pointers op ins h = tt
+use Rattle.row_net.proofs.SitePlace.ChangeLemmas.{at_place, of_changed, still_in}
+use Rattle.row_net.proofs.SitePlace.PointingLaws.{takes_as}
 
 -- ---- choices
 not_not : (b : Bool) → not (not b) ≡ b
@@ -133,11 +124,6 @@ keeps_apart {P} p old new args outs stay clean marks table keep = (
     front all g = (agrees_split p 0 (length old) marks (all_marked stay.more) (is_marked all) (omega (arith, keep.count)) g).0
 
 -- ---- one pointer
-number_below : {N : Type 0} (v : Env N) (a : Operand N) (w : ℕ) → HasBits w a → IsFit v a → number_in v a < 2 ^ w
-number_below v (Known n) w h f = h
-number_below v (Net n u) w h f = subst (λ j. (v.net n).value < 2 ^ j) h f.small
-number_below v (Part n of from u) w h f = subst (λ j. number_in v (Part n of from u) < 2 ^ j) h (part_small (v.net n).value from u)
-
 -- no wire
 pub at_hand :
     {P : Type 0} (p : P) (bits : ℕ) (op : Operator) (ins : List ℕ) (table pointers : List (Option (Operand (Name P)))) (ws : List (BlockWireTree (Name P))) (out : Operand (Name P)) → IsOperand out → HasBits bits out → ((all : List (Operand (Name P))) → AreThere all pointers → IsAvailable all out)
@@ -163,7 +149,7 @@ joined {P} p bits ins table pointers old new args out choices wide gives = recor
   there = λ outside both. (g.given outside both.wires (there outside both)).there;
   value = λ outside v val at both fit solved cells those.
       let fits : AreFit v (behind p outside old) = both.wires.fits v fit (g.before v solved) in
-      let small = phi_small table pointers v bits (λ k a s. number_below v a bits (wide k a s) (fit_of (behind p outside old) v a (both.pointers k a s) fits)) ins args choices in
+      let small = phi_small table pointers v bits (λ k a s. bits_below v a bits (wide k a s) (fit_of (behind p outside old) v a (both.pointers k a s) fits)) ins args choices in
       (g.given outside both.wires (there outside both)).value v fit solved tt ∙ sym (whole_bits (phi (map (number_in v) args)) bits small) ∙ phi_is table pointers v val at cells those ins args choices;
 }
   where
@@ -177,15 +163,6 @@ joined {P} p bits ins table pointers old new args out choices wide gives = recor
     there outside both = choices_all table pointers (IsAvailable (behind p outside old)) both.cells both.pointers ins args choices
 
 -- ---- pointers one after another
-pub no_pointers : {P : Type 0} (p : P) (cells : List CellView) (bits : ℕ) (table : List (Option (Operand (Name P)))) (ws : List (BlockWireTree (Name P))) (those : List (Option (Operand (Name P)))) → IsPointers cells bits those → IsPointerRow p cells bits [] table ws ws those those
-no_pointers p cells bits table ws those is = record {
-  pointers = is;
-  all_in = All-nil (IsIn those);
-  grows = λ k h. h;
-  adds = adds_none p ws;
-  there = λ outside both. both;
-  value = λ outside v val at both fit solved are cells those. those;
-}
 
 module _ {P : Type 0} (p : P) (cells : List CellView) (bits : ℕ) (made : List ℕ) (k : ℕ) (table : List (Option (Operand (Name P)))) (old mid new : List (BlockWireTree (Name P))) (a b : List (Option (Operand (Name P)))) (out : Operand (Name P)) (inside : k < length b)
     (x : IsPointerRow p cells bits made table old mid a b) (g : GivesPointer p bits (cell_at cells k).op (cell_at cells k).ins table b mid new out) where
@@ -248,7 +225,7 @@ takes_now p cells bits made i table old mid a b within r x =
     of_pointer j (inl h) = x.grows j h
     of_pointer j (inr h) = All-contains (IsIn b) (take i made) j x.all_in h
 
--- behind the row of cells nothing of it is still to be made
+-- after the row of cells nothing of it is still to be made
 pub pointed_after :
     {N : Type 0} (cells : List CellView) (before after pointers : List (Option (Operand N))) (made made_pointers : List ℕ) → ((k : ℕ) → IsIn before k → IsIn after k) → All (IsIn after) made → ArePointed cells before pointers made made_pointers → ArePointed cells after pointers [] made_pointers
 pointed_after cells before after pointers made made_pointers grows all_in r = record {

@@ -15,7 +15,8 @@ use Rattle.net_core.specs.ProductRules.Products.{is_flat, statements_flat}
 use Rattle.block_core.specs.Parts.{AllWithin}
 use Rattle.block_core.specs.Order.{Reads}
 use Rattle.block_core.specs.Formed.{StatementsRead}
-use Rattle.frame_net.proofs.FormLaws.{same_is, and_is}
+use Rattle.block_core.proofs.list_laws_laws.BoolLaws.{and_is}
+use Rattle.frame_net.proofs.FormLaws.{same_is}
 use Rattle.row_net.specs.PlaceNet.PlaceNets.{sets_from, set_statement}
 use Rattle.row_net.specs.SitePlace.Inputs.{held_statement}
 

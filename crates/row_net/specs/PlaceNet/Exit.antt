@@ -1,6 +1,6 @@
 -- The block that keeps answers of packets that leave the pipeline, by slot.
 use Rattle.std.specs.Prelude.{◌≡◌, ◌≢◌, ℕ, ◌+◌, ◌^◌, ◌<◌, true, false, List, [], ◌∷◌, length, map as map_list, replicate, slice_index, Contains, IsTrue}
-use Rattle.net_core.specs.beat_core.declared.answer.Answer.{Answer}
+use Rattle.beat_core.specs.declared.answer.Answer.{Answer}
 use Rattle.net_core.specs.Ports.{port_list}
 use Rattle.net_core.specs.Value.{word, bit, Env}
 use Rattle.net_core.specs.Clock.{Stored, done}

@@ -1,7 +1,7 @@
 -- The nets of cells that come with a packet.
 use Rattle.std.specs.Prelude.{◌≡◌, ℕ, ◌<◌, List, [], length}
 use Rattle.std.proofs.Common.{get_or}
-use Rattle.net_core.specs.beat_core.Ports.{Arrival}
+use Rattle.beat_core.specs.Ports.{Arrival}
 use Rattle.block_core.specs.declared.name.Name.{Name}
 use Rattle.block_core.specs.Blocks.{BlockWireTree}
 use Rattle.overlay_net.specs.cell_core.declared.operator.Operator.{Operator}
@@ -29,7 +29,7 @@ number_width Length = 14
 number_width Ifindex = 32
 number_width op = 64
 
--- Wires become more, and behind them an operand has the number of an operator, for any frame that is shown.
+-- Wires become more, and after them an operand has the number of an operator, for any frame that is shown.
 abbrev pub GivesNumber : {P : Type 0} → P → P → List Kept → Operator → List (BlockWireTree (Name P)) → List (BlockWireTree (Name P)) → Operand (Name P) → Type 0
 GivesNumber p sources list op old new out =
     (a : Arrival) → Gives p old new (source_operands sources list) (λ v. IsShownIn sources list v a) (λ v. number (packet_in a) op []) (number_width op) out

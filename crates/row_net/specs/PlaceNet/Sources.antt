@@ -2,8 +2,8 @@
 use Rattle.std.specs.Prelude.{◌≡◌, ℕ, suc, ◌/◌, ◌^◌, ◌<◌, Bool, true, Option, None, All, Contains, List, [], ◌∷◌, length}
 use Rattle.std.specs.List.{list_all}
 use Rattle.std.proofs.Common.{get_or}
-use Rattle.net_core.specs.list_laws.Bytes.{IsBytes}
-use Rattle.net_core.specs.beat_core.Ports.{Arrival}
+use Rattle.beat_core.specs.list_laws.Bytes.{IsBytes}
+use Rattle.beat_core.specs.Ports.{Arrival}
 use Rattle.overlay_net.specs.xdp_machine.State.{PacketIn}
 use Rattle.net_core.specs.Value.{Env}
 use Rattle.block_core.specs.ProductBlocks.Alone.{wire_flat}
@@ -55,7 +55,7 @@ pub record IsShownIn {P : Type 0} (sources : P) (list : List Kept) (v : Env (Nam
   pub bytes : IsBytes a.frame
   pub shows : ShowsFrame sources list v a
 
--- Wires and a table become more. The table gets the cells that come with a packet, and nothing else changes in it. Behind the wires stands
+-- Wires and a table become more. The table gets the cells that come with a packet, and nothing else changes in it. After the wires stands
 -- all that is in the table, and where a frame is shown it has the values of these cells for its packet. No product is among the further wires.
 pub record IsSourced {P : Type 0} (p sources : P) (list : List Kept) (cells : List CellView) (listed : List ℕ) (old new : List (BlockWireTree (Name P))) (before after : List (Option (Operand (Name P)))) : Type 0 where
   pub table : IsTable cells after

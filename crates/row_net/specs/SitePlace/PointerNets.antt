@@ -21,7 +21,7 @@ pub record AreChoices {N : Type 0} (table pointers : List (Option (Operand N))) 
   pub count : length args ≡ length ins
   pub each : (n : ℕ) (d : Operand N) → n < length ins → HoldsOf (λ i. Stands table i (get_or args n d)) (λ i. Stands pointers i (get_or args n d)) (is_edge n) (slice_index ins n)
 
--- the two tables are there behind these wires
+-- the two tables are there after these wires
 pub record BothThere {P : Type 0} (p : P) (outside : List (Operand (Name P))) (ws : List (BlockWireTree (Name P))) (table those : List (Option (Operand (Name P)))) : Type 0 where
   pub wires : AreWires p outside ws
   pub cells : AreThere (behind p outside ws) table
@@ -33,7 +33,7 @@ pub record AddWires {P : Type 0} (p : P) (old new : List (BlockWireTree (Name P)
   pub stays : (outside : List (Operand (Name P))) (a : Operand (Name P)) → IsAvailable (behind p outside old) a → IsAvailable (behind p outside new) a
   pub apart : (clean : ℕ → Bool) (marks : List Bool) (table : List (Option (Operand (Name P)))) → KeepApart p clean marks old table → (next : List Bool) × KeepApart p clean next new table
 
--- Behind further wires an operand of so many bits has the number of the pointer that goes with a cell.
+-- After further wires an operand of so many bits has the number of the pointer that goes with a cell.
 pub record GivesPointer {P : Type 0} (p : P) (bits : ℕ) (op : Operator) (ins : List ℕ) (table pointers : List (Option (Operand (Name P)))) (old new : List (BlockWireTree (Name P))) (out : Operand (Name P)) : Type 0 where
   pub adds : AddWires p old new
   pub operand : IsOperand out
@@ -44,7 +44,7 @@ pub record GivesPointer {P : Type 0} (p : P) (bits : ℕ) (op : Operator) (ins :
       (outside : List (Operand (Name P))) (v : Env (Name P)) (val : ℕ → ℕ) (at : ℕ → Pointer) → BothThere p outside old table pointers → AreFit v outside → Solve v p 0 new → Holds v table val → HoldsPointers v pointers at
       → number_in v out ≡ pointer_number (made_pointer val at ins op)
 
--- Wires and a table of pointers become more: the table gets the pointers of these cells, of so many bits, and nothing that was there goes. Whatever comes from outside, behind
+-- Wires and a table of pointers become more: the table gets the pointers of these cells, of so many bits, and nothing that was there goes. Whatever comes from outside, after
 -- the wires stands all that is in the table, and it has the numbers of pointers where that was so before and these cells have the pointers that go with them.
 pub record IsPointerRow {P : Type 0} (p : P) (cells : List CellView) (bits : ℕ) (made : List ℕ) (table : List (Option (Operand (Name P)))) (old new : List (BlockWireTree (Name P))) (before after : List (Option (Operand (Name P)))) : Type 0 where
   pub pointers : IsPointers cells bits after

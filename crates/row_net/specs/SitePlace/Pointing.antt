@@ -61,7 +61,7 @@ Takes edge pointer Wire ins = pointer (slice_index ins 0)
 Takes edge pointer Phi ins = (n : ℕ) → n < length ins → HoldsOf edge pointer (is_edge n) (slice_index ins n)
 Takes edge pointer op ins = Unit {0}
 
--- The pointers can be made in this order, behind the cells: what each takes is there, or is made before it.
+-- The pointers can be made in this order, after the cells: what each takes is there, or is made before it.
 pub record ArePointed {N : Type 0} (cells : List CellView) (table pointers : List (Option (Operand N))) (made made_pointers : List ℕ) : Type 0 where
   pub within : All (λ k. k < length cells) made_pointers
   pub inputs :

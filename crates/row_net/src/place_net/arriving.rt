@@ -1,7 +1,7 @@
 //! The cells that come from outside with a packet.
 
 ghost use Rattle.std.specs.Prelude.{ℕ, ◌≡◌, ◌≤◌, ◌<◌, List, [], ◌∷◌, All, Contains, IfOk, length, get_or, map as map_list};
-ghost use Rattle.net_core.specs.beat_core.Ports.{Arrival};
+ghost use Rattle.beat_core.specs.Ports.{Arrival};
 ghost use Rattle.overlay_net.specs.cell_core.Cells.{number, bits_from};
 ghost use Rattle.overlay_net.specs.cell_core.Formed.{AreFormed};
 ghost use Rattle.overlay_net.specs.cell_core.View.{cell_of};
@@ -100,7 +100,7 @@ fn one_source<P: Part>(
     Ok(out)
 }
 
-/// Makes wires for cells that come with a packet, behind those that a place has, from the nets that show its frame in the part of
+/// Makes wires for cells that come with a packet, after those that a place has, from the nets that show its frame in the part of
 /// sources, and says in the table what stands for each.
 pub fn source_cells<P: Part>(
     alloc: Global,

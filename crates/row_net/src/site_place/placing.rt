@@ -80,7 +80,7 @@ fn pointer_inputs<N: Copy>(
     Ok(all)
 }
 
-/// A place of the pipeline where packets may stay: behind wires that it has, those of the cells that are made there, in this order, and those of the
+/// A place of the pipeline where packets may stay: after wires that it has, those of the cells that are made there, in this order, and those of the
 /// pointers that go with them, and registers for the cells and then for the pointers that the next place takes. These take what stands for
 /// them in a clock in which the net `advance`, of one bit, is 1, and else they keep what they hold.
 ///

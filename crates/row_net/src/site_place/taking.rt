@@ -10,7 +10,7 @@ use block_core::name::{Name, Part};
 use cell_nets::operand::Operand;
 use std::alloc::AllocError;
 
-// The number of a register behind so many others. Of 2^32 registers a part has no room for more, as where memory is out.
+// The number of a register after so many others. Of 2^32 registers a part has no room for more, as where memory is out.
 fn number_behind(first: usize, i: usize) -> Result<u32, AllocError>
     ensures { IfOk result (λ n. n ≡ first + i) }
 {
@@ -24,7 +24,7 @@ fn number_behind(first: usize, i: usize) -> Result<u32, AllocError>
 }
 
 /// Puts the registers of a place into a table of pointers, for those that it carries: they stand for these at the next place. They are
-/// behind so many others, those of the cells that it carries.
+/// after so many others, those of the cells that it carries.
 pub fn take_pointers<P: Part>(
     part: P,
     bits: u8,

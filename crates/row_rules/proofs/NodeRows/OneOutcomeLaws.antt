@@ -1,14 +1,14 @@
 -- A program is accepted, or has one first refusal.
 use Rattle.std.proofs.Common.{◌≡◌, ◌⊎◌, inl, inr, ◌∙◌, ℕ, ◌<◌, ◌≤◌, List, sym, ap, subst, arith}
 use Rattle.xdp_state.specs.xdp_machine.Program.{XdpProgram}
-use Rattle.kind_core.specs.declared.why.Refusal.{Refusal}
+use Rattle.xdp_state.specs.declared.refusal.Refusal.{Refusal}
 use Rattle.unfold_core.specs.declared.nesting.Loop.{Loop}
 use Rattle.unfold_core.specs.declared.edges.Point.{Point}
 use Rattle.unfold_core.specs.declared.links.Edge.{Edge}
 use Rattle.unfold_core.specs.Graphs.{IsGraph}
 use Rattle.unfold_core.specs.Unfolding.{links}
 use Rattle.unfold_core.specs.Acceptance as graphs
-use Rattle.unfold_core.proofs.OneGraph.{has_one_graph, same_refusal}
+use Rattle.unfold_core.proofs.OneGraphLaws.{has_one_graph, same_refusal}
 use Rattle.unfold_core.proofs.OneOutcomeLaws as graph
 use Rattle.row_rules.specs.NodeRows.Rows.{IsTooLate, row_of_node, point_at}
 use Rattle.row_rules.specs.NodeRows.Acceptance.{IsAccepted, HasTooManyStages, IsFirstRefusal, HasOneOutcome, edges_of}

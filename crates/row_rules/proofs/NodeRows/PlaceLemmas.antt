@@ -1,18 +1,14 @@
--- Origins where edges meet and behind an instruction, place by place.
-use Rattle.std.proofs.Common.{◌≡◌, ◌∙◌, Bool, true, false, ℕ, zero, suc, ◌+◌, ◌-◌, ◌<◌, ◌≤◌, ◌⊎◌, inl, inr, nat_le, nat_lt, ◌&&◌, ◌||◌, if◌then◌else◌, Option, Some, None, List, [], ◌∷◌, ◌++◌, length, get_or, set, subst, refl, sym, ap, max, arith, map}
+-- Origins where edges meet and after an instruction, place by place.
+use Rattle.std.proofs.Common.{◌≡◌, ◌∙◌, Bool, true, false, ℕ, zero, suc, ◌+◌, ◌-◌, ◌<◌, ◌≤◌, ◌⊎◌, inl, inr, nat_le, nat_lt, ◌&&◌, if◌then◌else◌, Option, Some, None, List, [], ◌∷◌, length, get_or, set, subst, refl, ap, max, arith, map}
 use Rattle.std.specs.Prelude.{All}
-use Rattle.std.specs.List.{list_any}
-use Rattle.std.proofs.lemmas.List.Folds.{list_any-append}
 use Rattle.std.proofs.lemmas.Bool.{cases_lt, le-ltb, lt-leb}
 use Rattle.std.proofs.lemmas.List.{get_or_past, get_or-set_same, get_or-set_other, ext_get_or, length-map, get_or-map}
 use Rattle.cell_core.specs.Rows.{greatest, numbers}
 use Rattle.row_rules.specs.declared.place_rows.origin.Origin.{Origin}
 use Rattle.kind_core.specs.declared.kind.Kinds.{Kinds}
-use Rattle.row_rules.specs.declared.place_rows.span.Span.{Span}
 use Rattle.row_rules.specs.declared.node_rows.joining.Arrival.{Arrival}
 use Rattle.row_rules.specs.NodeRows.Joining.{brings, edge_row, brought_row, all_bring, new_origin, met, first_brings, origin_at, origins_at}
-use Rattle.row_rules.specs.NodeRows.Passing.{written, IsLowArrival}
-use Rattle.row_rules.specs.PlaceRows.Spans.{is_in}
+use Rattle.row_rules.specs.NodeRows.Passing.{IsLowArrival}
 use Rattle.row_rules.proofs.PlaceRows.PlaceLaws.{place_at, every_low}
 use Rattle.row_rules.specs.PlaceRows.Origins.{row_of, row_at, span_row, spans_row, every_row, by_place, has_data, origin_at_start}
 
@@ -20,18 +16,6 @@ use Rattle.row_rules.specs.PlaceRows.Origins.{row_of, row_at, span_row, spans_ro
 pub where_edges_meet : (es : List Arrival) (maker : ℕ) (k : Kinds) → 0 < length es → origins_at es maker k ≡ by_place (origin_at es maker k)
 where_edges_meet [] maker k h = absurd (omega (arith, h))
 where_edges_meet (a ∷ es) maker k h = refl
-
--- ---- what is written
-pub written_more : (after : Kinds) (ss : List Span) (t : Span) (o : Origin) (old mid new : List (Option Origin)) (i : ℕ)
-    → get_or mid i None ≡ written after ss o old i → get_or new i None ≡ written after (t ∷ []) o mid i → get_or new i None ≡ written after (ss ++ t ∷ []) o old i
-written_more after ss t o old mid new i e f = f ∙ by (list_any (is_in i) ss) (is_in i t) (if has_data after i then Some o else None) e
-    ∙ ap (λ (b : Bool). if b then (if has_data after i then Some o else None) else get_or old i None) (sym (list_any-append (is_in i) ss (t ∷ [])))
-  where
-    by : (a b : Bool) (x : Option Origin) → get_or mid i None ≡ (if a then x else get_or old i None) → (if b || false then x else get_or mid i None) ≡ (if a || (b || false) then x else get_or old i None)
-    by true true x h = refl
-    by true false x h = h
-    by false true x h = refl
-    by false false x h = h
 
 -- ---- low rows
 pub brings_low : (a : Arrival) (i : ℕ) → IsLowArrival a → row_of (brings a i) ≤ 256

@@ -3,14 +3,12 @@ use Rattle.std.proofs.Common.{◌≡◌, ◌∙◌, ℕ, zero, suc, ◌+◌, ◌
 use Rattle.std.proofs.lemmas.Bool.{cases_lt, le-ltb, lt-leb}
 use Rattle.std.proofs.lemmas.List.{get_or_past, ext_get_or, length-map, get_or-map}
 use Rattle.cell_core.specs.Rows.{greatest, numbers}
+use Rattle.cell_core.proofs.NumberLaws.{numbers_long}
 use Rattle.row_rules.specs.declared.place_rows.origin.Origin.{Origin}
 use Rattle.row_rules.specs.declared.place_rows.span.Span.{Span}
 use Rattle.row_rules.specs.PlaceRows.Origins.{row_of, row_at, span_row, spans_row, every_row, by_place}
 
 -- ---- numbers one after another
-pub count-numbers : (from n : ℕ) → length (numbers from n) ≡ n
-count-numbers from zero = refl
-count-numbers from (suc n) = ap suc (count-numbers (suc from) n)
 
 pub at-numbers : (from n i d : ℕ) → i < n → get_or (numbers from n) i d ≡ from + i
 at-numbers from zero i d h = absurd (omega (arith, h))
@@ -20,17 +18,17 @@ at-numbers from (suc n) (suc i) d h = at-numbers (suc from) n i d (omega (arith,
 -- origins that are given place by place
 pub all_places : (f : ℕ → Option Origin) (os : List (Option Origin)) → length os ≡ 348 → ((i : ℕ) → i < 348 → get_or os i None ≡ f i) → os ≡ by_place f
 unfolding by_place
-all_places f os n h = ext_get_or None os (map f (numbers 0 348)) (n ∙ sym (count-numbers 0 348) ∙ sym (length-map (numbers 0 348) f)) (λ i l. let b : i < 348 = omega (arith, l, n) in
-    h i b ∙ sym (get_or-map f (numbers 0 348) i 0 None (omega (arith, b, count-numbers 0 348)) ∙ ap f (at-numbers 0 348 i 0 b ∙ omega arith)))
+all_places f os n h = ext_get_or None os (map f (numbers 0 348)) (n ∙ sym (numbers_long 0 348) ∙ sym (length-map (numbers 0 348) f)) (λ i l. let b : i < 348 = omega (arith, l, n) in
+    h i b ∙ sym (get_or-map f (numbers 0 348) i 0 None (omega (arith, b, numbers_long 0 348)) ∙ ap f (at-numbers 0 348 i 0 b ∙ omega arith)))
 
 -- and one of them
 pub place_at : (f : ℕ → Option Origin) (i : ℕ) → i < 348 → get_or (by_place f) i None ≡ f i
 unfolding by_place
-place_at f i h = get_or-map f (numbers 0 348) i 0 None (omega (arith, h, count-numbers 0 348)) ∙ ap f (at-numbers 0 348 i 0 h ∙ omega arith)
+place_at f i h = get_or-map f (numbers 0 348) i 0 None (omega (arith, h, numbers_long 0 348)) ∙ ap f (at-numbers 0 348 i 0 h ∙ omega arith)
 
 pub count_places : (f : ℕ → Option Origin) → length (by_place f) ≡ 348
 unfolding by_place
-count_places f = length-map (numbers 0 348) f ∙ count-numbers 0 348
+count_places f = length-map (numbers 0 348) f ∙ numbers_long 0 348
 
 -- ---- the greatest row
 pub greatest_split : (row : ℕ → ℕ) (from end most : ℕ) → from < end → max most (greatest row (numbers from (end - from))) ≡ max (max most (row from)) (greatest row (numbers (from + 1) (end - (from + 1))))

@@ -1,6 +1,7 @@
 -- Places of spans, and their rows.
 use Rattle.std.proofs.Common.{◌≡◌, ◌∙◌, ℕ, ◌+◌, ◌-◌, ◌<◌, ◌≤◌, nat_le, nat_lt, ◌&&◌, Bool, true, false, [], ◌∷◌, refl, ap, arith}
-use Rattle.std.proofs.lemmas.Bool.{lt-ltb, le-ltb, le-leb, lt-leb, leb-true, ltb-true}
+use Rattle.std.specs.List.{list_any}
+use Rattle.std.proofs.lemmas.Bool.{lt-ltb, le-ltb, le-leb, leb-true, ltb-true}
 use Rattle.cell_core.specs.Rows.{greatest, numbers}
 use Rattle.row_rules.specs.declared.place_rows.span.Span.{Span}
 use Rattle.row_rules.specs.PlaceRows.Spans.{no_place, one, is_in, span_row}
@@ -18,9 +19,6 @@ inside place s h = by (nat_le s.from place) refl (nat_lt place s.end) refl h
 pub is_inside : (place : ℕ) (s : Span) → s.from ≤ place → place < s.end → is_in place s ≡ true
 is_inside place s l m = rw (le-leb s.from place l, lt-ltb place s.end m) refl
 
-pub not_below : (place : ℕ) (s : Span) → place < s.from → is_in place s ≡ false
-not_below place s l = rw (lt-leb s.from place l) refl
-
 pub not_beyond : (place : ℕ) (s : Span) → s.end ≤ place → is_in place s ≡ false
 not_beyond place s l = by (nat_le s.from place)
   where
@@ -30,6 +28,10 @@ not_beyond place s l = by (nat_le s.from place)
 
 pub in_none : (place : ℕ) → is_in place no_place ≡ false
 in_none place = not_beyond place no_place (omega arith)
+
+-- nothing is read, or written
+pub no_places : (place : ℕ) → list_any (is_in place) (no_place ∷ no_place ∷ []) ≡ false
+no_places place = rw (in_none place) refl
 
 pub in_one : (place d : ℕ) → is_in place (one d) ≡ true → place ≡ d
 in_one place d h = let b = inside place (one d) h in omega (arith, b.0, b.1)

@@ -1,7 +1,7 @@
 -- Which programs are accepted, with their stages, and the first refusal of the others.
 use Rattle.std.specs.Prelude.{◌≡◌, ◌⊎◌, List}
 use Rattle.xdp_state.specs.xdp_machine.Program.{XdpProgram}
-use Rattle.kind_core.specs.declared.why.Refusal.{Refusal}
+use Rattle.xdp_state.specs.declared.refusal.Refusal.{Refusal}
 use Rattle.unfold_core.specs.declared.links.Edge.{Edge}
 use Rattle.unfold_core.specs.Unfolding.{links}
 use Rattle.unfold_core.specs.Acceptance as graphs

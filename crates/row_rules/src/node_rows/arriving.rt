@@ -6,7 +6,7 @@ ghost use Rattle.unfold_core.specs.Units.{ArePlaces};
 ghost use Rattle.row_rules.specs.NodeRows.Rows.{known_behind, arrival_of, arrivals_of};
 
 use crate::node_rows::joining::Arrival;
-use crate::node_rows::node::Behind;
+use crate::node_rows::node::AfterNode;
 use kind_core::{Kinds, transfer};
 use std::alloc::{AllocError, Global};
 use unfold_core::{Edge, Point};
@@ -27,7 +27,7 @@ pub(crate) fn insn_at(units: &[Option<Insn>], at: &Point) -> Option<Insn>
     }
 }
 
-/// What is known behind an instruction at a node, on one of its edges.
+/// What is known after an instruction at a node, on one of its edges.
 pub(crate) fn known_behind(
     program: &Program,
     insn: &Insn,
@@ -47,7 +47,7 @@ fn arrival(
     program: &Program,
     units: &[Option<Insn>],
     nodes: &[Point],
-    passed: &[Behind],
+    passed: &[AfterNode],
     edge: &Edge,
 ) -> Arrival
     requires units { ArePlaces program.now.insns units.now }
@@ -75,7 +75,7 @@ pub(crate) fn arrivals(
     units: &[Option<Insn>],
     nodes: &[Point],
     edges: &[Edge],
-    passed: &[Behind],
+    passed: &[AfterNode],
     node: u32,
 ) -> Result<Vec<Arrival>, AllocError>
     requires units { ArePlaces program.now.insns units.now }

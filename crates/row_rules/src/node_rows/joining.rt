@@ -6,7 +6,7 @@ ghost use Rattle.row_rules.specs.NodeRows.Joining.{brings, edge_row, brought_row
 use crate::place_rows::origin::{Origin, Origins, PLACES, has_data, row_of};
 use kind_core::Kinds;
 
-/// An edge that leads to a node: its row, what is known on it, and the origins behind the node that it leaves.
+/// An edge that leads to a node: its row, what is known on it, and the origins after the node that it leaves.
 #[derive(Copy, Clone)]
 pub struct Arrival {
     pub row: u32,

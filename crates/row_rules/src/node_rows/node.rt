@@ -2,6 +2,7 @@
 
 ghost use Rattle.std.specs.Prelude.{◌≡◌, ◌<◌, ◌≤◌, ◌∷◌, [], ℕ, max, if◌then◌else◌, length, None, get_or};
 ghost use Rattle.xdp_state.specs.bpf_isa.Spelling.{IsInsn};
+ghost use Rattle.xdp_state.specs.Reasons.{most_stages};
 ghost use Rattle.row_rules.specs.PlaceRows.Spans.{one};
 ghost use Rattle.row_rules.specs.PlaceRows.Reading.{right_of};
 ghost use Rattle.row_rules.specs.PlaceRows.Origins.{span_row, spans_row, every_row};
@@ -16,9 +17,9 @@ use kind_core::{Kinds, decide};
 use xdp_state::bpf_isa::{Insn, Op, Src};
 use xdp_state::xdp_maps::decl::MapDecl;
 
-/// What stands behind a node: the row of its edges, the origins, and the greatest row that the node makes.
+/// What stands after a node: the row of its edges, the origins, and the greatest row that the node makes.
 #[derive(Copy, Clone)]
-pub struct Behind {
+pub struct AfterNode {
     pub edge: u32,
     pub origins: Origins,
     pub row: u32,
@@ -44,9 +45,9 @@ fn greatest(origins: &Origins, spans: &[Span]) -> u32
 
 // The greatest row of what a jump compares.
 fn compared_row(origins: &Origins, insn: &Insn, src: Src) -> u32
-    requires { every_row origins.now.places ≤ 256 }
+    requires { every_row origins.now.places ≤ most_stages }
     ensures row { result ≡ max (span_row origins.now.places (one insn.now.dst)) (span_row origins.now.places (right_of insn.now src)) }
-    ensures low { result ≤ 256 }
+    ensures low { result ≤ most_stages }
 {
     are_all(origins);
     let a = origins.span_row(register(insn.dst));
@@ -57,10 +58,10 @@ fn compared_row(origins: &Origins, insn: &Insn, src: Src) -> u32
     a.max(b)
 }
 
-// The row of the edges: that of the guard, and of a jump that is not decided also one behind what it compares.
+// The row of the edges: that of the guard, and of a jump that is not decided also one after what it compares.
 fn leaving_row(origins: &Origins, kinds: &Kinds, insn: &Insn, guard: u32) -> u32
     requires insn { IsInsn insn.now }
-    requires low { every_row origins.now.places ≤ 256 }
+    requires low { every_row origins.now.places ≤ most_stages }
     ensures { result ≡ leaving_row origins.now.places kinds.now insn.now guard }
 {
     match insn.op {
@@ -75,7 +76,7 @@ fn leaving_row(origins: &Origins, kinds: &Kinds, insn: &Insn, guard: u32) -> u32
 // The row of a result.
 fn result_row(decls: &[MapDecl], kinds: &Kinds, after: &Kinds, insn: &Insn, before: &Origins) -> u32
     requires insn { IsInsn insn.now }
-    requires low { every_row before.now.places ≤ 256 }
+    requires low { every_row before.now.places ≤ most_stages }
     ensures { result ≡ result_row decls.now kinds.now after.now insn.now before.now.places }
 {
     are_all(before);
@@ -87,7 +88,7 @@ fn result_row(decls: &[MapDecl], kinds: &Kinds, after: &Kinds, insn: &Insn, befo
     }
 }
 
-// The least row of what is pending behind a write: that of its guard, and of its answer if it has one.
+// The least row of what is pending after a write: that of its guard, and of its answer if it has one.
 fn least_row(places: &[Span; 2], guard: u32, row: u32) -> u32
     ensures { result ≡ (if is_some_place places.now then max guard row else guard) }
 {
@@ -122,7 +123,7 @@ fn write_spans(origins: &mut Origins, after: &Kinds, spans: &[Span], origin: Ori
     }
 }
 
-// What is pending of a map behind a write of it.
+// What is pending of a map after a write of it.
 fn note(origins: &mut Origins, before: &Origins, write: Option<Record>, maker: u32, least: u32)
     ensures { (place : ℕ) → place < 348 → get_or origins.new.places place None ≡ noted before.now.places write maker least place (get_or origins.old.places place None) }
 {
@@ -136,7 +137,7 @@ fn note(origins: &mut Origins, before: &Origins, write: Option<Record>, maker: u
     }
 }
 
-// The origins behind a node with this instruction.
+// The origins after a node with this instruction.
 fn origins_behind(
     decls: &[MapDecl],
     kinds: &Kinds,
@@ -147,7 +148,7 @@ fn origins_behind(
     before: &Origins,
 ) -> Origins
     requires insn { IsInsn insn.now }
-    requires low { every_row before.now.places ≤ 256 }
+    requires low { every_row before.now.places ≤ most_stages }
     ensures { result.places ≡ origins_behind decls.now kinds.now after.now insn.now maker guard before.now.places }
 {
     let places = writes(kinds, insn);
@@ -167,7 +168,7 @@ fn origins_behind(
     origins
 }
 
-/// What stands behind a node with this instruction, by its guard's row and the origins at it.
+/// What stands after a node with this instruction, by its guard's row and the origins at it.
 pub(crate) fn pass(
     decls: &[MapDecl],
     kinds: &Kinds,
@@ -176,13 +177,13 @@ pub(crate) fn pass(
     maker: u32,
     guard: u32,
     before: &Origins,
-) -> Behind
+) -> AfterNode
     requires insn { IsInsn insn.now }
-    requires low { every_row before.now.places ≤ 256 }
+    requires low { every_row before.now.places ≤ most_stages }
     ensures { result ≡ behind decls.now kinds.now after.now insn.now maker guard before.now.places }
 {
     let origins = origins_behind(decls, kinds, after, insn, maker, guard, before);
     let edge = leaving_row(before, kinds, insn, guard);
     let row = edge.max(before.every_row()).max(origins.every_row());
-    Behind { edge, origins, row }
+    AfterNode { edge, origins, row }
 }

@@ -2,7 +2,8 @@
 
 ghost use Rattle.std.specs.Prelude.{◌≡◌, ◌<◌, ◌≤◌, ◌⊎◌, IfOk, All, Some, length, IsErrOf};
 ghost use Rattle.xdp_state.specs.bpf_isa.Spelling.{IsInsn};
-ghost use Rattle.kind_core.specs.declared.why.Refusal.{Refusal as RefusalIs};
+ghost use Rattle.xdp_state.specs.declared.refusal.Refusal.{Refusal as RefusalIs};
+ghost use Rattle.unfold_core.specs.Graphs.{most_nodes};
 ghost use Rattle.unfold_core.specs.Units.{ArePlaces};
 ghost use Rattle.unfold_core.specs.Unfolding.{IsUnfolded};
 ghost use Rattle.row_rules.specs.NodeRows.Passing.{IsLow};
@@ -10,17 +11,14 @@ ghost use Rattle.row_rules.specs.NodeRows.Rows.{point_at, insn_of, behind_node, 
 
 use crate::node_rows::arriving::{arrivals, insn_at, known_behind};
 use crate::node_rows::joining::{edge_row, join};
-use crate::node_rows::node::{Behind, pass};
+use crate::node_rows::node::{AfterNode, pass};
 use crate::place_rows::recording::record_of;
-use kind_core::{BuildError, Refusal, Why};
 use std::alloc::{AllocError, Global};
 use unfold_core::laws::{edges_lead_on, nodes_have_links};
 use unfold_core::{Point, Unfolded, places};
 use xdp_object::Program;
 use xdp_state::bpf_isa::Insn;
-
-/// The most stages of a program.
-const MOST_STAGES: u32 = 256;
+use xdp_state::{BuildError, MOST_STAGES, Refusal, Why};
 
 /// How many stages a program has, and how many of its nodes may write a map.
 #[derive(Copy, Clone, Debug, PartialEq, Eq)]
@@ -32,7 +30,7 @@ pub struct Stages {
 impl Stages {
     // With one node more, of this row.
     fn with_node(self, row: u32, writes: bool) -> Stages
-        requires { self.records < 16384 }
+        requires { self.records < most_nodes }
         ensures { result ≡ with_node self row writes }
     {
         let more = if writes { 1 } else { 0 };
@@ -59,20 +57,20 @@ fn insn_of_node(program: &Program, units: &[Option<Insn>], unfolded: &Unfolded, 
     }
 }
 
-// What stands behind a node, by those before it.
+// What stands after a node, by those before it.
 fn behind(
     alloc: Global,
     program: &Program,
     units: &[Option<Insn>],
     unfolded: &Unfolded,
-    passed: &[Behind],
+    passed: &[AfterNode],
     node: u32,
     insn: &Insn,
-) -> Result<Behind, AllocError>
+) -> Result<AfterNode, AllocError>
     requires units { ArePlaces program.now.insns units.now }
     requires up { All (λ e. (e.from < e.to) × (e.to < length unfolded.now.nodes.items)) unfolded.now.edges.items }
     requires node { node < length unfolded.now.nodes.items }
-    requires few { length unfolded.now.nodes.items ≤ 16384 }
+    requires few { length unfolded.now.nodes.items ≤ most_nodes }
     requires passed { length passed.now ≡ node }
     requires low { All IsLow passed.now }
     requires insn { insn_of program.now (point_at unfolded.now.nodes.items node) ≡ Some insn.now }

@@ -154,7 +154,7 @@ fn shifts_openly(kinds: &Kinds, insn: &Insn, src: Src) -> bool
     }
 }
 
-/// Whether a result stands a row behind what is read: of arithmetic that carries, where it is no move of a pointer, of shifts by a count that
+/// Whether a result stands a row after what is read: of arithmetic that carries, where it is no move of a pointer, of shifts by a count that
 /// is not known, of helpers, of loads from entries, and of old values.
 pub fn takes_stage(kinds: &Kinds, after: &Kinds, insn: &Insn) -> bool
     requires { IsInsn insn.now }

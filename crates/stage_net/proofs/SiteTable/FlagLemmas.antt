@@ -1,29 +1,21 @@
 -- Flags of cells, one after another.
 use Rattle.std.specs.Prelude.{◌==◌, Contains}
 use Rattle.std.specs.List.{list_any}
-use Rattle.std.proofs.Common.{◌≡◌, ◌∙◌, ◌⊎◌, inl, inr, ℕ, zero, suc, ◌+◌, ◌*◌, ◌<◌, ◌≤◌, Bool, true, false, List, [], ◌∷◌, ◌++◌, length, map, get_or, refl, sym, ap, subst, arith, slice_index}
+use Rattle.std.proofs.Common.{◌≡◌, ◌∙◌, ◌⊎◌, inl, inr, ℕ, ◌+◌, ◌*◌, ◌<◌, ◌≤◌, Bool, true, false, List, [], ◌∷◌, ◌++◌, length, refl, sym, ap, subst, arith, slice_index}
 use Rattle.std.proofs.lemmas.Bool.{eqb-true, eqb-false, eq-eqb}
-use Rattle.std.proofs.lemmas.List.{get_or-map, get_or_push, get_or_append_left}
-use Rattle.hazard_core.specs.cell_core.declared.cell.Cell.{Cell}
+use Rattle.std.proofs.lemmas.List.{get_or_push, get_or_append_left}
+use Rattle.block_core.proofs.list_laws_laws.BoolLaws.{either_of, left_or, right_or}
 use Rattle.hazard_core.specs.cell_core.declared.operator.Operator.{Operator}
-use Rattle.hazard_core.specs.cell_core.Cells.{CellView, cell_at, no_cell, is_read}
+use Rattle.hazard_core.specs.cell_core.Cells.{CellView, cell_at, is_read}
 use Rattle.hazard_core.specs.cell_core.Formed.{takes, AreFormed}
 use Rattle.hazard_core.specs.cell_core.Rows.{taken_by}
 use Rattle.hazard_core.specs.cell_core.Sites.{ProgramView}
-use Rattle.hazard_core.specs.cell_core.View.{cell_of}
 use Rattle.row_net.specs.Needed.{flag}
+use Rattle.row_net.proofs.FlagLaws.{marked_inside}
 use Rattle.stage_net.specs.SiteTable.Parts.{IsPart, Taken, Read, AreParts, is_part}
 use Rattle.stage_net.specs.SiteTable.Parts as parts
 use Rattle.stage_net.specs.SiteTable.Pointing.{AreFlagged, IsFlagged}
-use Rattle.stage_net.proofs.SiteTable.ListLemmas.{left_or, right_or, either_of, any_of, of_any}
-
-pub cell_is : (xs : List Cell) (n : ℕ) (c : Cell) → n < length xs → c ≡ get_or xs n c → cell_at (map cell_of xs) n ≡ cell_of c
-cell_is xs n c inside is = get_or-map cell_of xs n c no_cell inside ∙ ap cell_of (sym is)
-
-pub flagged_inside : (xs : List Bool) (k : ℕ) → flag xs k ≡ true → k < length xs
-flagged_inside [] k h = cc
-flagged_inside (x ∷ xs) zero h = omega arith
-flagged_inside (x ∷ xs) (suc k) h = omega (arith, flagged_inside xs k h)
+use Rattle.stage_net.proofs.SiteTable.ListLemmas.{any_of, of_any}
 
 -- one flag more
 pub flags_more : (f : ℕ → Bool) (xs more : List Bool) (n : ℕ) (b : Bool) → length xs ≡ n → ((k : ℕ) → k < n → flag xs k ≡ f k) → b ≡ f n → more ≡ xs ++ b ∷ [] → (k : ℕ) → k < n + 1 → flag more k ≡ f k
@@ -53,7 +45,7 @@ pub parts_are : (p : ProgramView) (flags : List Bool) → length flags ≡ lengt
 parts_are p flags count each = record {
   count = count;
   marked = λ k lt is. each k lt ∙ part_is p k is;
-  only = λ k h. let lt : k < length p.cells = omega (arith, count, flagged_inside flags k h) in is_of_part p k (sym (each k lt) ∙ h);
+  only = λ k h. let lt : k < length p.cells = omega (arith, count, marked_inside flags k h) in is_of_part p k (sym (each k lt) ∙ h);
 }
 
 -- ---- cells that may have pointers
@@ -92,5 +84,5 @@ flagged_are cells flags count each = record {
     wire = λ k lt e h. (each k lt).wire e h;
     phi = λ k n lt e l h. (each k lt).phi e (n, l, h);
   };
-  only = λ k h. let lt : k < length cells = omega (arith, count, flagged_inside flags k h) in (each k lt).only h;
+  only = λ k h. let lt : k < length cells = omega (arith, count, marked_inside flags k h) in (each k lt).only h;
 }

@@ -1,15 +1,12 @@
 -- Numbers that pass a test, in their order, and whether some of a list pass one.
-use Rattle.std.specs.Prelude.{◌==◌, ◌≢◌, ◌&&◌, not, Contains}
+use Rattle.std.specs.Prelude.{◌==◌, ◌≢◌, not, Contains}
 use Rattle.std.specs.List.{filter, list_any}
-use Rattle.std.proofs.Common.{◌≡◌, ◌∙◌, ℕ, zero, suc, ◌+◌, ◌<◌, ◌≤◌, Bool, true, false, ◌||◌, cond, All, List, [], ◌∷◌, ◌++◌, length, take, map, append-nil, refl, sym, ap, arith, slice_index, ◌⊎◌, inl, inr}
+use Rattle.std.proofs.Common.{◌≡◌, ◌∙◌, ℕ, zero, suc, ◌+◌, ◌<◌, ◌≤◌, Bool, true, false, ◌||◌, cond, All, List, [], ◌∷◌, ◌++◌, length, take, append-nil, refl, sym, ap, arith, slice_index, ◌⊎◌, inl, inr}
 use Rattle.std.proofs.lemmas.Bool.{eqb-true, eqb-false}
-use Rattle.std.proofs.lemmas.List.Elements.{filter-append, All-nil, All-cons, All-filter}
+use Rattle.std.proofs.lemmas.List.Elements.{filter-append, All-filter}
+use Rattle.block_core.proofs.list_laws_laws.BoolLaws.{either_of, left_or, right_or}
 use Rattle.hazard_core.specs.cell_core.Rows.{numbers}
-use Rattle.hazard_core.proofs.cell_core_laws.NumberLaws.{numbers_more}
-
-numbers_below : (most n from : ℕ) → from + n ≤ most → All (λ k. k < most) (numbers from n)
-numbers_below most zero from h = All-nil (λ k. k < most)
-numbers_below most (suc n) from h = All-cons (λ k. k < most) from (numbers (suc from) n) (omega arith) (numbers_below most n (suc from) (omega arith))
+use Rattle.hazard_core.proofs.cell_core_laws.NumberLaws.{numbers_more, numbers_below}
 
 differ : (t : Bool) → t ≡ false → t ≡ true → ⊥
 differ t f g = cc
@@ -71,24 +68,6 @@ module _ (q : ℕ → Bool) where
   kept_before n a i lt less h = before_from n 0 a i lt (omega arith) less h
 
 -- ---- whether some of a list pass a test
-pub any_map : {A B : Type 0} (q : B → Bool) (f : A → B) (xs : List A) → list_any q (map f xs) ≡ list_any (λ x. q (f x)) xs
-any_map q f [] = refl
-any_map q f (x ∷ xs) = ap (λ b. q (f x) || b) (any_map q f xs)
-
-or_true : (b : Bool) → (b || true) ≡ true
-or_true true = refl
-or_true false = refl
-
-pub left_or : (a b : Bool) → a ≡ true → (a || b) ≡ true
-left_or a b e = rw e refl
-
-pub right_or : (a b : Bool) → b ≡ true → (a || b) ≡ true
-right_or true b e = refl
-right_or false b e = e
-
-pub either_of : (a b : Bool) → (a || b) ≡ true → (a ≡ true) ⊎ (b ≡ true)
-either_of true b e = inl refl
-either_of false b e = inr e
 
 -- one element that passes
 pub any_of : {A : Type 0} (q : A → Bool) (xs : List A) (x : A) → Contains xs x → q x ≡ true → list_any q xs ≡ true
@@ -105,13 +84,6 @@ of_any q (y ∷ xs) h = by_cases (either_of (q y) (list_any q xs) h) (of_any q x
     by_cases (inr e) rest = let r = rest e in (r.0, (suc r.1.0, omega (arith, r.1.1), r.1.2), r.2)
 
 -- ---- tests
-pub both_of : (a b : Bool) → (a && b) ≡ true → (a ≡ true) × (b ≡ true)
-both_of true b e = (refl, e)
-both_of false b e = cc
-
-pub both : (a b : Bool) → a ≡ true → b ≡ true → (a && b) ≡ true
-both a b e f = rw (e, f) refl
-
 pub not_of : (b : Bool) → not b ≡ true → b ≡ false
 not_of true e = cc
 not_of false e = refl

@@ -12,7 +12,7 @@ use Rattle.overlay_net.specs.cell_nets.Operands.{number_in, IsOperand, IsNarrow,
 use Rattle.overlay_net.specs.cell_nets.Wires.{HasBits}
 use Rattle.hazard_core.specs.declared.pointer.Pointer.{Pointer}
 use Rattle.hazard_core.specs.declared.pointer.Pointer.TheVariants.{Null}
-use Rattle.hazard_core.specs.Held.{Held, held_value, pointer_in, found_cell, answer_cell}
+use Rattle.hazard_core.specs.StageValues.{StageValues, stage_value, pointer_in, found_cell, answer_cell}
 use Rattle.overlay_net.specs.SiteOperands.Pointers.{pointer_number}
 use Rattle.overlay_net.specs.SiteOperands.Sites.{SiteOperands, all_of, ShowsAsked, ShowsSite}
 use Rattle.row_net.specs.Table.{Stands, Holds}
@@ -85,19 +85,19 @@ module _ {N : Type 0} (p : ProgramView) (table pointers : List (Option (Operand 
       (All-cons Q own.answer (own.pointer ∷ own.key ++ own.operands) (at_cell table Q none cells (answer_cell p.cells j))
       (All-cons Q own.pointer (own.key ++ own.operands) (at_index pointers Q none those s.operands (pointer_operand s.act)) (All-append Q own.key own.operands (at_cells table Q none cells s.key) (at_cells table Q none cells s.operands)))))
 
-  own_asked : (v : Env N) (h : Held) → Holds v table (held_value h) → HoldsPointers v pointers (pointer_in h) → HasAsked table pointers h (site_at p.sites j) → ShowsAsked v p h j own
+  own_asked : (v : Env N) (h : StageValues) → Holds v table (stage_value h) → HoldsPointers v pointers (pointer_in h) → HasAsked table pointers h (site_at p.sites j) → ShowsAsked v p h j own
   own_asked v h cells those has = record {
-    key = cells_shown v table (held_value h) (site_at p.sites j).key cells has.key;
-    operands = cells_shown v table (held_value h) (site_at p.sites j).operands cells has.operands;
+    key = cells_shown v table (stage_value h) (site_at p.sites j).key cells has.key;
+    operands = cells_shown v table (stage_value h) (site_at p.sites j).operands cells has.operands;
     pointer = access_shown v pointers (pointer_in h) (site_at p.sites j).operands (pointer_operand (site_at p.sites j).act) those has.pointer;
   }
 
-  own_shown : (v : Env N) (h : Held) → Holds v table (held_value h) → HoldsPointers v pointers (pointer_in h) → HasSite table pointers p h j → ShowsSite v p h j own
+  own_shown : (v : Env N) (h : StageValues) → Holds v table (stage_value h) → HoldsPointers v pointers (pointer_in h) → HasSite table pointers p h j → ShowsSite v p h j own
   own_shown v h cells those has = record {
     asked = own_asked v h cells those has.asked;
-    guard = cell_shown v table (held_value h) (site_at p.sites j).guard cells has.guard;
+    guard = cell_shown v table (stage_value h) (site_at p.sites j).guard cells has.guard;
     found = pointer_shown v pointers (pointer_in h) (found_cell p.cells j) those has.found;
-    answer = cell_shown v table (held_value h) (answer_cell p.cells j) cells has.answer;
+    answer = cell_shown v table (stage_value h) (answer_cell p.cells j) cells has.answer;
   }
 
   own_is : IsSiteOf p table pointers j own

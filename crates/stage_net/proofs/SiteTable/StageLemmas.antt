@@ -4,6 +4,7 @@ use Rattle.std.specs.List.{filter, list_any}
 use Rattle.std.proofs.Common.{◌≡◌, ◌⊎◌, inl, inr, ℕ, zero, suc, ◌-◌, ◌<◌, ◌≤◌, Bool, true, false, All, List, length, take, get_or, refl, subst, arith, slice_index}
 use Rattle.std.proofs.lemmas.Bool.{eqb-true, eqb-false, eq-eqb, le-leb, leb-true, lt-ltb, ltb-true}
 use Rattle.std.proofs.lemmas.List.Elements.{All-weaker, Contains-get_or, filter_passes}
+use Rattle.block_core.proofs.list_laws_laws.BoolLaws.{both_of, either_of, left_or, right_or, and_is}
 use Rattle.hazard_core.specs.cell_core.declared.operator.Operator.{Operator}
 use Rattle.hazard_core.specs.cell_core.declared.operator.Operator.TheVariants.{Wire, Phi, Found}
 use Rattle.hazard_core.specs.cell_core.Cells.{CellView, cell_at}
@@ -18,14 +19,14 @@ use Rattle.row_net.specs.Lists.{varies, is_made, made_cells, ArePlaced, CellsAre
 use Rattle.row_net.specs.Table.{is_constant, is_number}
 use Rattle.row_net.specs.PlaceNet.Place.{width_at}
 use Rattle.row_net.specs.SitePlace.Pointing.{Takes, HoldsOf, is_edge}
+use Rattle.row_net.proofs.FlagLaws.{marked_inside}
 use Rattle.stage_net.specs.SiteTable.Lists.{goes_on, is_awaited, stays, is_computed, has_pointer, is_held, is_held_pointer, is_made_pointer, held_cells, held_pointers, made_pointers}
 use Rattle.stage_net.specs.SiteTable.Parts.{IsPart, AreParts}
 use Rattle.stage_net.specs.SiteTable.Parts as sites
 use Rattle.stage_net.specs.SiteTable.Pointing.{gives_pointer, AreFlagged}
 use Rattle.stage_net.specs.SiteTable.Staged.{IsStaged, Same, Outside, Before, IsPointed, AreStaged, IsMadeAt, IsHeldAt, AreLists, StagesArePlaced, ListsAreFormed}
 use Rattle.stage_net.specs.SiteTable.Staged as staged
-use Rattle.stage_net.proofs.SiteTable.ListLemmas.{kept_below, kept_in, kept_before, any_of, of_any, left_or, right_or, either_of, both_of, both, not_of, of_not, test}
-use Rattle.stage_net.proofs.SiteTable.FlagLemmas.{flagged_inside}
+use Rattle.stage_net.proofs.SiteTable.ListLemmas.{kept_below, kept_in, kept_before, any_of, of_any, not_of, of_not, test}
 
 -- ---- operators
 found_is : (o : Operator) → is_outside o ≡ true → gives_pointer o ≡ true → (j : ℕ) × (o ≡ Found j)
@@ -67,7 +68,7 @@ module _ (p : ProgramView) (plan : Plan) (needed parts points : List Bool) where
   of_computed at k h = let s = both_of (not (is_outside (here k).op)) (row k == at) h in (not_of (is_outside (here k).op) s.0, eqb-true (row k) at s.1)
 
   to_computed : (at k : ℕ) → is_outside (here k).op ≡ false → row k ≡ at → is_computed p plan at k ≡ true
-  to_computed at k o e = both (not (is_outside (here k).op)) (row k == at) (of_not (is_outside (here k).op) o) (eq-eqb (row k) at e)
+  to_computed at k o e = and_is (not (is_outside (here k).op)) (row k == at) (of_not (is_outside (here k).op) o) (eq-eqb (row k) at e)
 
   stays_row : (at k : ℕ) → stays p plan parts at k ≡ true → row k ≤ at
   stays_row at k h = leb-true (row k) at (both_of (nat_le (row k) at) (goes_on p plan at k || is_awaited plan parts at k) h).0
@@ -104,21 +105,21 @@ module _ (p : ProgramView) (plan : Plan) (needed parts points : List Bool) where
   are_lists = record { made = made_at (varies p needed); held = held_at (varies p needed); wide = held_wide; pointers_made = made_at (has_pointer needed points); pointers_held = held_at (has_pointer needed points) }
 
   module _ (rise : RowsRise) (formed : AreFormed p.cells) (is : IsPlan p plan) (are : AreNeeded p needed) (of : AreParts p parts) (flagged : AreFlagged p.cells points) where
-    -- it is taken in this row or behind it, or packets have not committed and it is a site's
+    -- it is taken in this row or after it, or packets have not committed and it is a site's
     abbrev Far : ℕ → ℕ → Type 0
     Far at k = (at ≤ kept k) ⊎ ((at ≤ plan.commit) × (flag parts k ≡ true))
 
     needed_inside : (k : ℕ) → flag needed k ≡ true → k < n
-    needed_inside k h = omega (arith, are.count, flagged_inside needed k h)
+    needed_inside k h = omega (arith, are.count, marked_inside needed k h)
 
     -- ---- which cells are held
     stays_on : (at k : ℕ) → row k ≤ at → goes_on p plan at k ≡ true → stays p plan parts at k ≡ true
-    stays_on at k le h = both (nat_le (row k) at) (goes_on p plan at k || is_awaited plan parts at k) (le-leb (row k) at le) (left_or (goes_on p plan at k) (is_awaited plan parts at k) h)
+    stays_on at k le h = and_is (nat_le (row k) at) (goes_on p plan at k || is_awaited plan parts at k) (le-leb (row k) at le) (left_or (goes_on p plan at k) (is_awaited plan parts at k) h)
 
     stays_for : (at k : ℕ) → row k ≤ at → at ≤ plan.commit → flag parts k ≡ true → stays p plan parts at k ≡ true
     stays_for at k le c h =
-        both (nat_le (row k) at) (goes_on p plan at k || is_awaited plan parts at k) (le-leb (row k) at le)
-        (right_or (goes_on p plan at k) (is_awaited plan parts at k) (both (nat_le at plan.commit) (flag parts k) (le-leb at plan.commit c) h))
+        and_is (nat_le (row k) at) (goes_on p plan at k || is_awaited plan parts at k) (le-leb (row k) at le)
+        (right_or (goes_on p plan at k) (is_awaited plan parts at k) (and_is (nat_le at plan.commit) (flag parts k) (le-leb at plan.commit c) h))
 
     stays_far : (at k : ℕ) → k < n → stays p plan parts at k ≡ true → Far at k
     stays_far at k lt h = by_end (either_of (goes_on p plan at k) (is_awaited plan parts at k) (both_of (nat_le (row k) at) (goes_on p plan at k || is_awaited plan parts at k) h).1)
@@ -141,7 +142,7 @@ module _ (p : ProgramView) (plan : Plan) (needed parts points : List Bool) where
     earlier q at k lt h le other far =
         let less : row k < at = omega arith in
         let back : suc (at - 1) ≡ at = omega arith in
-        (at - 1, back, kept_in (λ k. q k && stays p plan parts (at - 1) k) n k lt (both (q k) (stays p plan parts (at - 1) k) h (by_far far)))
+        (at - 1, back, kept_in (λ k. q k && stays p plan parts (at - 1) k) n k lt (and_is (q k) (stays p plan parts (at - 1) k) h (by_far far)))
       where
         by_far : Far at k → stays p plan parts (at - 1) k ≡ true
         by_far (inl f) =
@@ -162,7 +163,7 @@ module _ (p : ProgramView) (plan : Plan) (needed parts points : List Bool) where
         where
           by_source : varies p needed k ≡ true → row k ≡ at → (is_outside (here k).op ≡ true) ⊎ (is_outside (here k).op ≡ false) → IsStaged p plan needed parts at k ⊎ Here
           by_source v e (inl o) = inl (Outside marked o e)
-          by_source v e (inr o) = inr (made (both (varies p needed k) (is_computed p plan at k) v (to_computed at k o e)))
+          by_source v e (inr o) = inr (made (and_is (varies p needed k) (is_computed p plan at k) v (to_computed at k o e)))
 
           by_row : varies p needed k ≡ true → (t : Bool) → (row k == at) ≡ t → IsStaged p plan needed parts at k ⊎ Here
           by_row v true e = by_source v (eqb-true (row k) at e) (test (is_outside (here k).op))
@@ -170,19 +171,19 @@ module _ (p : ProgramView) (plan : Plan) (needed parts points : List Bool) where
 
           by_kind : (is_constant (here k) ≡ true) ⊎ (is_constant (here k) ≡ false) → IsStaged p plan needed parts at k ⊎ Here
           by_kind (inl e) = inl (Same marked e)
-          by_kind (inr e) = by_row (both (flag needed k) (not (is_constant (here k))) marked (of_not (is_constant (here k)) e)) (row k == at) refl
+          by_kind (inr e) = by_row (and_is (flag needed k) (not (is_constant (here k))) marked (of_not (is_constant (here k)) e)) (row k == at) refl
 
       in_pointers : (is_made_pointer p plan needed points at k ≡ true → Here) → IsPointed p plan needed parts points at k ⊎ Here
       in_pointers made = by_flag (test (flag points k))
         where
           by_source : flag points k ≡ true → row k ≡ at → (is_outside (here k).op ≡ true) ⊎ (is_outside (here k).op ≡ false) → IsPointed p plan needed parts points at k ⊎ Here
           by_source f e (inl o) = let j = found_is (here k).op o (flagged.only k f) in inl (staged.Found j.0 marked j.1 e)
-          by_source f e (inr o) = inr (made (both (has_pointer needed points k) (is_computed p plan at k) (both (flag needed k) (flag points k) marked f) (to_computed at k o e)))
+          by_source f e (inr o) = inr (made (and_is (has_pointer needed points k) (is_computed p plan at k) (and_is (flag needed k) (flag points k) marked f) (to_computed at k o e)))
 
           by_row : flag points k ≡ true → (t : Bool) → (row k == at) ≡ t → IsPointed p plan needed parts points at k ⊎ Here
           by_row f true e = by_source f (eqb-true (row k) at e) (test (is_outside (here k).op))
           by_row f false e =
-              let b = earlier (has_pointer needed points) at k inside (both (flag needed k) (flag points k) marked f) le (eqb-false (row k) at e) far in
+              let b = earlier (has_pointer needed points) at k inside (and_is (flag needed k) (flag points k) marked f) le (eqb-false (row k) at e) far in
               inl (staged.Kept b.0 b.1 b.2)
 
           by_flag : (flag points k ≡ true) ⊎ (flag points k ≡ false) → IsPointed p plan needed parts points at k ⊎ Here
@@ -225,13 +226,13 @@ module _ (p : ProgramView) (plan : Plan) (needed parts points : List Bool) where
         by_kind : (is_constant (here k) ≡ true) ⊎ (is_constant (here k) ≡ false) → (is_constant (here k) ≡ true) ⊎ Contains (held_cells p plan needed parts at) k
         by_kind (inl e) = inl e
         by_kind (inr e) =
-            inr (kept_in (is_held p plan needed parts at) n k (needed_inside k marked) (both (varies p needed k) (stays p plan parts at k) (both (flag needed k) (not (is_constant (here k))) marked (of_not (is_constant (here k)) e)) h))
+            inr (kept_in (is_held p plan needed parts at) n k (needed_inside k marked) (and_is (varies p needed k) (stays p plan parts at k) (and_is (flag needed k) (not (is_constant (here k))) marked (of_not (is_constant (here k)) e)) h))
 
     in_held_pointers : (at k : ℕ) → flag needed k ≡ true → stays p plan parts at k ≡ true → (flag points k ≡ false) ⊎ Contains (held_pointers p plan needed parts points at) k
     in_held_pointers at k marked h = by_flag (test (flag points k))
       where
         by_flag : (flag points k ≡ true) ⊎ (flag points k ≡ false) → (flag points k ≡ false) ⊎ Contains (held_pointers p plan needed parts points at) k
-        by_flag (inl f) = inr (kept_in (is_held_pointer p plan needed parts points at) n k (needed_inside k marked) (both (has_pointer needed points k) (stays p plan parts at k) (both (flag needed k) (flag points k) marked f) h))
+        by_flag (inl f) = inr (kept_in (is_held_pointer p plan needed parts points at) n k (needed_inside k marked) (and_is (has_pointer needed points k) (stays p plan parts at k) (and_is (flag needed k) (flag points k) marked f) h))
         by_flag (inr f) = inl f
 
     of_made : (at i : ℕ) → i < length (made at) → is_made p plan needed at (slice_index (made at) i) ≡ true
@@ -293,7 +294,7 @@ module _ (p : ProgramView) (plan : Plan) (needed parts points : List Bool) where
         in_held plan.last k (are.used k lt (needs.Answered k there))
         (stays_on plan.last k le
         (right_or (nat_lt plan.last (kept k)) (plan.last == plan.last && list_any (λ c. c == k) (answer_cells p))
-        (both (plan.last == plan.last) (list_any (λ c. c == k) (answer_cells p)) (eq-eqb plan.last plan.last refl) (any_of (λ c. c == k) (answer_cells p) k there (eq-eqb k k refl)))))
+        (and_is (plan.last == plan.last) (list_any (λ c. c == k) (answer_cells p)) (eq-eqb plan.last plan.last refl) (any_of (λ c. c == k) (answer_cells p) k there (eq-eqb k k refl)))))
 
     used_part : (k : ℕ) → IsPart p k → IsUsed p k
     used_part k (sites.Taken s there takes) = needs.AtSite k s there takes

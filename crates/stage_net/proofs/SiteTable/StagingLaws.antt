@@ -10,10 +10,10 @@ use Rattle.row_plan.specs.Plan.{Plan}
 use Rattle.row_net.specs.Lists.{made_cells}
 use Rattle.row_net.specs.Needed.{AreNeeded, flag}
 use Rattle.row_net.specs.SitePlace.Pointing.{Takes, HoldsOf, is_edge}
+use Rattle.row_net.proofs.FlagLaws.{marked_inside}
 use Rattle.stage_net.specs.SiteTable.Lists.{held_cells, held_pointers, made_pointers}
 use Rattle.stage_net.specs.SiteTable.Staged.{IsStaged, Same, Outside, Before, IsPointed, AreStaged, AreAtHand}
 use Rattle.stage_net.specs.SiteTable.Staged as staged
-use Rattle.stage_net.proofs.SiteTable.FlagLemmas.{flagged_inside}
 
 module _ (E F Q R : ℕ → Type 0) (cells : (i : ℕ) → E i → F i) (pointers : (i : ℕ) → Q i → R i) where
   holds_weaker : (b : Bool) (i : ℕ) → HoldsOf E Q b i → HoldsOf F R b i
@@ -27,7 +27,7 @@ module _ (E F Q R : ℕ → Type 0) (cells : (i : ℕ) → E i → F i) (pointer
 
 module _ (p : ProgramView) (plan : Plan) (needed parts points : List Bool) (at : ℕ) (Has HasPointer : ℕ → Type 0) (are : AreNeeded p needed) (hand : AreAtHand p plan needed parts points at Has HasPointer) where
   inside : (k : ℕ) → flag needed k ≡ true → k < length p.cells
-  inside k h = omega (arith, are.count, flagged_inside needed k h)
+  inside k h = omega (arith, are.count, marked_inside needed k h)
 
   staged_has : (k : ℕ) → IsStaged p plan needed parts at k → Has k
   staged_has k (Same marked e) = hand.same k (inside k marked) e

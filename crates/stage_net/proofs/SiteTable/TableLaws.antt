@@ -1,4 +1,4 @@
--- What the tables behind a place show of a packet.
+-- What the tables after a place show of a packet.
 use Rattle.std.specs.Prelude.{◌==◌, Option, Contains, nat_lt}
 use Rattle.std.proofs.Common.{◌≡◌, ◌∙◌, ◌⊎◌, inl, inr, ℕ, zero, suc, ◌+◌, ◌^◌, ◌<◌, ◌≤◌, Bool, true, false, ◌||◌, List, [], ◌∷◌, ◌-◌, length, length-append, map as map_list, get_or, refl, sym, ap, subst, arith, slice_index, lit<}
 use Rattle.std.proofs.lemmas.Bool.{eqb-true, ltb-true, ltb-false, lt-ltb}
@@ -23,7 +23,7 @@ use Rattle.overlay_net.specs.cell_nets.Operands.{number_in, IsOperand, IsAvailab
 use Rattle.overlay_net.specs.cell_nets.Wires.{HasBits}
 use Rattle.hazard_core.specs.declared.pointer.Pointer.{Pointer}
 use Rattle.hazard_core.specs.declared.pointer.Pointer.TheVariants.{Null}
-use Rattle.hazard_core.specs.Held.{Held, held_value, pointer_in, found_cell, answer_cell, is_found_of, is_answer_of}
+use Rattle.hazard_core.specs.StageValues.{StageValues, stage_value, pointer_in, found_cell, answer_cell, is_found_of, is_answer_of}
 use Rattle.hazard_core.specs.Keeping.{SameCell, AreAlike}
 use Rattle.row_plan.specs.Plan.{Plan}
 use Rattle.row_net.specs.Needed.{flag}
@@ -87,7 +87,7 @@ module _ {P : Type 0} (part : P) (cells : List CellView) (bits : ℕ) (held poin
       (shows (length held + i) (omega (arith, all_words, lt)) ∙ get_or-append_right (words_of cells val held) (map_list (pointer_word bits at) pointers) (length held) (length held + i) nothing count (omega arith)
       ∙ ap (λ j. get_or (map_list (pointer_word bits at) pointers) j nothing) z ∙ get_or-map (pointer_word bits at) pointers i 0 nothing lt)
 
-  -- the tables behind them show what the tables before and the registers do
+  -- the tables after them show what the tables before and the registers do
   module _ (constants plain : List (Option (Operand (Name P)))) (t : StageTables (Name P)) (behind : AreBehind part cells bits held pointers constants plain t) where
     pub cells_hold : Holds v constants val → Holds v t.table.items val
     cells_hold h = behind.table.value v val cell_word h
@@ -110,30 +110,30 @@ any_packet : PacketIn
 any_packet = record { frame = []; ifindex = 0; time = 0 }
 
 -- a packet that holds the values of its cells holds numbers
-pub value_is_number : (packet : PacketIn) (h : Held) (c : CellView) (k n : ℕ) → c.op ≡ Constant n → held_value h k ≡ value packet (held_value h) c → held_value h k ≡ bits_from n c.from c.width
-value_is_number packet h c k n e is = is ∙ ap (λ o. bits_from (number packet o (map_list (held_value h) c.ins)) c.from c.width) e
+pub value_is_number : (packet : PacketIn) (h : StageValues) (c : CellView) (k n : ℕ) → c.op ≡ Constant n → stage_value h k ≡ value packet (stage_value h) c → stage_value h k ≡ bits_from n c.from c.width
+value_is_number packet h c k n e is = is ∙ ap (λ o. bits_from (number packet o (map_list (stage_value h) c.ins)) c.from c.width) e
 
-module _ (p : ProgramView) (decls : List MapDecl) (row : ℕ → ℕ) (points : List Bool) (most r : ℕ) (h : Held) (early : AreEarly p row) (fits : FitsRows p decls row points most r h) (some : 0 < r) (holds : HoldsConstants p row r h) where
+module _ (p : ProgramView) (decls : List MapDecl) (row : ℕ → ℕ) (points : List Bool) (most r : ℕ) (h : StageValues) (early : AreEarly p row) (fits : FitsRows p decls row points most r h) (some : 0 < r) (holds : HoldsConstants p row r h) where
   -- of a number
-  number_held : (k n : ℕ) → k < length p.cells → (cell_at p.cells k).op ≡ Constant n → held_value h k ≡ bits_from n (cell_at p.cells k).from (cell_at p.cells k).width
+  number_held : (k n : ℕ) → k < length p.cells → (cell_at p.cells k).op ≡ Constant n → stage_value h k ≡ bits_from n (cell_at p.cells k).from (cell_at p.cells k).width
   number_held k n lt e = by_row (nat_lt (row k) r) refl
     where
-      by_early : (row k < r → ⊥) → (row k ≡ 0) ⊎ (constant_number (cell_at p.cells k) ≡ 0) → held_value h k ≡ bits_from n (cell_at p.cells k).from (cell_at p.cells k).width
+      by_early : (row k < r → ⊥) → (row k ≡ 0) ⊎ (constant_number (cell_at p.cells k) ≡ 0) → stage_value h k ≡ bits_from n (cell_at p.cells k).from (cell_at p.cells k).width
       by_early late (inl z) = absurd (late (omega (arith, z)))
       by_early late (inr z) =
           let far : r ≤ row k = omega (arith, late) in
           let same : constant_number (cell_at p.cells k) ≡ bits_from n (cell_at p.cells k).from (cell_at p.cells k).width = ap (λ o. constant_number (record { op = o; ins = (cell_at p.cells k).ins; width = (cell_at p.cells k).width; from = (cell_at p.cells k).from })) e in
           (fits.later k far).0 ∙ sym z ∙ same
 
-      by_row : (b : Bool) → nat_lt (row k) r ≡ b → held_value h k ≡ bits_from n (cell_at p.cells k).from (cell_at p.cells k).width
+      by_row : (b : Bool) → nat_lt (row k) r ≡ b → stage_value h k ≡ bits_from n (cell_at p.cells k).from (cell_at p.cells k).width
       by_row true t = holds k n lt (ltb-true (row k) r t) e
       by_row false t = by_early (λ l. differ (nat_lt (row k) r) t (lt-ltb (row k) r l)) (early k lt)
         where
           differ : (b : Bool) → b ≡ false → b ≡ true → ⊥
           differ b f g = cc
 
-  pub constants_hold : {N : Type 0} (v : Env N) (constants : List (Option (Operand N))) → AreConstants p.cells constants → Holds v constants (held_value h)
-  constants_hold v constants are k a s = are.value v any_packet (held_value h) k a s ∙ sym (by_kind ((cell_at p.cells k).width == 0) refl)
+  pub constants_hold : {N : Type 0} (v : Env N) (constants : List (Option (Operand N))) → AreConstants p.cells constants → Holds v constants (stage_value h)
+  constants_hold v constants are k a s = are.value v any_packet (stage_value h) k a s ∙ sym (by_kind ((cell_at p.cells k).width == 0) refl)
     where
       within : k < length p.cells
       within = omega (arith, are.fits.count, inside constants k s)
@@ -143,17 +143,17 @@ module _ (p : ProgramView) (decls : List MapDecl) (row : ℕ → ℕ) (points : 
           inside (x ∷ xs) zero s = omega arith
           inside (x ∷ xs) (suc i) s = omega (arith, inside xs i s)
 
-      of_number : is_number (cell_at p.cells k).op ≡ true → held_value h k ≡ value any_packet (held_value h) (cell_at p.cells k)
+      of_number : is_number (cell_at p.cells k).op ≡ true → stage_value h k ≡ value any_packet (stage_value h) (cell_at p.cells k)
       of_number t =
           let c = number_is (cell_at p.cells k).op t in
           number_held k c.0 within c.1
-          ∙ ap (λ o. bits_from (number any_packet o (map_list (held_value h) (cell_at p.cells k).ins)) (cell_at p.cells k).from (cell_at p.cells k).width) (sym c.1)
+          ∙ ap (λ o. bits_from (number any_packet o (map_list (stage_value h) (cell_at p.cells k).ins)) (cell_at p.cells k).from (cell_at p.cells k).width) (sym c.1)
 
-      by_kind : (b : Bool) → ((cell_at p.cells k).width == 0) ≡ b → held_value h k ≡ value any_packet (held_value h) (cell_at p.cells k)
+      by_kind : (b : Bool) → ((cell_at p.cells k).width == 0) ≡ b → stage_value h k ≡ value any_packet (stage_value h) (cell_at p.cells k)
       by_kind true e =
           let z = eqb-true (cell_at p.cells k).width 0 e in
-          below_none (held_value h k) (cell_at p.cells k).width z (fits.widths k)
-          ∙ sym (no_bits (number any_packet (cell_at p.cells k).op (map_list (held_value h) (cell_at p.cells k).ins)) (cell_at p.cells k).from (cell_at p.cells k).width z)
+          below_none (stage_value h k) (cell_at p.cells k).width z (fits.widths k)
+          ∙ sym (no_bits (number any_packet (cell_at p.cells k).op (map_list (stage_value h) (cell_at p.cells k).ins)) (cell_at p.cells k).from (cell_at p.cells k).width z)
       by_kind false e = of_number (ap (λ b. b || is_number (cell_at p.cells k).op) (sym e) ∙ are.only k a s)
 
 -- ---- a place
@@ -166,56 +166,56 @@ answer_read : (o : Operator) (j : ℕ) → is_answer_of j o ≡ true → is_read
 answer_read (Answer i) j h = refl
 answer_read o j h = cc
 
-module _ {P : Type 0} (part : P) (p : ProgramView) (decls : List MapDecl) (plan : Plan) (needed parts points : List Bool) (bits most k : ℕ) (t : StageTables (Name P)) (v : Env (Name P)) (h : Held) (stand : StandBehind part p plan needed parts points bits k t)
+module _ {P : Type 0} (part : P) (p : ProgramView) (decls : List MapDecl) (plan : Plan) (needed parts points : List Bool) (bits most k : ℕ) (t : StageTables (Name P)) (v : Env (Name P)) (h : StageValues) (stand : StandBehind part p plan needed parts points bits k t)
     (shows : ShowsPacket v part p decls plan needed parts points bits most k h) where
   -- what stands for cells and for pointers has the numbers that the packet holds
-  pub table_holds : AreEarly p (slice_index plan.rows) → Holds v t.table.items (held_value h)
+  pub table_holds : AreEarly p (slice_index plan.rows) → Holds v t.table.items (stage_value h)
   table_holds early =
-      cells_hold part p.cells bits (held_cells p plan needed parts k) (held_pointers p plan needed parts points k) v (held_value h) (pointer_in h) shows.registers stand.constants (map_list plain_of points) t stand.behind
+      cells_hold part p.cells bits (held_cells p plan needed parts k) (held_pointers p plan needed parts points k) v (stage_value h) (pointer_in h) shows.registers stand.constants (map_list plain_of points) t stand.behind
       (constants_hold p decls (slice_index plan.rows) points most (suc k) h early shows.fits (omega arith) shows.constants v stand.constants stand.are_constants)
 
   pub pointers_show : HoldsPointers v t.pointers.items (pointer_in h)
   pointers_show =
-      pointers_hold part p.cells bits (held_cells p plan needed parts k) (held_pointers p plan needed parts points k) v (held_value h) (pointer_in h) shows.registers stand.constants (map_list plain_of points) t stand.behind
+      pointers_hold part p.cells bits (held_cells p plan needed parts k) (held_pointers p plan needed parts points k) v (stage_value h) (pointer_in h) shows.registers stand.constants (map_list plain_of points) t stand.behind
       (plain_holds v points (pointer_in h) shows.fits.plain)
 
-  -- They have those of a packet, too, that holds the same of these rows and later ones besides, as behind the next row.
-  module _ (lists : AreLists p plan needed parts points) (g : Held) (alike : AreAlike p (slice_index plan.rows) (suc k) h g) (r : ℕ) (fits : FitsRows p decls (slice_index plan.rows) points most r g) where
+  -- They have those of a packet, too, that holds the same of these rows and later ones besides, as after the next row.
+  module _ (lists : AreLists p plan needed parts points) (g : StageValues) (alike : AreAlike p (slice_index plan.rows) (suc k) h g) (r : ℕ) (fits : FitsRows p decls (slice_index plan.rows) points most r g) where
     held_alike : (c : ℕ) → slice_index plan.rows c ≤ k → SameCell h g c
     held_alike c le = alike c (inl (omega (arith, le)))
 
-    pub next_table_holds : AreEarly p (slice_index plan.rows) → 0 < r → HoldsConstants p (slice_index plan.rows) r g → Holds v t.table.items (held_value g)
+    pub next_table_holds : AreEarly p (slice_index plan.rows) → 0 < r → HoldsConstants p (slice_index plan.rows) r g → Holds v t.table.items (stage_value g)
     next_table_holds early some constants =
-        stand.behind.table.value v (held_value g)
-        (λ i lt. cell_word part p.cells bits (held_cells p plan needed parts k) (held_pointers p plan needed parts points k) v (held_value h) (pointer_in h) shows.registers i lt ∙ (held_alike (get_or (held_cells p plan needed parts k) i 0) (lists.held k i 0 lt).row).value)
+        stand.behind.table.value v (stage_value g)
+        (λ i lt. cell_word part p.cells bits (held_cells p plan needed parts k) (held_pointers p plan needed parts points k) v (stage_value h) (pointer_in h) shows.registers i lt ∙ (held_alike (get_or (held_cells p plan needed parts k) i 0) (lists.held k i 0 lt).row).value)
         (constants_hold p decls (slice_index plan.rows) points most r g early fits some constants v stand.constants stand.are_constants)
 
     pub next_pointers_show : HoldsPointers v t.pointers.items (pointer_in g)
     next_pointers_show =
         stand.behind.pointers.value v (pointer_in g)
-        (λ i lt. pointer_word_is part p.cells bits (held_cells p plan needed parts k) (held_pointers p plan needed parts points k) v (held_value h) (pointer_in h) shows.registers i lt
+        (λ i lt. pointer_word_is part p.cells bits (held_cells p plan needed parts k) (held_pointers p plan needed parts points k) v (stage_value h) (pointer_in h) shows.registers i lt
         ∙ ap pointer_number (held_alike (get_or (held_pointers p plan needed parts points k) i 0) (lists.pointers_held k i 0 lt).row).pointer) (plain_holds v points (pointer_in g) fits.plain)
 
   -- up to the place where packets commit the tables have all that sites take and read, but for what is 0
   module _ (placed : AreStaged p plan needed parts points) (are : AreParts p parts) (count : length points ≡ length p.cells) (early : k ≤ plan.commit) where
-    past_value : (c : ℕ) → length p.cells ≤ c → held_value h c ≡ 0
+    past_value : (c : ℕ) → length p.cells ≤ c → stage_value h c ≡ 0
     past_value c le = get_or_past h.values c 0 (omega (arith, shows.fits.values, le))
 
     past_pointer : (c : ℕ) → length p.cells ≤ c → pointer_in h c ≡ Null
     past_pointer c le = get_or_past h.pointers c Null (omega (arith, shows.fits.pointers, le))
 
-    value_there : (c : ℕ) → (c < length p.cells → IsPart p c) → HasValue t.table.items (held_value h) c
+    value_there : (c : ℕ) → (c < length p.cells → IsPart p c) → HasValue t.table.items (stage_value h) c
     value_there c of = by_end (nat_lt c (length p.cells)) refl
       where
-        by_list : c < length p.cells → (is_constant (cell_at p.cells c) ≡ true) ⊎ Contains (held_cells p plan needed parts k) c → HasValue t.table.items (held_value h) c
+        by_list : c < length p.cells → (is_constant (cell_at p.cells c) ≡ true) ⊎ Contains (held_cells p plan needed parts k) c → HasValue t.table.items (stage_value h) c
         by_list lt (inl e) = inl (stand.behind.table.grows c (stand.are_constants.known c lt e))
         by_list lt (inr e) = inl (All-contains (IsIn t.table.items) (held_cells p plan needed parts k) c stand.behind.table.taken e)
 
-        by_row : c < length p.cells → (b : Bool) → nat_lt k (slice_index plan.rows c) ≡ b → HasValue t.table.items (held_value h) c
+        by_row : c < length p.cells → (b : Bool) → nat_lt k (slice_index plan.rows c) ≡ b → HasValue t.table.items (stage_value h) c
         by_row lt true e = let far = ltb-true k (slice_index plan.rows c) e in inr (shows.fits.later c (omega (arith, far))).0
         by_row lt false e = let low = ltb-false k (slice_index plan.rows c) e in by_list lt (placed.sites k c early lt (are.marked c lt (of lt)) (omega (arith, low)))
 
-        by_end : (b : Bool) → nat_lt c (length p.cells) ≡ b → HasValue t.table.items (held_value h) c
+        by_end : (b : Bool) → nat_lt c (length p.cells) ≡ b → HasValue t.table.items (stage_value h) c
         by_end true e = let lt = ltb-true c (length p.cells) e in by_row lt (nat_lt k (slice_index plan.rows c)) refl
         by_end false e = let low = ltb-false c (length p.cells) e in inr (past_value c (omega (arith, low)))
 

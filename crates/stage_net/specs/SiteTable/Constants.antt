@@ -5,7 +5,7 @@ use Rattle.hazard_core.specs.cell_core.declared.operator.Operator.{Operator}
 use Rattle.hazard_core.specs.cell_core.declared.operator.Operator.TheVariants.{Constant}
 use Rattle.hazard_core.specs.cell_core.Cells.{CellView, cell_at, bits_from}
 use Rattle.hazard_core.specs.cell_core.Sites.{ProgramView}
-use Rattle.hazard_core.specs.Held.{Held, held_value}
+use Rattle.hazard_core.specs.StageValues.{StageValues, stage_value}
 use Rattle.row_plan.specs.Plan.{Plan}
 
 -- the number of a cell that is one, 0 for others
@@ -25,6 +25,6 @@ abbrev pub AreEarly : ProgramView → (ℕ → ℕ) → Type 0
 AreEarly p row = (k : ℕ) → k < length p.cells → (row k ≡ 0) ⊎ (constant_number (cell_at p.cells k) ≡ 0)
 
 -- Of the rows below r a packet holds the numbers.
-abbrev pub HoldsConstants : ProgramView → (ℕ → ℕ) → ℕ → Held → Type 0
+abbrev pub HoldsConstants : ProgramView → (ℕ → ℕ) → ℕ → StageValues → Type 0
 HoldsConstants p row r h =
-    (k n : ℕ) → k < length p.cells → row k < r → (cell_at p.cells k).op ≡ Constant n → held_value h k ≡ bits_from n (cell_at p.cells k).from (cell_at p.cells k).width
+    (k n : ℕ) → k < length p.cells → row k < r → (cell_at p.cells k).op ≡ Constant n → stage_value h k ≡ bits_from n (cell_at p.cells k).from (cell_at p.cells k).width

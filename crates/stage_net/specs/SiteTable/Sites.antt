@@ -10,7 +10,7 @@ use Rattle.overlay_net.specs.cell_nets.Operands.{IsOperand, IsNarrow, IsAvailabl
 use Rattle.hazard_core.specs.cell_core.Acts.{pointer_operand}
 use Rattle.hazard_core.specs.declared.pointer.Pointer.{Pointer}
 use Rattle.hazard_core.specs.declared.pointer.Pointer.TheVariants.{Null}
-use Rattle.hazard_core.specs.Held.{Held, held_value, pointer_in, found_cell, answer_cell}
+use Rattle.hazard_core.specs.StageValues.{StageValues, stage_value, pointer_in, found_cell, answer_cell}
 use Rattle.overlay_net.specs.SiteOperands.Sites.{SiteOperands, all_of, ShowsAsked, ShowsSite}
 use Rattle.row_net.specs.Table.{IsIn, IsTable, AreThere, Holds}
 use Rattle.row_net.specs.SitePlace.Pointing.{IsPointers, HoldsPointers}
@@ -46,16 +46,16 @@ abbrev pub HasPointer : {N : Type 0} → List (Option (Operand N)) → (ℕ → 
 HasPointer pointers at k = IsIn pointers k ⊎ (at k ≡ Null)
 
 -- of what a site asks, and of all its cells
-pub record HasAsked {N : Type 0} (table pointers : List (Option (Operand N))) (h : Held) (s : SiteView) : Type 0 where
-  pub key : All (HasValue table (held_value h)) s.key
-  pub operands : All (HasValue table (held_value h)) s.operands
+pub record HasAsked {N : Type 0} (table pointers : List (Option (Operand N))) (h : StageValues) (s : SiteView) : Type 0 where
+  pub key : All (HasValue table (stage_value h)) s.key
+  pub operands : All (HasValue table (stage_value h)) s.operands
   pub pointer : pointer_operand s.act < length s.operands → HasPointer pointers (pointer_in h) (slice_index s.operands (pointer_operand s.act))
 
-pub record HasSite {N : Type 0} (table pointers : List (Option (Operand N))) (p : ProgramView) (h : Held) (j : ℕ) : Type 0 where
+pub record HasSite {N : Type 0} (table pointers : List (Option (Operand N))) (p : ProgramView) (h : StageValues) (j : ℕ) : Type 0 where
   pub asked : HasAsked table pointers h (site_at p.sites j)
-  pub guard : HasValue table (held_value h) (site_at p.sites j).guard
+  pub guard : HasValue table (stage_value h) (site_at p.sites j).guard
   pub found : HasPointer pointers (pointer_in h) (found_cell p.cells j)
-  pub answer : HasValue table (held_value h) (answer_cell p.cells j)
+  pub answer : HasValue table (stage_value h) (answer_cell p.cells j)
 
 -- The operands of a site by two tables: they are operands, those of pointers of so many bits at most, they are there where the tables are, and they show what a
 -- packet holds where the tables do and have what is not 0.
@@ -65,5 +65,5 @@ pub record IsSiteOf {N : Type 0} (p : ProgramView) (table pointers : List (Optio
   pub found_narrow : (bits : ℕ) → IsPointers p.cells bits pointers → IsNarrow bits s.found
   pub pointer_narrow : (bits : ℕ) → IsPointers p.cells bits pointers → IsNarrow bits s.pointer
   pub there : (ins : List (Operand N)) → AreThere ins table → AreThere ins pointers → All (IsAvailable ins) (all_of s)
-  pub asked : (v : Env N) (h : Held) → Holds v table (held_value h) → HoldsPointers v pointers (pointer_in h) → HasAsked table pointers h (site_at p.sites j) → ShowsAsked v p h j s
-  pub shown : (v : Env N) (h : Held) → Holds v table (held_value h) → HoldsPointers v pointers (pointer_in h) → HasSite table pointers p h j → ShowsSite v p h j s
+  pub asked : (v : Env N) (h : StageValues) → Holds v table (stage_value h) → HoldsPointers v pointers (pointer_in h) → HasAsked table pointers h (site_at p.sites j) → ShowsAsked v p h j s
+  pub shown : (v : Env N) (h : StageValues) → Holds v table (stage_value h) → HoldsPointers v pointers (pointer_in h) → HasSite table pointers p h j → ShowsSite v p h j s

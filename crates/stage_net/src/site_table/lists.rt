@@ -33,7 +33,7 @@ fn is_answer(program: &CellProgram, cell: u32) -> bool
     program.verdict == cell || program.target == cell || in_frame(&program.frame, cell)
 }
 
-// Whether something behind the place of a row takes a cell.
+// Whether something after the place of a row takes a cell.
 fn goes_on(program: &CellProgram, plan: &RowPlan, row: u32, cell: u32) -> bool
     ensures { result ≡ goes_on (program_of program.now) plan.now row cell }
 {

@@ -1,4 +1,4 @@
-//! The two tables behind a place: what stands for cells, and for their pointers.
+//! The two tables after a place: what stands for cells, and for their pointers.
 
 ghost use Rattle.std.specs.Prelude.{◌≡◌, ◌<◌, All, IfOk, length, map as map_list};
 ghost use Rattle.hazard_core.specs.cell_core.Formed.{AreFormed};
@@ -23,7 +23,7 @@ pub struct StageTables<N> {
     pub pointers: Vec<Option<Operand<N>>>,
 }
 
-/// The tables behind a place whose registers hold these cells, and then these pointers, of so many bits: in place of what stands in the tables of
+/// The tables after a place whose registers hold these cells, and then these pointers, of so many bits: in place of what stands in the tables of
 /// constants and of pointers of cells that have none.
 pub fn behind<P: Part>(
     alloc: Global,

@@ -8,15 +8,11 @@ use Rattle.net_core.specs.declared.tree.Op.TheVariants.{Or, NotEqual}
 use Rattle.net_core.specs.declared.tree.UnaryOp.TheVariants.{Not, ReduceOr}
 use Rattle.net_core.specs.Nets.{Tree, TConst, TRead}
 use Rattle.net_core.specs.Value.{word, bit, number_of, apply, apply_unary, Env, value}
+use Rattle.net_core.proofs.BitLaws.{or_bits}
 use Rattle.control_net.specs.RingNet.Ring.{slot, lap, IsNear}
 use Rattle.control_net.proofs.RingNet.RingLaws.{apart}
-use Rattle.hash_net.proofs.array_net_laws.WordStoreLaws.{or_bits}
 use Rattle.turn_net.specs.HostNet.Trees.{any_of}
 use Rattle.turn_net.specs.HostNet.Values.{one_word}
-
-pub not_bit : (b : Bool) → apply_unary Not (bit b) ≡ bit (not b)
-not_bit true = refl
-not_bit false = refl
 
 pub some_number : (w n : ℕ) → apply_unary ReduceOr (word w n) ≡ bit (nat_lt 0 n)
 some_number w zero = refl

@@ -13,26 +13,27 @@ use Rattle.net_core.specs.Value.{word, bit, nothing, apply, apply_unary, Env, va
 use Rattle.net_core.specs.Width.{Scope, width_of, test_width, unary_width, op_width, same}
 use Rattle.block_core.specs.design_rules.FormedSyntax.{depth, prefixes_apart, tree_spelled}
 use Rattle.net_core.specs.ProductRules.Products.{is_flat}
+use Rattle.net_core.proofs.BitLaws.{and_bits, or_bits, not_bit}
 use Rattle.block_core.specs.declared.name.Name.{Name}
 use Rattle.block_core.specs.declared.name.Name.TheVariants as name
 use Rattle.block_core.specs.Blocks.{BlockTree, Whole, Among}
 use Rattle.block_core.specs.Parts.{Solve}
 use Rattle.block_core.specs.Order.{Reads, IsBefore, InOrder}
 use Rattle.block_core.specs.Formed.{block_wires, block_wires_typed, names_scope}
+use Rattle.block_core.proofs.OrderLaws.{still_before}
 use Rattle.control_net.specs.declared.ring_net.names.Counter.TheVariants.{Given, Gathered}
 use Rattle.control_net.specs.declared.ring_net.names.Register.TheVariants.{Slot}
 use Rattle.control_net.specs.RingNet.Names.{register_name}
 use Rattle.control_net.specs.RingNet.Trees.{compared}
 use Rattle.cell_nets.proofs.frame_net_laws.FormLaws.{same_is}
-use Rattle.hash_net.proofs.array_net_laws.WordStoreLaws.{or_bits, and_bits}
 use Rattle.turn_net.specs.declared.host_net.names.HostNets.{HostNets}
-use Rattle.turn_net.specs.declared.host_net.names.Wire.TheVariants.{Calm, Ready, Writes}
+use Rattle.turn_net.specs.declared.host_net.names.Wire.TheVariants.{Idle, Ready, Writes}
 use Rattle.turn_net.specs.HostNet.Names.{wire_name}
 use Rattle.turn_net.specs.HostNet.Trees as trees
 use Rattle.turn_net.specs.HostNet.Trees.{any_of, of_wires, host_wires}
-use Rattle.turn_net.specs.HostNet.Host.{Signals, calm, ready, writes, Sees, may_tree, HaveWidths, AreNets, IsShallow, IsHost}
-use Rattle.turn_net.proofs.HostNet.TreeLemmas.{each, low, wide, before_any}
-use Rattle.turn_net.proofs.HostNet.BitLemmas.{not_bit, some_number, counted, any_bit}
+use Rattle.turn_net.specs.HostNet.Host.{Signals, idle, ready, writes, Sees, may_tree, HaveWidths, AreNets, IsShallow, IsHost}
+use Rattle.turn_net.proofs.HostNet.TreeLemmas.{each, low, wide}
+use Rattle.turn_net.proofs.HostNet.BitLemmas.{some_number, counted, any_bit}
 
 module _ {P : Type 0} (part : P) (nets : HostNets P) (may : List (Tree (Name P))) where
   abbrev block : BlockTree (Name P)
@@ -55,8 +56,8 @@ module _ {P : Type 0} (part : P) (nets : HostNets P) (may : List (Tree (Name P))
     counted_width : width_of s (compared nets.control NotEqual Gathered Given) ≡ 1
     counted_width = λ j. op_width Or (slots_width j) (op_width NotEqual (h.gathered_lap j) (h.given_lap j))
 
-    calm_width : width_of s (trees.calm nets) ≡ 1
-    calm_width = λ j. op_width And (unary_width Not (h.partial j)) (unary_width Not (counted_width j))
+    idle_width : width_of s (trees.idle nets) ≡ 1
+    idle_width = λ j. op_width And (unary_width Not (h.partial j)) (unary_width Not (counted_width j))
 
     done_width : unary_width ReduceOr (s.net nets.done) ≡ 1
     done_width = ap (λ b. if b then 1 else 0) (lt-ltb 0 (s.net nets.done) h.done)
@@ -71,14 +72,14 @@ module _ {P : Type 0} (part : P) (nets : HostNets P) (may : List (Tree (Name P))
     one_bit w = same 1 w && nat_le 1 64
 
     wires_typed : block_wires_typed s block.wires ≡ true
-    wires_typed = λ j. one_bit (calm_width j) && (one_bit (ready_width j) && (one_bit (writes_width j) && true))
+    wires_typed = λ j. one_bit (idle_width j) && (one_bit (ready_width j) && (one_bit (writes_width j) && true))
 
   -- ---- in order
   in_order : (d : Whole P) (before : List P) → Among nets.control d.parts → AreNets (IsBefore d before part 0) nets → All (Reads (IsBefore d before part 2)) may → InOrder d before part 0 block.wires
   in_order d before there h reads = (
     (h.partial, ((there, there), (there, there))),
     (
-      (inl (refl, omega arith), (before_any d before part 1 nets.present h.present, before_any d before part 1 nets.done h.done)),
+      (inl (refl, omega arith), (still_before d before part 1 nets.present h.present, still_before d before part 1 nets.done h.done)),
       (((inl (refl, omega arith), tt), each (Reads (IsBefore d before part 2)) may none (λ a b x y. (x, y)) reads tt), tt),
     ),
   )
@@ -95,8 +96,8 @@ module _ {P : Type 0} (part : P) (nets : HostNets P) (may : List (Tree (Name P))
 
   -- ---- values
   module _ (v : Env (Name P)) (slots slot_bits done_bits : ℕ) (i : Signals) (solved : Solve v part 0 block.wires) (e : Sees slots slot_bits done_bits nets i v) where
-    calm_value : v.net (wire_name part Calm) ≡ bit (calm i)
-    calm_value =
+    idle_value : v.net (wire_name part Idle) ≡ bit (idle i)
+    idle_value =
         solved.0
         ∙ (λ j. apply And (apply_unary Not (e.partial j)) (apply_unary Not (apply Or (apply NotEqual (e.gathered.slot j) (e.given.slot j)) (apply NotEqual (e.gathered.lap j) (e.given.lap j)))))
         ∙ (λ j. apply And (not_bit i.partial j) (counted slots slot_bits i.given i.gathered e.near j))
@@ -107,7 +108,7 @@ module _ {P : Type 0} (part : P) (nets : HostNets P) (may : List (Tree (Name P))
         (λ j. apply_unary Not (apply And (e.present j) ((ap (apply_unary ReduceOr) e.done ∙ some_number done_bits i.done) j))) ∙ ap (apply_unary Not) (and_bits i.present (nat_lt 0 i.done)) ∙ not_bit (i.present && nat_lt 0 i.done)
 
     ready_value : v.net (wire_name part Ready) ≡ bit (ready i)
-    ready_value = solved.1.0 ∙ (λ j. apply Or (calm_value j) (amid_value j)) ∙ or_bits (calm i) (not (i.present && nat_lt 0 i.done))
+    ready_value = solved.1.0 ∙ (λ j. apply Or (idle_value j) (amid_value j)) ∙ or_bits (idle i) (not (i.present && nat_lt 0 i.done))
 
     writes_value : (lets : ℕ → Bool) → ((k : ℕ) → k < length may → value v (may_tree may k) ≡ bit (lets k)) → v.net (wire_name part Writes) ≡ bit (writes i lets (length may))
     writes_value lets h =
@@ -131,7 +132,7 @@ module _ {P : Type 0} (part : P) (nets : HostNets P) (may : List (Tree (Name P))
     free = λ h. record { wires = λ made. and_from (is_flat made (trees.writes part may)) true (writes_flat made (h made)) refl; statement = λ made. refl };
     goes = λ v. (refl, (refl, (refl, tt)));
     stays = λ v s. refl;
-    calm = calm_value;
+    idle = idle_value;
     ready = ready_value;
     writes = λ v slots slot_bits done_bits i lets solved e h. writes_value v slots slot_bits done_bits i solved e lets h;
   }

@@ -11,8 +11,8 @@ use Rattle.hazard_core.specs.Tables.{TableState, decl_of, table_at, slot_at}
 use Rattle.hazard_core.specs.Commits.{word_as, word_in, shown_word, shown_to_host, may_write}
 use Rattle.commit_net.specs.declared.map_block.form.MapForm.{MapForm}
 use Rattle.commit_net.specs.MapBlock.Stored.{lets_write, may_here}
-use Rattle.read_net.specs.pipe_core.Machine.{Build, State, is_calm, host_ready, written_if, host_writes, host_value}
-use Rattle.turn_net.specs.HostNet.Host.{Signals, calm, ready, writes}
+use Rattle.read_net.specs.pipe_core.Machine.{Build, State, is_idle, host_ready, written_if, host_writes, host_value}
+use Rattle.turn_net.specs.HostNet.Host.{Signals, idle, ready, writes}
 use Rattle.turn_net.specs.HostNet.Values.{read}
 use Rattle.turn_net.specs.HostNet.Laws.{Shows, AreNumbered, HostFollows, WritesItsNumber, ValueFollows}
 
@@ -22,11 +22,11 @@ none_inside given zero gathered e = eq-eqb gathered given (omega (arith, e)) ∙
 none_inside given (suc m) gathered e = let o : gathered ≢ given = omega (arith, e) in ne_eqb gathered given o ∙ sym (le-ltb (suc m) 1 (omega arith))
 
 module _ (b : Build) (s : State) (a : Access) (i : Signals) (h : Shows b s a i) where
-  calm_here : calm i ≡ is_calm s
-  calm_here = λ j. not (h.partial j) && none_inside i.given (length s.answers + length s.frames) i.gathered h.inside j
+  idle_here : idle i ≡ is_idle s
+  idle_here = λ j. not (h.partial j) && none_inside i.given (length s.answers + length s.frames) i.gathered h.inside j
 
   ready_here : ready i ≡ host_ready b s
-  ready_here = λ j. calm_here j || not (h.present j && nat_lt 0 (h.done j))
+  ready_here = λ j. idle_here j || not (h.present j && nat_lt 0 (h.done j))
 
 -- ---- one of many maps is named
 or_false : (x : Bool) → (x || false) ≡ x
@@ -64,14 +64,14 @@ module _ (named : ℕ) (x : Bool) (number : ℕ → ℕ) where
 unnamed : (t : TableState) (a : Access) → length t.decls ≤ a.map → word_in t a ≡ Nothing
 unnamed t a l = ap (λ b. if b && nat_lt a.index (length (table_at t a.map)) then word_as (decl_of t.decls a.map).kind (decl_of t.decls a.map) a.word else Nothing) (le-ltb a.map (length t.decls) l)
 
-any_lets : (calm : Bool) (t : TableState) (a : Access) (forms : ℕ → MapForm) (maps : ℕ) → AreNumbered maps forms → maps ≡ length t.decls → list_any (λ k. may_here (forms k) calm t a) (range_with_len 0 maps) ≡ lets_write calm t a
-any_lets calm t a forms maps h e =
+any_lets : (idle : Bool) (t : TableState) (a : Access) (forms : ℕ → MapForm) (maps : ℕ) → AreNumbered maps forms → maps ≡ length t.decls → list_any (λ k. may_here (forms k) idle t a) (range_with_len 0 maps) ≡ lets_write idle t a
+any_lets idle t a forms maps h e =
     let number : ℕ → ℕ = λ k. (forms k).number in
-    let x = lets_write calm t a in
+    let x = lets_write idle t a in
     let numbered : (k : ℕ) → 0 ≤ k → k < 0 + maps → number k ≡ k = λ k l m. h k (omega (arith, m)) in
     elim (cases_lt a.map maps) [
       | inl l ↦ one_named a.map x number 0 maps (omega arith) (omega (arith, l)) numbered
-      | inr l ↦ none_named a.map x number 0 maps (inr (omega (arith, l))) numbered ∙ sym (ap (λ (w : Word). may_write calm (slot_at (table_at t a.map) a.index) w) (unnamed t a (omega (arith, l, e))))
+      | inr l ↦ none_named a.map x number 0 maps (inr (omega (arith, l))) numbered ∙ sym (ap (λ (w : Word). may_write idle (slot_at (table_at t a.map) a.index) w) (unnamed t a (omega (arith, l, e))))
     ]
 
 -- ---- what is written
@@ -88,19 +88,19 @@ swapped true false true = refl
 swapped true false false = refl
 
 writes_here : (b : Build) (s : State) (a : Access) (i : Signals) (forms : ℕ → MapForm) (maps : ℕ) → Shows b s a i → AreNumbered maps forms → maps ≡ length s.tables.decls
-    → writes i (λ k. may_here (forms k) (is_calm s) s.tables a) maps ≡ is_some (host_writes (host_ready b s) (is_calm s) s.tables (Some a))
+    → writes i (λ k. may_here (forms k) (is_idle s) s.tables a) maps ≡ is_some (host_writes (host_ready b s) (is_idle s) s.tables (Some a))
 writes_here b s a i forms maps h numbered e =
-    let lets = lets_write (is_calm s) s.tables a in
-    (λ j. (ready_here b s a i h j && h.write j) && any_lets (is_calm s) s.tables a forms maps numbered e j)
+    let lets = lets_write (is_idle s) s.tables a in
+    (λ j. (ready_here b s a i h j && h.write j) && any_lets (is_idle s) s.tables a forms maps numbered e j)
     ∙ swapped (host_ready b s) (is_some a.write) lets
     ∙ sym (written_is (host_ready b s && lets) a a.write)
 
 pub host_follows : {P : Type 0} → HostFollows P
 host_follows {P} = λ part nets may block v slots slot_bits done_bits i b s a is solved sees shows. record {
-  calm = is.calm v slots slot_bits done_bits i solved sees ∙ ap bit (calm_here b s a i shows);
+  idle = is.idle v slots slot_bits done_bits i solved sees ∙ ap bit (idle_here b s a i shows);
   ready = is.ready v slots slot_bits done_bits i solved sees ∙ ap bit (ready_here b s a i shows);
   writes = λ forms numbered count let_write.
-      is.writes v slots slot_bits done_bits i (λ k. may_here (forms k) (is_calm s) s.tables a) solved sees let_write ∙ ap bit (writes_here b s a i forms (length may) shows numbered count);
+      is.writes v slots slot_bits done_bits i (λ k. may_here (forms k) (is_idle s) s.tables a) solved sees let_write ∙ ap bit (writes_here b s a i forms (length may) shows numbered count);
 }
 
 nothing_is : (n : Option (Access × ℕ)) (w : Access × ℕ) → n ≡ None → n ≡ Some w → ⊥
@@ -112,7 +112,7 @@ written_number true a None w e = absurd (nothing_is None w refl e)
 written_number true a (Some n) w e = let p : w ≡ (a, n) = cc in (ap (λ x. x.0) p, ap (λ (x : Access × ℕ). Some x.1) (sym p))
 
 pub writes_its_number : WritesItsNumber
-writes_its_number = λ r calm t a w e. written_number (r && lets_write calm t a) a a.write w e
+writes_its_number = λ r idle t a w e. written_number (r && lets_write idle t a) a a.write w e
 
 -- ---- what is read
 read_here : (r : Bool) (t : TableState) (a : Access) (maps : ℕ) → maps ≡ length t.decls → read r a.map (shown_to_host t a) maps ≡ host_value r t (Some a)

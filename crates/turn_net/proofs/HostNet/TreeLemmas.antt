@@ -1,6 +1,6 @@
 -- Trees that have what one of many has.
 use Rattle.std.specs.Prelude.{◌≡◌, ℕ, ◌+◌, ◌<◌, ◌≤◌, if◌then◌else◌, All, List, [], ◌∷◌, ◌++◌, length, map, take}
-use Rattle.std.proofs.Common.{get_or, inl, inr, refl, sym, ap, ◌∙◌, arith}
+use Rattle.std.proofs.Common.{get_or, refl, sym, ap, ◌∙◌, arith}
 use Rattle.std.proofs.lemmas.Bool.{eq-eqb}
 use Rattle.std.proofs.lemmas.List.{map-append, map_more}
 use Rattle.std.proofs.lemmas.List.Elements.{All-head, All-tail}
@@ -10,10 +10,7 @@ use Rattle.net_core.specs.Nets.{Tree, TRead, TBinary}
 use Rattle.net_core.specs.View.{tree_of}
 use Rattle.net_core.specs.Width.{Scope, width_of, op_width}
 use Rattle.block_core.specs.design_rules.FormedSyntax.{depth}
-use Rattle.block_core.specs.declared.name.Name.{Name}
 use Rattle.block_core.specs.declared.name.Name.TheVariants as name
-use Rattle.block_core.specs.Blocks.{Whole}
-use Rattle.block_core.specs.Order.{IsBefore}
 use Rattle.turn_net.specs.HostNet.Trees.{any_of}
 
 -- one more of them
@@ -39,18 +36,6 @@ low m (t ∷ ts) last h e =
 
 pub wide : {N : Type 0} (s : Scope N) (w : ℕ) (ts : List (Tree N)) (last : Tree N) → All (λ t. width_of s t ≡ w) ts → width_of s last ≡ w → width_of s (any_of ts last) ≡ w
 wide s w ts last = each (λ t. width_of s t ≡ w) ts last (λ a b e f. (λ j. op_width Or (e j) (f j)) ∙ ap (λ t. if t then w else 0) (eq-eqb w w refl))
-
--- what stands before the first wire of a part stands before any
-pub before_any : {P : Type 0} (d : Whole P) (before : List P) (p : P) (at : ℕ) (n : Name P) → IsBefore d before p 0 n → IsBefore d before p at n
-before_any d before p at (name.Port i) h = tt
-before_any d before p at (name.Register q i) h = h
-before_any d before p at (name.Memory q i) h = h
-before_any d before p at (name.Wire q i) (inl h) = absurd (omega (arith, h.1))
-before_any d before p at (name.Wire q i) (inr h) = inr h
-
--- one more wire behind known ones
-pub pushed : {X : Type 0} {xs ys known : List X} {x y : X} → xs ≡ known → ys ≡ xs ++ x ∷ [] → x ≡ y → ys ≡ known ++ y ∷ []
-pushed h k e = k ∙ (λ i. h i ++ e i ∷ [])
 
 -- one more name that is read
 pub more_read : {N : Type 0} (names : List N) (all next : List (Expr N)) (e : Expr N) (name none : N) (k : ℕ) → k < length names → name ≡ get_or names k none → next ≡ all ++ e ∷ [] → tree_of e ≡ TRead name → map tree_of all ≡ map TRead (take k names)

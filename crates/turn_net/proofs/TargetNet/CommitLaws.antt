@@ -3,19 +3,16 @@ use Rattle.std.specs.Prelude.{slice_index, if◌then◌else◌, Option, None, So
 use Rattle.std.proofs.Common.{◌≡◌, ◌∙◌, ℕ, zero, suc, ◌==◌, ◌<◌, Bool, true, false, ◌&&◌, ◌||◌, List, [], ◌∷◌, length, get_or, refl, sym, ap, arith, find}
 use Rattle.std.proofs.lemmas.Bool.{eqb-true, eqb-false, eq-eqb}
 use Rattle.net_core.specs.Value.{word, bit as bit_word, Env}
-use Rattle.hazard_core.specs.xdp_maps.declared.decl.MapDecl.{MapDecl}
 use Rattle.hazard_core.specs.cell_core.Cells.{bit, on}
 use Rattle.hazard_core.specs.cell_core.Sites.{ProgramView, site_at}
-use Rattle.hazard_core.specs.Held.{Held, writes}
 use Rattle.cell_nets.specs.declared.operand.Operand.{Operand}
 use Rattle.cell_nets.specs.declared.operand.Operand.TheVariants.{Known}
 use Rattle.cell_nets.specs.Operands.{number_in}
 use Rattle.cell_nets.proofs.StepNets.StepLaws.{on_bit}
 use Rattle.turn_net.specs.declared.nets.RecordNets.{RecordNets}
-use Rattle.turn_net.specs.Turns.{Signals, first_open, may_commit, is_at}
+use Rattle.turn_net.specs.Actions.{is_at}
 use Rattle.turn_net.specs.Nets.{sites_of}
 use Rattle.turn_net.specs.Steps.{ShowsChosen}
-use Rattle.turn_net.specs.Turn.{site_in}
 use Rattle.turn_net.specs.TargetNet.Commits.{any_on, IsRecord, AreMaps, commits_on}
 
 pub bit_as_word : (b : Bool) → word 1 (bit b) ≡ bit_word b
@@ -27,20 +24,13 @@ later_record : {N : Type 0} (r : RecordNets N) (rs : List (RecordNets N)) (o : O
 later_record r rs None h = tt
 later_record r rs (Some j) (k, lt, e) = (suc k, omega (arith, lt), e)
 
-first_record : {N : Type 0} (q : ℕ → Bool) (rs : List (RecordNets N)) → IsRecord rs (find q (sites_of rs))
+pub first_record : {N : Type 0} (q : ℕ → Bool) (rs : List (RecordNets N)) → IsRecord rs (find q (sites_of rs))
 first_record q [] = tt
 first_record q (r ∷ rs) = by_test (first_record q rs) (q r.number)
   where
     by_test : IsRecord rs (find q (sites_of rs)) → (b : Bool) → IsRecord (r ∷ rs) (if b then Some r.number else find q (sites_of rs))
     by_test later true = (0, omega arith, λ d. refl)
     by_test later false = later_record r rs (find q (sites_of rs)) later
-
-pub site_record : {N : Type 0} (p : ProgramView) (decls : List MapDecl) (i : Signals) (done : ℕ) (h : Held) (rs : List (RecordNets N)) → IsRecord rs (site_in p decls i done h rs)
-site_record p decls i done h rs = by_test (may_commit i)
-  where
-    by_test : (b : Bool) → IsRecord rs (if b then first_open done (writes p decls h) (sites_of rs) else None)
-    by_test true = first_record _ rs
-    by_test false = tt
 
 -- ---- and its map is theirs
 module _ {N : Type 0} (v : Env N) (p : ProgramView) (maps : List ℕ) (rs : List (RecordNets N)) (chosen : List (Operand N)) (are : AreMaps p maps rs) (m : ℕ) where

@@ -4,19 +4,21 @@ use Rattle.std.proofs.Common.{◌≡◌, ◌⊎◌, inl, inr, ◌∙◌, ℕ, su
 use Rattle.std.proofs.lemmas.Bool.{cases_lt, eq-eqb, ne_eqb}
 use Rattle.std.proofs.lemmas.List.{get_or-map, get_or_append_left, get_or_default, get_or_push, length_push, length-map}
 use Rattle.std.proofs.lemmas.List.Elements.{All-append}
+use Rattle.block_core.proofs.list_laws_laws.PlaceLaws.{some_of}
 use Rattle.net_core.specs.Value.{Env}
 use Rattle.block_core.specs.declared.name.Name.{Name}
 use Rattle.block_core.specs.Blocks.{BlockWireTree}
 use Rattle.hazard_core.specs.cell_core.Cells.{bit, on, bits_from}
+use Rattle.hazard_core.proofs.cell_core_laws.BitLaws.{bit_bits}
 use Rattle.cell_nets.specs.declared.operand.Operand.{Operand}
 use Rattle.cell_nets.specs.declared.operand.Operand.TheVariants.{Known, Net}
 use Rattle.cell_nets.specs.Operands.{number_in, IsOperand, IsAvailable}
 use Rattle.cell_nets.specs.Wires.{always, Gives}
 use Rattle.cell_nets.specs.StepNets.Standing.{Stands}
 use Rattle.cell_nets.proofs.StepNets.ChainLaws.{starts, next, last, ends}
-use Rattle.cell_nets.proofs.StepNets.StepLaws.{all_each, bit_bits}
+use Rattle.cell_nets.proofs.StepNets.StepLaws.{all_each}
 use Rattle.turn_net.specs.TargetNet.Commits.{bits_of, any_on, AreOn}
-use Rattle.turn_net.proofs.TargetNet.StandLemmas.{item_of, left_of, right_of, first_of, tail_of, one_of, stands_as}
+use Rattle.turn_net.proofs.TargetNet.StandLemmas.{left_of, right_of, first_of, tail_of, one_of, stands_as}
 
 -- ---- one operation more
 either_bit : (s b : Bool) (n : ℕ) → n ≡ bit b → bits_from (if s then 1 else n) 0 1 ≡ bit (s || b)
@@ -33,7 +35,7 @@ module _ {N : Type 0} (v : Env N) (maps : List ℕ) (chosen : List (Operand N)) 
   off_map : (slice_index maps i == map) ≡ false → any_on v maps chosen map (i + 1) ≡ any_on v maps chosen map i
   off_map e = next_on false e
 
--- as an operand behind wires: of an operation on the map, and of another one
+-- as an operand after wires: of an operation on the map, and of another one
 module _ {P : Type 0} (part : P) (old mid : List (BlockWireTree (Name P))) (maps : List ℕ) (chosen : List (Operand (Name P))) (map i : ℕ) (any : Operand (Name P)) (x : Gives part old mid chosen always (λ v. bit (any_on v maps chosen map i)) 1 any) where
   first : Stands part old mid chosen always (any ∷ chosen) (λ v. always v × (number_in v any ≡ bit (any_on v maps chosen map i)))
   first = next (starts part old chosen always) x (λ ins a. a) (λ v f k. tt)
@@ -91,7 +93,7 @@ module _ {P : Type 0} (part : P) (maps : List ℕ) (chosen : List (Operand (Name
 pub bits_operands : {N : Type 0} (ns : List N) → All IsOperand (bits_of ns)
 bits_operands ns k d lt =
     let l : k < length ns = omega (arith, lt, length-map ns (λ (n : _). Net n 1)) in
-    subst IsOperand (sym (get_or-map (λ (n : _). Net n 1) ns k (item_of ns k l) d l)) (record { some = omega arith; most = omega arith })
+    subst IsOperand (sym (get_or-map (λ (n : _). Net n 1) ns k (some_of ns k l) d l)) (record { some = omega arith; most = omega arith })
 
 pub bits_there : {N : Type 0} (ins : List (Operand N)) (ns : List N) (m : ℕ) (d : N) → m < length ns → All (IsAvailable ins) (bits_of ns) → Contains ins (Net (get_or ns m d) 1)
 bits_there ins ns m d lt h = subst (IsAvailable ins) (get_or-map (λ (n : _). Net n 1) ns m d (Net d 1) lt) (h m (Net d 1) (omega (arith, lt, length-map ns (λ (n : _). Net n 1))))

@@ -1,4 +1,4 @@
--- Steps that give several operands, one behind another, and operands that are known where a condition holds.
+-- Steps that give several operands, one after another, and operands that are known where a condition holds.
 use Rattle.std.proofs.Common.{◌≡◌, ◌⊎◌, inl, inr, ◌∙◌, ℕ, zero, suc, ◌+◌, ◌<◌, ◌≤◌, All, List, [], ◌∷◌, ◌++◌, length, get_or, refl, sym, ap, subst, arith, map as map_list}
 use Rattle.std.proofs.lemmas.Bool.{cases_lt}
 use Rattle.std.proofs.lemmas.List.{get_or-map, get_or_append_left, get_or_default, get_or_push, length-map}
@@ -10,7 +10,7 @@ use Rattle.cell_nets.specs.declared.operand.Operand.{Operand}
 use Rattle.cell_nets.specs.declared.operand.Operand.TheVariants.{Known}
 use Rattle.cell_nets.specs.Operands.{number_in, IsAvailable}
 use Rattle.cell_nets.specs.Wires.{behind, Gives}
-use Rattle.cell_nets.proofs.ApartLemmas.{stay_none, stay_as, stay_next}
+use Rattle.cell_nets.proofs.ApartLaws.{stay_none, stay_as, stay_next}
 use Rattle.cell_nets.specs.StepNets.Standing.{Stands}
 use Rattle.cell_nets.proofs.StepNets.ChainLaws.{starts, next}
 
@@ -115,9 +115,3 @@ each_more Q xs ys i x y count l is h q n s d lt = by (cases_lt n i)
 -- ---- what is said of each that is made of another
 pub mapped_at : {X Y : Type 0} (Q : Y → Type 0) (f : X → Y) (xs : List X) (i : ℕ) (x : X) → i < length xs → x ≡ get_or xs i x → All Q (map_list f xs) → Q (f x)
 mapped_at Q f xs i x lt is h = subst Q (get_or-map f xs i x (f x) lt ∙ ap f (sym is)) (h i (f x) (omega (arith, lt, length-map xs f)))
-
--- one that is there
-pub item_of : {X : Type 0} (xs : List X) (n : ℕ) → n < length xs → X
-item_of [] n lt = absurd (omega (arith, lt))
-item_of (x ∷ xs) zero lt = x
-item_of (x ∷ xs) (suc n) lt = item_of xs n (omega (arith, lt))

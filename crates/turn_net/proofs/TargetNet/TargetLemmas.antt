@@ -8,7 +8,7 @@ use Rattle.block_core.specs.Blocks.{BlockWireTree}
 use Rattle.hazard_core.specs.cell_core.Cells.{bit}
 use Rattle.hazard_core.specs.cell_core.Sites.{ProgramView}
 use Rattle.hazard_core.specs.Tables.{TableState, table_at}
-use Rattle.hazard_core.specs.Held.{Held, written_pointer}
+use Rattle.hazard_core.specs.StageValues.{StageValues, written_pointer}
 use Rattle.hazard_core.specs.Commits.{written_slot, makes_entry}
 use Rattle.cell_nets.specs.declared.operand.Operand.{Operand}
 use Rattle.cell_nets.specs.Operands.{number_in, IsAvailable}
@@ -41,7 +41,7 @@ module _ {N : Type 0} (Q : Operand N → Type 0) where
   written_there (d ∷ ds) h (suc n) o l = written_there ds (right_of Q (read_of d) (all_read ds) h) n o (omega (arith, l))
 
 -- ---- one operation after another
-module _ {P : Type 0} (part : P) (bits : ℕ) (rs : List (OwnSite (Name P))) (es : List (Pending (Name P))) (free : Operand (Name P)) (ss : List (TakenSlot (Name P))) (p : ProgramView) (t : TableState) (took : List ℕ) (h : Held) (m : ℕ) where
+module _ {P : Type 0} (part : P) (bits : ℕ) (rs : List (OwnSite (Name P))) (es : List (Pending (Name P))) (free : Operand (Name P)) (ss : List (TakenSlot (Name P))) (p : ProgramView) (t : TableState) (took : List ℕ) (h : StageValues) (m : ℕ) where
   abbrev pub args : List (Operand (Name P))
   args = written_of es ++ free ∷ slots_of ss
 

@@ -24,7 +24,7 @@ use Rattle.control_net.specs.declared.ring_net.names.Register.TheVariants.{Lap, 
 use Rattle.control_net.specs.RingNet.Names.{register_name}
 use Rattle.control_net.specs.RingNet.Ring.{slot, lap, IsNear}
 use Rattle.turn_net.specs.declared.host_net.names.HostNets.{HostNets}
-use Rattle.turn_net.specs.declared.host_net.names.Wire.TheVariants.{Calm, Ready, Writes}
+use Rattle.turn_net.specs.declared.host_net.names.Wire.TheVariants.{Idle, Ready, Writes}
 use Rattle.turn_net.specs.HostNet.Names.{wire_name}
 
 -- ---- what the part sees, and what it says of it
@@ -40,12 +40,12 @@ pub record Signals : Type 0 where
   pub write : Bool
 
 -- no frame is inside, and none has begun
-abbrev pub calm : Signals → Bool
-calm i = not i.partial && i.gathered == i.given
+abbrev pub idle : Signals → Bool
+idle i = not i.partial && i.gathered == i.given
 
 -- The host is heard, except while a packet is amid its operations and so will not be sent back.
 abbrev pub ready : Signals → Bool
-ready i = calm i || not (i.present && nat_lt 0 i.done)
+ready i = idle i || not (i.present && nat_lt 0 i.done)
 
 -- It writes where one of so many maps lets it.
 abbrev pub writes : Signals → (ℕ → Bool) → ℕ → Bool
@@ -110,6 +110,6 @@ pub record IsHost {P : Type 0} (part : P) (nets : HostNets P) (may : List (Tree 
   pub free : ((made : Name P → Bool) → All (λ t. is_flat made t ≡ true) may) → IsFree b
   pub goes : (v : Env (Name P)) → Goes v b.wires
   pub stays : (v : Env (Name P)) (s : Stored) → done v b.statement s ≡ s
-  pub calm : (v : Env (Name P)) (slots slot_bits done_bits : ℕ) (i : Signals) → Solve v part 0 b.wires → Sees slots slot_bits done_bits nets i v → v.net (wire_name part Calm) ≡ bit (calm i)
+  pub idle : (v : Env (Name P)) (slots slot_bits done_bits : ℕ) (i : Signals) → Solve v part 0 b.wires → Sees slots slot_bits done_bits nets i v → v.net (wire_name part Idle) ≡ bit (idle i)
   pub ready : (v : Env (Name P)) (slots slot_bits done_bits : ℕ) (i : Signals) → Solve v part 0 b.wires → Sees slots slot_bits done_bits nets i v → v.net (wire_name part Ready) ≡ bit (ready i)
   pub writes : (v : Env (Name P)) (slots slot_bits done_bits : ℕ) (i : Signals) (lets : ℕ → Bool) → Solve v part 0 b.wires → Sees slots slot_bits done_bits nets i v → ((k : ℕ) → k < length may → value v (may_tree may k) ≡ bit (lets k)) → v.net (wire_name part Writes) ≡ bit (writes i lets (length may))

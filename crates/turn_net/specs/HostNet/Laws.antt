@@ -9,9 +9,9 @@ use Rattle.hazard_core.specs.declared.access.Access.{Access}
 use Rattle.hazard_core.specs.Tables.{TableState}
 use Rattle.commit_net.specs.declared.map_block.form.MapForm.{MapForm}
 use Rattle.commit_net.specs.MapBlock.Stored.{may_here, shown_here}
-use Rattle.read_net.specs.pipe_core.Machine.{Build, State, place_at, is_calm, host_ready, host_writes, host_value}
+use Rattle.read_net.specs.pipe_core.Machine.{Build, State, place_at, is_idle, host_ready, host_writes, host_value}
 use Rattle.turn_net.specs.declared.host_net.names.HostNets.{HostNets}
-use Rattle.turn_net.specs.declared.host_net.names.Wire.TheVariants.{Calm, Ready, Writes}
+use Rattle.turn_net.specs.declared.host_net.names.Wire.TheVariants.{Idle, Ready, Writes}
 use Rattle.turn_net.specs.HostNet.Names.{wire_name, value_name}
 use Rattle.turn_net.specs.HostNet.Host.{Signals, Sees, may_tree, IsHost}
 use Rattle.turn_net.specs.HostNet.Values.{word_name, IsValue}
@@ -30,13 +30,13 @@ AreNumbered maps forms = (k : ℕ) → k < maps → (forms k).number ≡ k
 
 -- the trees of the maps say of each whether the host names a word of it that it may write
 abbrev pub LetWrite : {P : Type 0} → Env (Name P) → List (Tree (Name P)) → (ℕ → MapForm) → State → Access → Type 0
-LetWrite v may forms s a = (k : ℕ) → k < length may → value v (may_tree may k) ≡ bit (may_here (forms k) (is_calm s) s.tables a)
+LetWrite v may forms s a = (k : ℕ) → k < length may → value v (may_tree may k) ≡ bit (may_here (forms k) (is_idle s) s.tables a)
 
 -- The wires of the part that says what the host may do: the last one is 1 exactly where the host writes.
 pub record Follows {P : Type 0} (part : P) (may : List (Tree (Name P))) (v : Env (Name P)) (b : Build) (s : State) (a : Access) : Type 0 where
-  pub calm : v.net (wire_name part Calm) ≡ bit (is_calm s)
+  pub idle : v.net (wire_name part Idle) ≡ bit (is_idle s)
   pub ready : v.net (wire_name part Ready) ≡ bit (host_ready b s)
-  pub writes : (forms : ℕ → MapForm) → AreNumbered (length may) forms → length may ≡ length s.tables.decls → LetWrite v may forms s a → v.net (wire_name part Writes) ≡ bit (is_some (host_writes (host_ready b s) (is_calm s) s.tables (Some a)))
+  pub writes : (forms : ℕ → MapForm) → AreNumbered (length may) forms → length may ≡ length s.tables.decls → LetWrite v may forms s a → v.net (wire_name part Writes) ≡ bit (is_some (host_writes (host_ready b s) (is_idle s) s.tables (Some a)))
 
 abbrev pub HostFollows : (P : Type 0) → Type 0
 HostFollows P =
@@ -45,7 +45,7 @@ HostFollows P =
 
 -- What the host writes is what its access says.
 abbrev pub WritesItsNumber : Type 0
-WritesItsNumber = (r calm : Bool) (t : TableState) (a : Access) (w : Access × ℕ) → host_writes r calm t (Some a) ≡ Some w → (w.0 ≡ a) × (a.write ≡ Some w.1)
+WritesItsNumber = (r idle : Bool) (t : TableState) (a : Access) (w : Access × ℕ) → host_writes r idle t (Some a) ≡ Some w → (w.0 ≡ a) × (a.write ≡ Some w.1)
 
 -- The word that the host reads, from those that the maps show.
 abbrev pub ValueFollows : (P : Type 0) → Type 0

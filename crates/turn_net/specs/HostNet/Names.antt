@@ -3,10 +3,10 @@ use Rattle.std.specs.Prelude.{ℕ}
 use Rattle.block_core.specs.declared.name.Name.{Name}
 use Rattle.block_core.specs.declared.name.Name.TheVariants as name
 use Rattle.turn_net.specs.declared.host_net.names.Wire.{Wire}
-use Rattle.turn_net.specs.declared.host_net.names.Wire.TheVariants.{Calm, Ready, Writes}
+use Rattle.turn_net.specs.declared.host_net.names.Wire.TheVariants.{Idle, Ready, Writes}
 
 abbrev pub wire_number : Wire → ℕ
-wire_number Calm = 0
+wire_number Idle = 0
 wire_number Ready = 1
 wire_number Writes = 2
 

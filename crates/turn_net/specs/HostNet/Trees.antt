@@ -11,7 +11,7 @@ use Rattle.control_net.specs.declared.ring_net.names.Counter.TheVariants.{Given,
 use Rattle.control_net.specs.RingNet.Trees.{port, bit_wire, compared}
 use Rattle.turn_net.specs.declared.host_net.names.HostNets.{HostNets}
 use Rattle.turn_net.specs.declared.host_net.names.Wire.{Wire}
-use Rattle.turn_net.specs.declared.host_net.names.Wire.TheVariants.{Calm, Ready}
+use Rattle.turn_net.specs.declared.host_net.names.Wire.TheVariants.{Idle, Ready}
 use Rattle.turn_net.specs.HostNet.Names.{wire_name}
 
 -- what one of these has, or the last one
@@ -27,17 +27,17 @@ of_wires ws = record { registers = []; memories = []; wires = ws; statement = SB
 abbrev pub wire : {P : Type 0} → P → Wire → Tree (Name P)
 wire part w = TRead (wire_name part w)
 
-abbrev pub calm : {P : Type 0} → HostNets P → Tree (Name P)
-calm nets = TBinary And (TUnary Not (TRead nets.partial)) (TUnary Not (compared nets.control NotEqual Gathered Given))
+abbrev pub idle : {P : Type 0} → HostNets P → Tree (Name P)
+idle nets = TBinary And (TUnary Not (TRead nets.partial)) (TUnary Not (compared nets.control NotEqual Gathered Given))
 
 abbrev pub ready : {P : Type 0} → P → HostNets P → Tree (Name P)
-ready part nets = TBinary Or (wire part Calm) (TUnary Not (TBinary And (TRead nets.present) (TUnary ReduceOr (TRead nets.done))))
+ready part nets = TBinary Or (wire part Idle) (TUnary Not (TBinary And (TRead nets.present) (TUnary ReduceOr (TRead nets.done))))
 
 abbrev pub writes : {P : Type 0} → P → List (Tree (Name P)) → Tree (Name P)
 writes part may = TBinary And (TBinary And (wire part Ready) (port HOST_WRITE)) (any_of may (TConst (word 1 0)))
 
 abbrev pub host_wires : {P : Type 0} → P → HostNets P → List (Tree (Name P)) → List (BlockWireTree (Name P))
-host_wires part nets may = bit_wire (calm nets) ∷ bit_wire (ready part nets) ∷ bit_wire (writes part may) ∷ []
+host_wires part nets may = bit_wire (idle nets) ∷ bit_wire (ready part nets) ∷ bit_wire (writes part may) ∷ []
 
 -- ---- what it reads
 abbrev pub shown : {N : Type 0} → N → List N → Tree N

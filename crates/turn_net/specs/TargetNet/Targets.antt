@@ -10,7 +10,7 @@ use Rattle.hazard_core.specs.cell_core.Sites.{ProgramView, site_at}
 use Rattle.hazard_core.specs.declared.slot.Slot.{Slot}
 use Rattle.hazard_core.specs.declared.pointer.Pointer.TheVariants as pointer
 use Rattle.hazard_core.specs.Tables.{TableState, table_at, free_slot}
-use Rattle.hazard_core.specs.Held.{Held, written_pointer}
+use Rattle.hazard_core.specs.StageValues.{StageValues, written_pointer}
 use Rattle.hazard_core.specs.Commits.{written_slot, makes_entry}
 use Rattle.cell_nets.specs.declared.operand.Operand.{Operand}
 use Rattle.cell_nets.specs.Operands.{number_in, IsOperand, AreFit}
@@ -55,25 +55,25 @@ abbrev pub ShowTaken : {N : Type 0} → Env N → List ℕ → List (TakenSlot N
 ShowTaken v took ss = All (λ s. number_in v s.slot ≡ slice_index took s.site) ss
 
 -- The slot that an operation writes is one of its table; where another update made the entry, the slot that this one took is known.
-pub record FindsSlot {N : Type 0} (p : ProgramView) (t : TableState) (took : List ℕ) (h : Held) (ss : List (TakenSlot N)) (j : ℕ) : Type 0 where
+pub record FindsSlot {N : Type 0} (p : ProgramView) (t : TableState) (took : List ℕ) (h : StageValues) (ss : List (TakenSlot N)) (j : ℕ) : Type 0 where
   pub within : written_slot p t took h j < length (table_at t (site_at p.sites j).map)
   pub made : (i : ℕ) → written_pointer p t h j ≡ pointer.Pending i → i ≢ j → IsAmong ss i
 
-pub record ShowsTarget {N : Type 0} (v : Env N) (p : ProgramView) (t : TableState) (took : List ℕ) (h : Held) (ss : List (TakenSlot N)) (j : ℕ) (d : Target N) : Type 0 where
+pub record ShowsTarget {N : Type 0} (v : Env N) (p : ProgramView) (t : TableState) (took : List ℕ) (h : StageValues) (ss : List (TakenSlot N)) (j : ℕ) (d : Target N) : Type 0 where
   pub slot : FindsSlot p t took h ss j → number_in v d.slot ≡ written_slot p t took h j
   pub makes : number_in v d.makes ≡ bit (makes_entry p t h j)
 
-abbrev pub ShowTargets : {N : Type 0} → Env N → ProgramView → TableState → List ℕ → Held → List (TakenSlot N) → List (OwnSite N) → List (Target N) → Type 0
+abbrev pub ShowTargets : {N : Type 0} → Env N → ProgramView → TableState → List ℕ → StageValues → List (TakenSlot N) → List (OwnSite N) → List (Target N) → Type 0
 ShowTargets v p t took h ss rs ds = (n : ℕ) (s : OwnSite _) (d : Target _) → n < length rs → ShowsTarget v p t took h ss (get_or rs n s).site (get_or ds n d)
 
 -- what these follow from: the pointers to the entries, the first free slot, where there is an operation, and the slots that updates took
-pub record AsksTargets {N : Type 0} (v : Env N) (p : ProgramView) (t : TableState) (took : List ℕ) (h : Held) (m : ℕ) (rs : List (OwnSite N)) (ds : List (Pending N)) (free : Operand N) (ss : List (TakenSlot N)) : Type 0 where
+pub record AsksTargets {N : Type 0} (v : Env N) (p : ProgramView) (t : TableState) (took : List ℕ) (h : StageValues) (m : ℕ) (rs : List (OwnSite N)) (ds : List (Pending N)) (free : Operand N) (ss : List (TakenSlot N)) : Type 0 where
   pub pending : ShowPending v p t h (sites_of rs) ds
   pub first : 0 < length rs → ShowsFree v (table_at t m) free
   pub taken : ShowTaken v took ss
 
 -- and those from what comes from outside
-pub record Shows {N : Type 0} (v : Env N) (p : ProgramView) (t : TableState) (took : List ℕ) (h : Held) (m : ℕ) (map : MapNets N) (rs : List (OwnSite N)) (ss : List (TakenSlot N)) : Type 0 where
+pub record Shows {N : Type 0} (v : Env N) (p : ProgramView) (t : TableState) (took : List ℕ) (h : StageValues) (m : ℕ) (map : MapNets N) (rs : List (OwnSite N)) (ss : List (TakenSlot N)) : Type 0 where
   pub records : All (ShowsOwn v p h) rs
   pub table : ShowsTable v t m map
   pub taken : ShowTaken v took ss
@@ -83,4 +83,4 @@ pub record IsTargets {P : Type 0} (p : ProgramView) (m : ℕ) (part : P) (map : 
   pub wiring : IsWiring part (outside_of map rs ss) b
   pub offers : Offers part (outside_of map rs ss) b (all_of ds)
   pub has : HasTargets bits rs ds
-  pub shows : (v : Env (Name P)) (t : TableState) (took : List ℕ) (h : Held) → IsMapOf t m map.decl.now → AreFit v (outside_of map rs ss) → Solve v part 0 b.wires → Shows v p t took h m map rs ss → ShowTargets v p t took h ss rs ds
+  pub shows : (v : Env (Name P)) (t : TableState) (took : List ℕ) (h : StageValues) → IsMapOf t m map.decl.now → AreFit v (outside_of map rs ss) → Solve v part 0 b.wires → Shows v p t took h m map rs ss → ShowTargets v p t took h ss rs ds

@@ -41,8 +41,8 @@ fn wires<P: Copy>(
     ensures { IfOk result (λ r. map block_wire_of r.items ≡ trees.host_wires part nets.now (map tree_of may.items)) }
 {
     let mut all = Vec::new(alloc);
-    let calm = calm(alloc, nets)?;
-    add_wire(&mut all, 1, calm)?;
+    let idle = idle(alloc, nets)?;
+    add_wire(&mut all, 1, idle)?;
     let ready = ready(alloc, part, nets)?;
     add_wire(&mut all, 1, ready)?;
     let writes = writes(alloc, part, may)?;
@@ -51,8 +51,8 @@ fn wires<P: Copy>(
 }
 
 // No frame has begun, and as many are given as have come.
-fn calm<P: Copy>(alloc: Global, nets: &HostNets<P>) -> Result<Expr<Name<P>>, AllocError>
-    ensures { IfOk result (λ e. tree_of e ≡ trees.calm nets.now) }
+fn idle<P: Copy>(alloc: Global, nets: &HostNets<P>) -> Result<Expr<Name<P>>, AllocError>
+    ensures { IfOk result (λ e. tree_of e ≡ trees.idle nets.now) }
 {
     let inside = compared(
         alloc,
@@ -73,7 +73,7 @@ fn ready<P: Copy>(alloc: Global, part: P, nets: &HostNets<P>) -> Result<Expr<Nam
     let begun = unary(alloc, UnaryOp::ReduceOr, Expr::Read(nets.done))?;
     let amid = binary(alloc, Op::And, Expr::Read(nets.present), begun)?;
     let free = unary(alloc, UnaryOp::Not, amid)?;
-    binary(alloc, Op::Or, Expr::Read(wire_name(part, Wire::Calm)), free)
+    binary(alloc, Op::Or, Expr::Read(wire_name(part, Wire::Idle)), free)
 }
 
 // The host is heard and has something to write, and one of the maps lets it.

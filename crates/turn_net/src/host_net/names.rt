@@ -9,7 +9,7 @@ use block_core::name::Name;
 #[derive(Clone, Copy, PartialEq, Eq, Debug)]
 pub enum Wire {
     /// No frame is inside, and none has begun.
-    Calm,
+    Idle,
     /// The host is heard: it reads, and may write.
     Ready,
     /// The host writes.
@@ -34,7 +34,7 @@ pub fn wire_name<P: Copy>(part: P, wire: Wire) -> Name<P>
     ensures { result ≡ names.wire_name part wire }
 {
     let number = match wire {
-        Wire::Calm => 0,
+        Wire::Idle => 0,
         Wire::Ready => 1,
         Wire::Writes => 2,
     };

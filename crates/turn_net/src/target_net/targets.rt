@@ -3,7 +3,7 @@
 ghost use Rattle.std.specs.Prelude.{ℕ, List, ◌∷◌, ◌++◌, ◌≡◌, ◌^◌, ◌≤◌, All, length, IfOk};
 ghost use Rattle.block_core.specs.View.{block_of};
 ghost use Rattle.hazard_core.specs.cell_core.Sites.{ProgramView};
-ghost use Rattle.hazard_core.specs.Held.{Held};
+ghost use Rattle.hazard_core.specs.StageValues.{StageValues};
 ghost use Rattle.hazard_core.specs.Tables.{TableState, table_at};
 ghost use Rattle.cell_nets.specs.Operands.{IsOperand, IsWide};
 ghost use Rattle.cell_nets.specs.Wires.{wires_of};
@@ -55,7 +55,7 @@ fn each_target<P: Copy>(
     requires free { IsOperand free }
     requires taken { All IsOperand (slots_of taken.now) }
     ensures has { IfOk result (λ r. HasTargets slot_bits records.now r.items) }
-    ensures stands { (p : ProgramView) (t : TableState) (took : List ℕ) (h : Held) (m : ℕ) → length (table_at t m) ≤ 2 ^ slot_bits → All (IsOwn p m) records.now → IfOk result (λ r. Stands part (wires_of wires.old.items) (wires_of wires.new.items) (written_of seen.now ++ free ∷ slots_of taken.now)
+    ensures stands { (p : ProgramView) (t : TableState) (took : List ℕ) (h : StageValues) (m : ℕ) → length (table_at t m) ≤ 2 ^ slot_bits → All (IsOwn p m) records.now → IfOk result (λ r. Stands part (wires_of wires.old.items) (wires_of wires.new.items) (written_of seen.now ++ free ∷ slots_of taken.now)
         (λ v. AsksTargets v p t took h m records.now seen.now free taken.now) (all_of r.items ++ (written_of seen.now ++ free ∷ slots_of taken.now)) (λ v. ShowTargets v p t took h taken.now records.now r.items)) }
 {
     let mut all = Vec::new(alloc);
@@ -87,7 +87,7 @@ fn target_nets<P: Copy>(
     requires records { All (IsWhole map.now) records.now }
     requires taken { All IsOperand (slots_of taken.now) }
     ensures has { IfOk result (λ r. HasTargets slot_bits records.now r.items) }
-    ensures stands { (p : ProgramView) (t : TableState) (took : List ℕ) (h : Held) (m : ℕ) → All (IsOwn p m) records.now → IsMapOf t m map.now.decl.now → IfOk result (λ r. Stands part (wires_of wires.old.items) (wires_of wires.new.items) (outside_of map.now records.now taken.now)
+    ensures stands { (p : ProgramView) (t : TableState) (took : List ℕ) (h : StageValues) (m : ℕ) → All (IsOwn p m) records.now → IsMapOf t m map.now.decl.now → IfOk result (λ r. Stands part (wires_of wires.old.items) (wires_of wires.new.items) (outside_of map.now records.now taken.now)
         (λ v. Shows v p t took h m map.now records.now taken.now) (all_of r.items) (λ v. ShowTargets v p t took h taken.now records.now r.items)) }
 {
     let seen = pendings(alloc, wires, part, map, records)?;

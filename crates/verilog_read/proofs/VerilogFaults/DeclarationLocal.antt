@@ -98,7 +98,7 @@ memory_local : (d : Netlist) (width : ℕ) (s : List ℕ) → Local 0 0 (memory_
 unfolding memory_at
 memory_local d width s = behind_local (LNumber 0 ∷ LSymbol symbol.Colon ∷ []) _ (bind_local number_at _ number_local (λ n. indexed d width s (index_of n)))
 
--- ---- what is declared behind `reg`
+-- ---- what is declared after `reg`
 stored_head : (d : Netlist) (width : ℕ) (s : List ℕ) (t : Lexeme) → Local 1 1 (λ ts. stored_at d width s (t ∷ ts))
 unfolding stored_at
 stored_head d width s (LSymbol symbol.Assign) = raised 1 1 (register_local d width s)

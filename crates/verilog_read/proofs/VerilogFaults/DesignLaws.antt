@@ -16,7 +16,7 @@ use Rattle.verilog_read.proofs.VerilogFaults.HeaderLocal.{header_local}
 use Rattle.verilog_read.proofs.VerilogFaults.ItemLocal.{all_items_local}
 use Rattle.verilog_read.proofs.VerilogFaults.FrontLaws.{fault_of_front}
 
--- a design and what is left behind it: nothing
+-- a design and what is left after it: nothing
 ended : Netlist → List Lexeme → Read Netlist
 ended d [] = Ok (d, [])
 ended d (t ∷ ts) = fault code.Syntax (t ∷ ts)

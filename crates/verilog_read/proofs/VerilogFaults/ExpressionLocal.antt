@@ -38,7 +38,7 @@ select_local : (n : Net) (w : ℕ) → Local 0 0 (select_at n w)
 unfolding select_at
 select_local n w = bind_local number_at _ number_local (part_select_local n w)
 
--- what is no number in the brackets behind the name of a value
+-- what is no number in the brackets after the name of a value
 no_number : (s : List ℕ) (t : Lexeme) (b : Bool) → Local 1 1 (λ ts. let x : Read Sized = (if b then fault code.Unknown (LName s ∷ LSymbol symbol.OpenBracket ∷ t ∷ ts) else fault code.Syntax (t ∷ ts)) in x)
 no_number s t true = fails_local (LName s ∷ LSymbol symbol.OpenBracket ∷ t ∷ []) code.Unknown 1 1 (omega arith)
 no_number s t false = own_fault t code.Syntax 1

@@ -11,7 +11,7 @@ use Rattle.verilog_expression.specs.declared.fault.Code.{Code}
 use Rattle.verilog_expression.specs.declared.fault.Code.TheVariants as code
 use Rattle.verilog_expression.specs.declared.entry.Entry.{Entry}
 use Rattle.verilog_expression.specs.Reads.{Read, Reading, ◌>>=◌, fault, kept_if, found}
-use Rattle.verilog_expression.specs.Lexemes.{same_lexeme, lexeme_at, symbol_at, behind, number_at, name_at, constant_at, op_at}
+use Rattle.verilog_expression.specs.Lexemes.{same_lexeme, lexeme_at, symbol_at, behind, number_at, constant_at, op_at}
 use Rattle.verilog_expression.specs.Expressions.{Resolve, entry_at}
 use Rattle.verilog_read.proofs.VerilogFaults.Local.{Local, raised, loose, by_heads, gives_local, fails_local, as_local}
 
@@ -64,13 +64,6 @@ number_head t = own_fault t code.Syntax 1
 pub number_local : Local 0 0 number_at
 number_local = by_heads number_at (omega arith) number_head
 
-name_head : (t : Lexeme) → Local 1 1 (λ ts. name_at (t ∷ ts))
-name_head (LName s) = loose (kept_value (LName s) (is_name s) s code.Syntax)
-name_head t = own_fault t code.Syntax 1
-
-pub name_local : Local 0 0 name_at
-name_local = by_heads name_at (omega arith) name_head
-
 constant_head : (t : Lexeme) → Local 1 1 (λ ts. constant_at (t ∷ ts))
 constant_head (LSized w v) = loose (kept_value (LSized w v) (word_fits (word w v)) (word w v) code.Width)
 constant_head LOutOfRange = own_fault LOutOfRange code.Width 1
@@ -104,7 +97,7 @@ pub op_local : Local 0 0 op_at
 op_local = by_heads op_at (omega arith) op_head
 
 -- ---- what a name stands for
--- behind a name that is one, where what it stands for is told by the lexemes from the name on
+-- after a name that is one, where what it stands for is told by the lexemes from the name on
 entry_found : {A : Type 0} (s : List ℕ) (o : Option Entry) (g : List Lexeme → Entry → List Lexeme → Read A) → ((e : Entry) → Local 0 0 (λ ts. g (LName s ∷ ts) e ts))
     → Local 0 0 (λ ts. (found o code.Unknown (LName s ∷ ts) >>= λ e. let x : Read Entry = Ok (e, ts) in x) >>= λ e. g (LName s ∷ ts) e.0 e.1)
 entry_found s (Some e) g G = G e

@@ -5,7 +5,7 @@ use Rattle.verilog_expression.specs.declared.fault.Code.{Code}
 use Rattle.verilog_expression.specs.Reads.{Read, ◌>>=◌, fault}
 use Rattle.verilog_read.specs.VerilogFaults.Faults.{lexemes_behind, fault_with}
 
--- What was read leaves at most so many lexemes; a fault's own, and those behind on which it depends, begin at most so far in front.
+-- What was read leaves at most so many lexemes; a fault's own, and those after on which it depends, begin at most so far in front.
 abbrev pub Within : {A : Type 0} → ℕ → ℕ → Read A → Type 0
 Within j k (Ok x) = length x.1 ≤ j
 Within j k (Err f) = f.left ≤ lexemes_behind f.code + k
@@ -32,7 +32,7 @@ bind_follows r u x y g h (Gives v b e f) k p = rw (e, f) (k v b e f)
 bind_follows r u x y g h (Fails c n e f) k p = rw (e, f) (Fails c n refl refl)
 bind_follows r u x y g h (Goes q) k p = Goes (bind_within (length r) (length r) x g (omega arith) q p)
 
--- A reading function looks no further than what it takes, and than its faults depend on. Of a function of what stands behind some
+-- A reading function looks no further than what it takes, and than its faults depend on. Of a function of what stands after some
 -- lexemes, as `λ ts. f (t ∷ ts)`, what it leaves may begin up to j of those before, and a fault may stand up to k before.
 pub record Local {A : Type 0} (j k : ℕ) (f : List Lexeme → Read A) : Type 0 where
   pub bounded : (ts : List Lexeme) → Within (j + length ts) (k + length ts) (f ts)

@@ -36,7 +36,7 @@ value_is names s = by_name (is_name s) refl
     by_name true h = by_option (names s) h refl
     by_name false h = IsImproper h (λ ts. rw h refl)
 
--- behind the operator: a value of the same width
+-- after the operator: a value of the same width
 abbrev divisor_at : Resolve → ℕ → (Net × ℕ → SizedRight) → List Lexeme → Read SizedRight
 divisor_at names w g ts = value_at names ts >>= λ b. kept_if {A = SizedRight × List Lexeme} (w == b.0.1) (g b.0, b.1) code.Width ts
 

@@ -16,8 +16,8 @@ use Rattle.verilog_expression.specs.Statements.{Free, whole_statement_at}
 use Rattle.verilog_read.specs.Designs.{design_at}
 use Rattle.verilog_read.specs.Texts.{error_of, outcome_of}
 
--- How many lexemes behind its own a fault may depend on. A target is a second driver only where a bracket behind it is as its sort asks,
--- and else it is unknown. Of what sort a name has to be is told by the bracket behind it and by what stands first in there.
+-- How many lexemes after its own a fault may depend on. A target is a second driver only where a bracket after it is as its sort asks,
+-- and else it is unknown. Of what sort a name has to be is told by the bracket after it and by what stands first in there.
 abbrev pub lexemes_behind : Code → ℕ
 lexemes_behind code.Syntax = 0
 lexemes_behind code.Unknown = 2
@@ -60,7 +60,7 @@ pub record BeginsWith (text : List ℕ) (ts : List Token) (front : List Lexeme) 
 abbrev pub start_of : List ℕ → List Token → ℕ → ℕ
 start_of text ts k = get_or (map (λ t. t.start) ts) k (length text)
 
--- The error of a text is at its token of this number. Where another text has the same lexemes up to that token, and as many behind it as
+-- The error of a text is at its token of this number. Where another text has the same lexemes up to that token, and as many after it as
 -- the error may depend on, it has the same error at its token of this number, and spells no design.
 pub record SharesError (text other : List ℕ) (ts us : List Token) (front : List Lexeme) (c : Code) (at : ℕ) : Type 0 where
   pub number : ℕ

@@ -22,7 +22,7 @@ pub fn designs_have_fault_of_front()
     ensures { DesignsHaveFaultOfFront }
 {}
 
-/// Two texts whose tokens agree up to the first error of one, and as far behind it as its code may look, have the same error at the
+/// Two texts whose tokens agree up to the first error of one, and as far after it as its code may look, have the same error at the
 /// same token; and no such text spells a design.
 pub fn texts_share_first_error()
     ensures { TextsShareFirstError }

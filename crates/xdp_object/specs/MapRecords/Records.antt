@@ -1,5 +1,5 @@
 -- The records of the section `maps`: what libbpf before 1.0 calls `struct bpf_map_def`. A record has five numbers of 4
--- bytes, which are type, key_size, value_size, max_entries and map_flags. What stands behind them is zero.
+-- bytes, which are type, key_size, value_size, max_entries and map_flags. What stands after them is zero.
 use Rattle.std.specs.Prelude.{ℕ, ◌+◌, ◌==◌, nat_lt, ◌||◌, if◌then◌else◌, List, length, take, drop, Some, Result, Ok, Err}
 use Rattle.std.specs.List.{list_all}
 use Rattle.btf_view.specs.Numbers.{u32_at}

@@ -25,7 +25,7 @@ pub enum MapRule {
     /// There are no flags; a hash may have `BPF_F_NO_PREALLOC`.
     #[error("its flags are not taken")]
     Flags,
-    /// What stands in a record behind its 20 bytes is zero.
+    /// What stands in a record after its 20 bytes is zero.
     #[error("its record says more")]
     Tail,
     /// A program has at most 16 maps.

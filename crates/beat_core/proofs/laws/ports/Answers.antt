@@ -1,4 +1,4 @@
-use Rattle.beat_core.proofs.PortLemmas.{frames-arrive, answers-given}
+use Rattle.beat_core.proofs.PortLaws.{frames-arrive, answers-given}
 use Rattle.beat_core.proofs.laws.ports.Goals as goal
 
 pub returns : goal.returns

@@ -1,5 +1,5 @@
-use Rattle.cell_nets.proofs.ChoiceLemmas.{bit_truth, word_truth}
-use Rattle.cell_nets.proofs.PartLemmas.{part_of}
+use Rattle.cell_nets.proofs.ChoiceLaws.{bit_truth, word_truth}
+use Rattle.cell_nets.proofs.ExpressionPartLaws.{part_of}
 use Rattle.std.proofs.Common.{arith}
 use Rattle.cell_nets.proofs.choosing.any_bit.Goals as goal
 

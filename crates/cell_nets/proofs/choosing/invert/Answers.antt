@@ -1,7 +1,7 @@
 use Rattle.std.proofs.Common.{arith}
 use Rattle.cell_nets.specs.Operands.{number_in}
-use Rattle.cell_nets.proofs.PartLemmas.{part_same, part_computes, not_part, computes_as}
-use Rattle.cell_nets.proofs.ChoiceLemmas.{fit_of, number_small, complement_cut}
+use Rattle.cell_nets.proofs.ExpressionPartLaws.{part_same, part_computes, not_part, computes_as}
+use Rattle.cell_nets.proofs.ChoiceLaws.{fit_of, number_small, complement_cut}
 use Rattle.cell_nets.proofs.choosing.invert.Goals as goal
 
 pub returns : goal.returns

@@ -1,8 +1,8 @@
 use Rattle.std.proofs.Common.{arith}
 use Rattle.cell_core.specs.Cells.{on}
 use Rattle.cell_nets.specs.Operands.{number_in}
-use Rattle.cell_nets.proofs.PartLemmas.{part_same, part_computes, conditional_part, computes_as}
-use Rattle.cell_nets.proofs.ChoiceLemmas.{choice_is}
+use Rattle.cell_nets.proofs.ExpressionPartLaws.{part_same, part_computes, conditional_part, computes_as}
+use Rattle.cell_nets.proofs.ChoiceLaws.{choice_is}
 use Rattle.cell_nets.proofs.choosing.select.Goals as goal
 
 pub returns : goal.returns

@@ -1,10 +1,10 @@
 use Rattle.std.proofs.Common.{arith}
 use Rattle.cell_core.specs.Cells.{bits_from}
 use Rattle.cell_nets.specs.declared.operand.Operand.TheVariants.{Net, Part}
-use Rattle.cell_nets.proofs.NarrowLemmas.{bits_small}
-use Rattle.cell_nets.proofs.PartLemmas.{read_slice, slice_of}
+use Rattle.cell_nets.proofs.NarrowLaws.{bits_small}
+use Rattle.cell_nets.proofs.ExpressionPartLaws.{read_slice, slice_of}
 use Rattle.cell_nets.proofs.PartLaws.{part_slice}
-use Rattle.cell_nets.proofs.ChoiceLemmas.{truth_at, within_at}
+use Rattle.cell_nets.proofs.ChoiceLaws.{truth_at, within_at}
 use Rattle.cell_nets.proofs.choosing.truth.Goals as goal
 
 pub returns-in_ok-e-in-Net : goal.returns-in_ok-e-in-Net

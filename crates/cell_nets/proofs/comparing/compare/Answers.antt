@@ -1,8 +1,8 @@
 use Rattle.std.proofs.Common.{arith}
 use Rattle.net_core.specs.Value.{apply, word}
 use Rattle.cell_nets.specs.Operands.{number_in}
-use Rattle.cell_nets.proofs.PartLemmas.{part_same, part_of, part_computes, binary_part}
-use Rattle.cell_nets.proofs.ChoiceLemmas.{fit_of}
+use Rattle.cell_nets.proofs.ExpressionPartLaws.{part_same, part_of, part_computes, binary_part}
+use Rattle.cell_nets.proofs.ChoiceLaws.{fit_of}
 use Rattle.cell_nets.proofs.TestLemmas.{test_width_is, test_bit, test_plain, test_is_number}
 use Rattle.cell_nets.proofs.comparing.compare.Goals as goal
 

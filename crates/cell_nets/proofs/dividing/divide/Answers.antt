@@ -3,9 +3,9 @@ use Rattle.net_core.specs.View.{tree_of}
 use Rattle.cell_core.specs.Cells.{number, bits_from}
 use Rattle.cell_nets.specs.Dividing.{division}
 use Rattle.cell_nets.specs.Operands.{number_in}
-use Rattle.cell_nets.proofs.PartLemmas.{part_computes}
-use Rattle.cell_nets.proofs.ShiftLemmas.{cut_low}
-use Rattle.cell_nets.proofs.GiveLemmas.{gives_next}
+use Rattle.cell_nets.proofs.ExpressionPartLaws.{part_computes}
+use Rattle.cell_nets.proofs.ShiftLaws.{cut_low}
+use Rattle.cell_nets.proofs.GiveLaws.{gives_next}
 use Rattle.cell_nets.proofs.DivisionLemmas.{divided_gives}
 use Rattle.cell_nets.proofs.dividing.divide.Goals as goal
 

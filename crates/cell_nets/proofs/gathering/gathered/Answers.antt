@@ -6,8 +6,8 @@ use Rattle.cell_nets.specs.Wires.{wires_of}
 use Rattle.cell_nets.proofs.GatherLemmas.{gathered_same, gathered_one, gathered_as, any_of, any_small, no_packet}
 use Rattle.cell_nets.proofs.gathering.gathered.Goals as goal
 
-pub returns-then-len-lt-MOST-clause-gathered : goal.returns-then-len-lt-MOST-clause-gathered
-returns-then-len-lt-MOST-clause-gathered g c = gathered_same c.args.part _ c.args.args.items c.requires.operands
+pub returns-then-len-lt-MOST_OPERANDS-clause-gathered : goal.returns-then-len-lt-MOST_OPERANDS-clause-gathered
+returns-then-len-lt-MOST_OPERANDS-clause-gathered g c = gathered_same c.args.part _ c.args.args.items c.requires.operands
 
 pub returns-clause-gathered : goal.returns-clause-gathered
 returns-clause-gathered g c =

@@ -4,7 +4,7 @@ use Rattle.std.proofs.lemmas.List.{take_all}
 use Rattle.cell_core.specs.Cells.{bit, on}
 use Rattle.cell_nets.specs.declared.operand.Operand.{Operand}
 use Rattle.cell_nets.specs.Operands.{number_in}
-use Rattle.cell_nets.proofs.PartLemmas.{part_same, part_of, part_computes, const_slice}
+use Rattle.cell_nets.proofs.ExpressionPartLaws.{part_same, part_of, part_computes, const_slice}
 use Rattle.cell_nets.proofs.TestLemmas.{bit_low}
 use Rattle.cell_nets.proofs.ListLemmas.{available_at, any_more, any_map}
 use Rattle.cell_nets.proofs.listing.any.Goals as goal

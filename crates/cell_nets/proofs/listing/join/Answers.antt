@@ -3,7 +3,7 @@ use Rattle.net_core.specs.View.{tree_of}
 use Rattle.cell_core.specs.Cells.{bits_from, joined}
 use Rattle.cell_nets.specs.Operands.{number_in}
 use Rattle.cell_nets.specs.Parts.{IsPart}
-use Rattle.cell_nets.proofs.PartLemmas.{part_computes}
+use Rattle.cell_nets.proofs.ExpressionPartLaws.{part_computes}
 use Rattle.cell_nets.proofs.JoinLemmas.{joined_first, joined_next}
 use Rattle.cell_nets.proofs.listing.join.Goals as goal
 

@@ -1,7 +1,7 @@
 use Rattle.std.proofs.Common.{◌+◌, ◌-◌, length, drop, map, ◌≡◌, ap, arith}
 use Rattle.cell_core.specs.Cells.{bits_from, phi}
 use Rattle.cell_nets.specs.Operands.{number_in}
-use Rattle.cell_nets.proofs.PartLemmas.{part_same, part_computes}
+use Rattle.cell_nets.proofs.ExpressionPartLaws.{part_same, part_computes}
 use Rattle.cell_nets.proofs.ListLemmas.{chosen_more}
 use Rattle.cell_nets.proofs.listing.phi.Goals as goal
 

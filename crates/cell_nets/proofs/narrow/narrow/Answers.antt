@@ -1,8 +1,8 @@
 use Rattle.std.proofs.Common.{[], ◌∷◌, subst, arith}
 use Rattle.net_core.specs.View.{tree_of}
 use Rattle.cell_nets.specs.Parts.{ComputesBy, worth}
-use Rattle.cell_nets.proofs.PartLemmas.{binary_computes, computes_as}
-use Rattle.cell_nets.proofs.NarrowLemmas.{narrow_is, narrow_width, narrow_product}
+use Rattle.cell_nets.proofs.ExpressionPartLaws.{binary_computes, computes_as}
+use Rattle.cell_nets.proofs.NarrowLaws.{narrow_is, narrow_width, narrow_product}
 use Rattle.cell_nets.proofs.narrow.narrow.Goals as goal
 
 pub returns : goal.returns

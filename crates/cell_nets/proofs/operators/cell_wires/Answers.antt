@@ -5,8 +5,8 @@ use Rattle.std.proofs.lemmas.List.Elements.{All-take}
 use Rattle.cell_core.specs.Cells.{number, bits_from}
 use Rattle.cell_nets.specs.Computing.{taken, HasDivisor}
 use Rattle.cell_nets.specs.Operands.{number_in, IsAvailable}
-use Rattle.cell_nets.proofs.NarrowLemmas.{bits_small}
-use Rattle.cell_nets.proofs.GiveLemmas.{known_gives}
+use Rattle.cell_nets.proofs.NarrowLaws.{bits_small}
+use Rattle.cell_nets.proofs.GiveLaws.{known_gives}
 use Rattle.cell_nets.proofs.ComputingLemmas.{copy_gives}
 use Rattle.cell_nets.proofs.operators.cell_wires.Goals as goal
 

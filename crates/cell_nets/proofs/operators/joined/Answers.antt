@@ -3,7 +3,7 @@ use Rattle.cell_core.specs.declared.operator.Operator.TheVariants.{Join}
 use Rattle.cell_core.specs.Cells.{number}
 use Rattle.cell_nets.specs.Operands.{number_in}
 use Rattle.cell_nets.specs.Parts.{worth}
-use Rattle.cell_nets.proofs.NarrowLemmas.{bits_small}
+use Rattle.cell_nets.proofs.NarrowLaws.{bits_small}
 use Rattle.cell_nets.proofs.operators.joined.Goals as goal
 
 pub returns-then-are_narrow : goal.returns-then-are_narrow

@@ -4,9 +4,10 @@ use Rattle.cell_nets.specs.Computing.{makes_product, taken, HasDivisor}
 use Rattle.cell_nets.specs.Operands.{number_in}
 use Rattle.cell_nets.specs.Parts.{worth}
 use Rattle.cell_nets.specs.Wires.{wires_of, GivesBy}
-use Rattle.cell_nets.proofs.NarrowLemmas.{bits_small}
-use Rattle.cell_nets.proofs.ComputingLemmas.{list_plain, no_divisor, unwired, always_gives}
+use Rattle.cell_nets.proofs.NarrowLaws.{bits_small}
+use Rattle.cell_nets.proofs.ComputingLemmas.{list_plain, unwired, always_gives}
 use Rattle.cell_nets.proofs.operators.operation_wires.Goals as goal
+use Rattle.cell_nets.proofs.ComputingLaws.{no_divisor}
 
 pub returns-then-takes_all : goal.returns-then-takes_all
 returns-then-takes_all g c = λ packet.

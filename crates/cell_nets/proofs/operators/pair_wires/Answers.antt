@@ -1,9 +1,9 @@
 use Rattle.std.proofs.Common.{[], ◌∷◌, ◌∙◌, refl, sym, map, arith}
 use Rattle.std.proofs.lemmas.List.Elements.{All-take}
+use Rattle.block_core.proofs.list_laws_laws.AllLaws.{all_two}
 use Rattle.cell_core.specs.declared.operator.Operator.TheVariants.{ShiftRight, Quotient, Remainder}
 use Rattle.cell_nets.specs.Operands.{number_in, IsAvailable}
 use Rattle.cell_nets.specs.Wires.{always}
-use Rattle.cell_nets.proofs.GiveLemmas.{all_two}
 use Rattle.cell_nets.proofs.NumberLemmas.{pair_number}
 use Rattle.cell_nets.proofs.ComputingLemmas.{quotient_left, inputs_gives}
 use Rattle.cell_nets.proofs.operators.pair_wires.Goals as goal

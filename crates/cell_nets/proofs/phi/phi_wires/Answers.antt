@@ -5,7 +5,7 @@ use Rattle.cell_core.specs.Cells.{number, phi}
 use Rattle.cell_nets.specs.Operands.{number_in}
 use Rattle.cell_nets.specs.Parts.{worth}
 use Rattle.cell_nets.specs.Wires.{wires_of}
-use Rattle.cell_nets.proofs.NarrowLemmas.{bits_small}
+use Rattle.cell_nets.proofs.NarrowLaws.{bits_small}
 use Rattle.cell_nets.proofs.GatherLemmas.{no_packet}
 use Rattle.cell_nets.proofs.PhiLemmas.{chosen, last_computes, pair_chosen, all_chosen}
 use Rattle.cell_nets.proofs.phi.phi_wires.Goals as goal
@@ -15,7 +15,7 @@ loop-at-init g c =
     let at = c.saturating_sub.result / 2 * 2 in
     let args = c.args.args.now in
     record {
-      within = omega (arith, c.saturating_sub.ensures, c.if-args-le40.false);
+      within = omega (arith, c.saturating_sub.ensures, c.if-args-le-MOST_OPERANDS.false);
       even = omega arith;
       gives = c.in_ok-chosen.ensures.gives false args (chosen args c.args.width at) (λ v. bits_small (phi (map (number_in v) (drop at args))) 0 c.args.width)
           (last_computes args c.args.width at (tree_of c.in_ok-last.last) (omega (arith, c.saturating_sub.ensures)) c.in_ok-last.ensures);
@@ -37,8 +37,8 @@ loop-at-preserved g c =
           (λ ins h. c.in_ok-e-2.ensures ins no_packet (h 0 x (omega arith)) (h 1 x (omega arith)) (h 2 x (omega arith))));
     }
 
-pub returns-then-args-le40 : goal.returns-then-args-le40
-returns-then-args-le40 g c = λ packet.
+pub returns-then-args-le-MOST_OPERANDS : goal.returns-then-args-le-MOST_OPERANDS
+returns-then-args-le-MOST_OPERANDS g c = λ packet.
     c.in_ok-out.ensures.gives false c.args.args.now (worth packet Phi c.args.args.now c.args.width) (λ v. bits_small (phi (map (number_in v) c.args.args.now)) 0 c.args.width) (λ ins h. c.in_ok-e.ensures ins packet h)
 
 pub returns : goal.returns

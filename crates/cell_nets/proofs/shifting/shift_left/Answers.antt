@@ -2,8 +2,8 @@ use Rattle.std.proofs.Common.{ap, arith}
 use Rattle.net_core.specs.declared.tree.Op.TheVariants.{ShiftLeft}
 use Rattle.net_core.specs.Value.{word}
 use Rattle.cell_nets.specs.Operands.{number_in}
-use Rattle.cell_nets.proofs.PartLemmas.{binary_computes, computes_as, shift_is}
-use Rattle.cell_nets.proofs.ShiftLemmas.{left_is}
+use Rattle.cell_nets.proofs.ExpressionPartLaws.{binary_computes, computes_as, shift_is}
+use Rattle.cell_nets.proofs.ShiftLaws.{left_is}
 use Rattle.cell_nets.proofs.shifting.shift_left.Goals as goal
 
 pub returns : goal.returns

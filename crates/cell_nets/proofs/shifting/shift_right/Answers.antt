@@ -2,9 +2,9 @@ use Rattle.std.proofs.Common.{ap, arith}
 use Rattle.net_core.specs.declared.tree.Op.TheVariants.{ShiftRight}
 use Rattle.net_core.specs.Value.{word}
 use Rattle.cell_nets.specs.Operands.{number_in}
-use Rattle.cell_nets.proofs.PartLemmas.{binary_computes, computes_as, shift_is}
-use Rattle.cell_nets.proofs.ChoiceLemmas.{fit_of}
-use Rattle.cell_nets.proofs.ShiftLemmas.{right_is}
+use Rattle.cell_nets.proofs.ExpressionPartLaws.{binary_computes, computes_as, shift_is}
+use Rattle.cell_nets.proofs.ChoiceLaws.{fit_of}
+use Rattle.cell_nets.proofs.ShiftLaws.{right_is}
 use Rattle.cell_nets.proofs.shifting.shift_right.Goals as goal
 
 pub returns : goal.returns

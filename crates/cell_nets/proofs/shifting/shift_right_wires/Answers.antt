@@ -4,9 +4,9 @@ use Rattle.cell_core.specs.declared.operator.Operator.TheVariants.{ShiftRight}
 use Rattle.cell_core.specs.Cells.{number, bits_from}
 use Rattle.cell_nets.specs.Operands.{number_in}
 use Rattle.cell_nets.specs.Parts.{worth}
-use Rattle.cell_nets.proofs.NarrowLemmas.{bits_small}
-use Rattle.cell_nets.proofs.ShiftLemmas.{cut_low}
-use Rattle.cell_nets.proofs.GiveLemmas.{gives_next, worth_at}
+use Rattle.cell_nets.proofs.NarrowLaws.{bits_small}
+use Rattle.cell_nets.proofs.ShiftLaws.{cut_low}
+use Rattle.cell_nets.proofs.GiveLaws.{gives_next, worth_at}
 use Rattle.cell_nets.proofs.shifting.shift_right_wires.Goals as goal
 
 pub shift_right-requires-clause-enough : goal.shift_right-requires-clause-enough

@@ -1,7 +1,7 @@
 use Rattle.std.proofs.Common.{◌-◌, arith}
 use Rattle.cell_nets.specs.Operands.{number_in}
-use Rattle.cell_nets.proofs.PartLemmas.{part_same, part_computes}
-use Rattle.cell_nets.proofs.ShiftLemmas.{cut_sign, one_shifted, signs_computes}
+use Rattle.cell_nets.proofs.ExpressionPartLaws.{part_same, part_computes}
+use Rattle.cell_nets.proofs.ShiftLaws.{cut_sign, one_shifted, signs_computes}
 use Rattle.cell_nets.proofs.shifting.sign_extend.Goals as goal
 
 pub returns-then-width-from : goal.returns-then-width-from

@@ -3,10 +3,10 @@ use Rattle.net_core.specs.Nets.{TConcatenation, TMore, TLast}
 use Rattle.net_core.specs.View.{tree_of}
 use Rattle.cell_core.specs.Cells.{bits_from}
 use Rattle.cell_nets.specs.Operands.{IsWithin}
-use Rattle.cell_nets.proofs.NarrowLemmas.{bits_small}
-use Rattle.cell_nets.proofs.PartLemmas.{slice_of, slice_same}
+use Rattle.cell_nets.proofs.NarrowLaws.{bits_small}
+use Rattle.cell_nets.proofs.ExpressionPartLaws.{slice_of, slice_same}
 use Rattle.cell_nets.proofs.PartLaws.{part_slice}
-use Rattle.cell_nets.proofs.SliceLemmas.{bits_of_bits, past_slice, last_slice}
+use Rattle.cell_nets.proofs.SliceLaws.{bits_of_bits, past_slice, last_slice}
 use Rattle.cell_nets.proofs.slice.section.Goals as goal
 
 pub returns-then-from-bits : goal.returns-then-from-bits

@@ -1,4 +1,4 @@
-use Rattle.cell_nets.proofs.SliceLemmas.{net_at, part_at}
+use Rattle.cell_nets.proofs.SliceLaws.{net_at, part_at}
 use Rattle.cell_nets.proofs.slice.slice.Goals as goal
 
 pub returns-in_ok-e-in-Net : goal.returns-in_ok-e-in-Net

@@ -5,8 +5,8 @@ use Rattle.cell_core.specs.Cells.{bit}
 use Rattle.cell_nets.specs.Operands.{number_in}
 use Rattle.cell_nets.specs.Parts.{worth}
 use Rattle.cell_nets.specs.Wires.{wires_of, always}
-use Rattle.cell_nets.proofs.ChoiceLemmas.{number_small}
-use Rattle.cell_nets.proofs.NarrowLemmas.{bits_small}
+use Rattle.cell_nets.proofs.ChoiceLaws.{number_small}
+use Rattle.cell_nets.proofs.NarrowLaws.{bits_small}
 use Rattle.cell_nets.proofs.StepNets.ChainLaws.{starts, last}
 use Rattle.cell_nets.proofs.StepNets.StepLaws.{no_packet, tested}
 use Rattle.cell_nets.proofs.StepNets.FoldLaws.{fact_gives}

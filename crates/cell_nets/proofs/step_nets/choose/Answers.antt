@@ -3,7 +3,7 @@ use Rattle.std.proofs.Common.{false, refl, [], ◌∷◌, arith}
 use Rattle.cell_core.specs.Cells.{on, bits_from}
 use Rattle.cell_nets.specs.Operands.{number_in, IsOperand}
 use Rattle.cell_nets.specs.Wires.{wires_of}
-use Rattle.cell_nets.proofs.NarrowLemmas.{bits_small}
+use Rattle.cell_nets.proofs.NarrowLaws.{bits_small}
 use Rattle.cell_nets.proofs.StepNets.StepLaws.{no_packet}
 use Rattle.cell_nets.proofs.StepNets.FoldLaws.{of_either, settled_gives, truth_gives}
 use Rattle.cell_nets.proofs.step_nets.choose.Goals as goal

@@ -1,12 +1,13 @@
 use Rattle.std.proofs.Common.{◌≡◌, ◌+◌, false, refl, [], ◌∷◌, sym, ◌∙◌, ap, arith}
+use Rattle.block_core.proofs.list_laws_laws.AllLaws.{all_one}
 use Rattle.cell_core.specs.declared.operator.Operator.TheVariants.{Add}
 use Rattle.cell_core.specs.Cells.{bits_from}
 use Rattle.cell_nets.specs.Operands.{number_in, IsAvailable}
 use Rattle.cell_nets.specs.Parts.{worth}
 use Rattle.cell_nets.specs.Wires.{wires_of, always}
-use Rattle.cell_nets.proofs.ChoiceLemmas.{number_small}
-use Rattle.cell_nets.proofs.NarrowLemmas.{bits_small}
-use Rattle.cell_nets.proofs.GiveLemmas.{all_one, gives_as}
+use Rattle.cell_nets.proofs.ChoiceLaws.{number_small}
+use Rattle.cell_nets.proofs.NarrowLaws.{bits_small}
+use Rattle.cell_nets.proofs.GiveLaws.{gives_as}
 use Rattle.cell_nets.proofs.StepNets.ChainLaws.{starts, last}
 use Rattle.cell_nets.proofs.StepNets.StepLaws.{no_packet, summed}
 use Rattle.cell_nets.proofs.step_nets.sum.Goals as goal

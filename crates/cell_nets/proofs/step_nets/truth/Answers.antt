@@ -2,7 +2,7 @@ use Rattle.std.proofs.Common.{false, [], ◌∷◌, sym, subst, arith, ◌^◌, 
 use Rattle.cell_core.specs.Cells.{bit, on}
 use Rattle.cell_nets.specs.Operands.{number_in}
 use Rattle.cell_nets.specs.Wires.{wires_of, always}
-use Rattle.cell_nets.proofs.PartLemmas.{part_computes}
+use Rattle.cell_nets.proofs.ExpressionPartLaws.{part_computes}
 use Rattle.cell_nets.proofs.StepNets.ChainLaws.{starts, last}
 use Rattle.cell_nets.proofs.StepNets.StepLaws.{one_bit, bit_small}
 use Rattle.cell_nets.proofs.StepNets.FoldLaws.{fact_gives}

@@ -5,7 +5,7 @@ use Rattle.cell_nets.specs.declared.operand.Operand.TheVariants.{Known}
 use Rattle.cell_nets.specs.Operands.{number_in}
 use Rattle.cell_nets.specs.Parts.{worth}
 use Rattle.cell_nets.specs.Wires.{wires_of}
-use Rattle.cell_nets.proofs.NarrowLemmas.{bits_small}
+use Rattle.cell_nets.proofs.NarrowLaws.{bits_small}
 use Rattle.cell_nets.proofs.GatherLemmas.{no_packet}
 use Rattle.cell_nets.proofs.SumLemmas.{first_sum, more_sum, last_sum}
 use Rattle.cell_nets.proofs.summing.join_wires.Goals as goal

@@ -3,8 +3,8 @@ use Rattle.cell_core.specs.Cells.{bits_from}
 use Rattle.cell_nets.specs.declared.operand.Operand.TheVariants.{Known, Net, Part}
 use Rattle.cell_nets.specs.Operands.{number_in, IsOperand, IsWithin}
 use Rattle.cell_nets.specs.Wires.{always, Gives}
-use Rattle.cell_nets.proofs.NarrowLemmas.{bits_small}
-use Rattle.cell_nets.proofs.GiveLemmas.{known_gives, whole_gives, some_give, fewer_give}
+use Rattle.cell_nets.proofs.NarrowLaws.{bits_small}
+use Rattle.cell_nets.proofs.GiveLaws.{known_gives, whole_gives, some_give, fewer_give}
 use Rattle.cell_nets.proofs.wires.at_hand.Goals as goal
 
 pub returns-then-of-width : goal.returns-then-of-width

@@ -1,6 +1,6 @@
 use Rattle.std.proofs.Common.{false, [], ◌∷◌, arith}
-use Rattle.cell_nets.proofs.PartLemmas.{part_computes}
-use Rattle.cell_nets.proofs.NarrowLemmas.{bits_small}
+use Rattle.cell_nets.proofs.ExpressionPartLaws.{part_computes}
+use Rattle.cell_nets.proofs.NarrowLaws.{bits_small}
 use Rattle.cell_nets.proofs.wires.cut.Goals as goal
 
 pub returns : goal.returns

@@ -3,7 +3,7 @@ use Rattle.overlay_net.specs.cell_core.Cells.{bit, bits_from}
 use Rattle.overlay_net.specs.cell_core.Sites.{site_at}
 use Rattle.overlay_net.specs.cell_nets.Wires.{wires_of}
 use Rattle.overlay_net.specs.hazard_core.Tables.{decl_of}
-use Rattle.overlay_net.specs.hazard_core.Held.{held_value}
+use Rattle.overlay_net.specs.hazard_core.StageValues.{stage_value}
 use Rattle.commit_net.specs.Choosing.{changes_word, all_read, IsChosen}
 use Rattle.commit_net.specs.declared.choosing.Asked.TheVariants.{Change}
 use Rattle.overlay_net.proofs.cell_nets_laws.StepNets.ChainLaws.{starts, last}
@@ -20,9 +20,9 @@ returns-clause-gives g c = λ p j.
 pub returns-clause-stays : goal.returns-clause-stays
 returns-clause-stays g c = λ p decls h j value same aligned inside b.
     let s = site_at p.sites j in
-    word_stays (decl_of decls s.map) s.act (map (held_value h) s.key) (map (held_value h) s.operands) value c.args.w same aligned inside b
+    word_stays (decl_of decls s.map) s.act (map (stage_value h) s.key) (map (stage_value h) s.operands) value c.args.w same aligned inside b
 
 pub returns-in_err-n-clause-stays : goal.returns-in_err-n-clause-stays
 returns-in_err-n-clause-stays g c = λ p decls h j value same aligned inside b.
     let s = site_at p.sites j in
-    word_stays (decl_of decls s.map) s.act (map (held_value h) s.key) (map (held_value h) s.operands) value c.args.w same aligned inside b
+    word_stays (decl_of decls s.map) s.act (map (stage_value h) s.key) (map (stage_value h) s.operands) value c.args.w same aligned inside b

@@ -2,7 +2,7 @@ use Rattle.std.proofs.Common.{◌∙◌, sym, ap}
 use Rattle.overlay_net.specs.cell_core.Cells.{bit, bits_from}
 use Rattle.overlay_net.specs.cell_core.Sites.{site_at}
 use Rattle.overlay_net.specs.cell_nets.Wires.{wires_of}
-use Rattle.overlay_net.specs.hazard_core.Held.{is_delete}
+use Rattle.overlay_net.specs.hazard_core.StageValues.{is_delete}
 use Rattle.commit_net.specs.Choosing.{all_read, IsChosen}
 use Rattle.commit_net.specs.declared.choosing.Asked.TheVariants.{Delete}
 use Rattle.overlay_net.proofs.cell_nets_laws.StepNets.ChainLaws.{starts, last}

@@ -5,7 +5,7 @@ use Rattle.overlay_net.specs.cell_nets.declared.operand.Operand.TheVariants.{Net
 use Rattle.overlay_net.specs.cell_nets.Wires.{wires_of, Gives}
 use Rattle.overlay_net.specs.hazard_core.Tables.{decl_of}
 use Rattle.overlay_net.specs.hazard_core.Commits.{word_at, word_count}
-use Rattle.overlay_net.specs.hazard_core.Held.{asked_key}
+use Rattle.overlay_net.specs.hazard_core.StageValues.{asked_key}
 use Rattle.hash_net.specs.array_net.Words.{word_width}
 use Rattle.commit_net.specs.Choosing.{all_read, Commits}
 use Rattle.commit_net.specs.declared.choosing.Asked.TheVariants.{Key}

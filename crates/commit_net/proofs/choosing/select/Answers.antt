@@ -2,7 +2,7 @@ use Rattle.std.proofs.Common.{◌≡◌, ◌∙◌, ◌∷◌, [], ◌++◌, All
 use Rattle.overlay_net.specs.cell_core.Cells.{bits_from, phi}
 use Rattle.overlay_net.specs.cell_nets.Operands.{number_in, IsOperand, IsAvailable}
 use Rattle.overlay_net.specs.cell_nets.Wires.{wires_of, always}
-use Rattle.overlay_net.proofs.cell_nets_laws.ShiftLemmas.{cut_low}
+use Rattle.overlay_net.proofs.cell_nets_laws.ShiftLaws.{cut_low}
 use Rattle.commit_net.specs.Choosing.{chosen_of, paired, picked}
 use Rattle.overlay_net.proofs.cell_nets_laws.StepNets.ChainLaws.{starts, next, last}
 use Rattle.overlay_net.proofs.cell_nets_laws.StepNets.StepLaws.{no_packet, all_each}

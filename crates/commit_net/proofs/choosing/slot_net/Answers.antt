@@ -5,7 +5,7 @@ use Rattle.overlay_net.specs.hazard_core.Commits.{written_slot}
 use Rattle.commit_net.specs.Choosing.{all_read, Commits}
 use Rattle.commit_net.specs.declared.choosing.Asked.TheVariants.{Slot}
 use Rattle.overlay_net.proofs.cell_nets_laws.StepNets.ChainLaws.{starts, last}
-use Rattle.overlay_net.proofs.cell_nets_laws.StepNets.StepLaws.{small_bits}
+use Rattle.overlay_net.proofs.cell_core_laws.BitLaws.{small_bits}
 use Rattle.commit_net.proofs.ChooseLemmas.{asked_picked}
 use Rattle.commit_net.proofs.choosing.slot_net.Goals as goal
 

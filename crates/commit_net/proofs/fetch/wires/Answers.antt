@@ -1,7 +1,7 @@
 use Rattle.std.proofs.Common.{◌+◌}
 use Rattle.block_core.specs.View.{block_wire_of}
+use Rattle.block_core.proofs.list_laws_laws.OneMoreLaws.{pushed_as}
 use Rattle.commit_net.specs.Fetching.{fetched_wire}
-use Rattle.commit_net.proofs.FetchLemmas.{pushed_as}
 use Rattle.commit_net.proofs.fetch.wires.Goals as goal
 
 pub loop-i-preserved : goal.loop-i-preserved

@@ -1,7 +1,7 @@
 use Rattle.std.proofs.Common.{◌≡◌, ◌∙◌, ◌+◌, ◌*◌, ◌==◌, ◌&&◌, [], ◌∷◌, sym, ap, arith}
 use Rattle.overlay_net.specs.cell_core.Cells.{bit}
 use Rattle.overlay_net.specs.hazard_core.declared.pointer.Pointer.TheVariants.{Pending}
-use Rattle.overlay_net.specs.hazard_core.Held.{same_pointer, is_update, written_pointer}
+use Rattle.overlay_net.specs.hazard_core.StageValues.{same_pointer, is_update, written_pointer}
 use Rattle.overlay_net.specs.hazard_core.Commits.{makes_entry}
 use Rattle.overlay_net.specs.cell_nets.declared.operand.Operand.TheVariants.{Known}
 use Rattle.overlay_net.specs.cell_nets.Operands.{number_in, IsAvailable}
@@ -9,7 +9,8 @@ use Rattle.overlay_net.specs.cell_nets.Wires.{wires_of}
 use Rattle.commit_net.specs.Targets.{ShowsWritten}
 use Rattle.overlay_net.proofs.cell_nets_laws.StepNets.ChainLaws.{starts, last, ends}
 use Rattle.overlay_net.proofs.cell_nets_laws.StepNets.StepLaws.{all_each}
-use Rattle.commit_net.proofs.TargetLemmas.{pending_test, no_update}
+use Rattle.overlay_net.proofs.hazard_core_laws.ActsLaws.{no_update}
+use Rattle.commit_net.proofs.TargetLemmas.{pending_test}
 use Rattle.commit_net.proofs.target.makes_entry.Goals as goal
 
 pub returns-in_ok-out-in-Update : goal.returns-in_ok-out-in-Update

@@ -5,7 +5,7 @@ use Rattle.std.proofs.lemmas.List.Sums.{fold_more}
 use Rattle.overlay_net.specs.cell_core.Cells.{on, bits_from}
 use Rattle.overlay_net.specs.cell_core.Sites.{site_at}
 use Rattle.overlay_net.specs.hazard_core.Tables.{table_at}
-use Rattle.overlay_net.specs.hazard_core.Held.{written_pointer}
+use Rattle.overlay_net.specs.hazard_core.StageValues.{written_pointer}
 use Rattle.overlay_net.specs.hazard_core.Commits.{written_slot}
 use Rattle.overlay_net.specs.cell_nets.Operands.{number_in, IsOperand, IsAvailable}
 use Rattle.overlay_net.specs.cell_nets.Wires.{wires_of, always}

@@ -16,7 +16,7 @@ returns-clause-asks g c = λ bits.
     let values = c.in_ok-values.values.items in
     let inserts = c.in_ok-inserts.inserts in
     let deletes = c.in_ok-deletes.deletes in
-    let nets : HashNets _ = record { map = a.map; calm = a.calm; inserts = inserts; deletes = deletes } in
+    let nets : HashNets _ = record { map = a.map; idle = a.idle; inserts = inserts; deletes = deletes } in
     subst (IsHashCommit a.part d bits ns words nets keys values) (sym c.in_ok-block.ensures)
     (hash_commit a.part d bits ns words nets keys values c.requires.fitting (wires_of c.value_nets.new.wires.items) c.in_ok-keys.ensures.count c.in_ok-values.ensures.count
     (λ p t taken h j value.

@@ -3,7 +3,7 @@ use Rattle.std.proofs.lemmas.List.{length_push}
 use Rattle.overlay_net.specs.cell_nets.Wires.{wires_of}
 use Rattle.commit_net.specs.Choosing.{all_read}
 use Rattle.commit_net.specs.Wiring.{key_operands, ShowWords}
-use Rattle.overlay_net.specs.hazard_core.Held.{asked_key}
+use Rattle.overlay_net.specs.hazard_core.StageValues.{asked_key}
 use Rattle.overlay_net.specs.cell_core.Sites.{site_at}
 use Rattle.commit_net.proofs.WordLemmas.{stands_as}
 use Rattle.commit_net.proofs.GatherLemmas.{Keys, keys_none, keys_next}

@@ -1,7 +1,7 @@
 use Rattle.std.proofs.Common.{◌∙◌, ◌++◌, length, sym, ap, subst, arith}
 use Rattle.std.proofs.lemmas.List.{length_push}
 use Rattle.overlay_net.specs.cell_core.Sites.{site_at}
-use Rattle.overlay_net.specs.hazard_core.Held.{asked}
+use Rattle.overlay_net.specs.hazard_core.StageValues.{asked}
 use Rattle.overlay_net.specs.hazard_core.Overlay.{value_as}
 use Rattle.hash_net.specs.array_net.declared.words.WordNets.{WordNets}
 use Rattle.overlay_net.specs.cell_nets.Wires.{wires_of}

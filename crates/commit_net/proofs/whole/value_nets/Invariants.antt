@@ -1,6 +1,6 @@
 use Rattle.std.proofs.Common.{◌≡◌, ℕ, List, length}
 use Rattle.overlay_net.specs.cell_core.Sites.{ProgramView}
-use Rattle.overlay_net.specs.hazard_core.Held.{Held}
+use Rattle.overlay_net.specs.hazard_core.StageValues.{StageValues}
 use Rattle.overlay_net.specs.hazard_core.Tables.{TableState}
 use Rattle.overlay_net.specs.cell_nets.Wires.{wires_of}
 use Rattle.commit_net.proofs.GatherLemmas.{Values}
@@ -10,5 +10,5 @@ abbrev pub invariant-loop-w : goal.invariant-loop-w
 invariant-loop-w g l = record {
   count : length l.values.items ≡ l.w;
   stands :
-      (p : ProgramView) (t : TableState) (taken : List ℕ) (h : Held) (j : ℕ) (value : List ℕ) → Values l.part l.decl l.sites l.words p t taken h j value (wires_of l.fn.wires.items) (wires_of l.wires.items) l.values.items;
+      (p : ProgramView) (t : TableState) (taken : List ℕ) (h : StageValues) (j : ℕ) (value : List ℕ) → Values l.part l.decl l.sites l.words p t taken h j value (wires_of l.fn.wires.items) (wires_of l.wires.items) l.values.items;
 }

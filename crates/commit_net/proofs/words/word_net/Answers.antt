@@ -3,18 +3,18 @@ use Rattle.std.proofs.lemmas.List.{length_push}
 use Rattle.std.proofs.lemmas.List.Elements.{All-nil}
 use Rattle.overlay_net.specs.cell_core.Sites.{site_at}
 use Rattle.overlay_net.specs.cell_core.Cells.{bits_from}
-use Rattle.overlay_net.specs.hazard_core.Held.{asked}
+use Rattle.overlay_net.specs.hazard_core.StageValues.{asked}
 use Rattle.overlay_net.specs.hazard_core.Overlay.{value_as}
 use Rattle.overlay_net.specs.hazard_core.Commits.{word_at}
 use Rattle.hash_net.specs.array_net.Words.{word_width}
 use Rattle.overlay_net.specs.cell_nets.declared.operand.Operand.TheVariants.{Net}
 use Rattle.overlay_net.specs.cell_nets.Operands.{IsOperand, IsAvailable}
 use Rattle.overlay_net.specs.cell_nets.Wires.{wires_of, Gives}
-use Rattle.overlay_net.proofs.ValueNet.ByteLemmas.{bytes_zero}
+use Rattle.overlay_net.proofs.ValueNet.ByteLaws.{bytes_zero}
 use Rattle.commit_net.specs.Choosing.{chosen_of, picked, all_read, HasOperands}
 use Rattle.commit_net.specs.Words.{IsFitting}
 use Rattle.overlay_net.proofs.cell_nets_laws.StepNets.ChainLaws.{last}
-use Rattle.overlay_net.proofs.cell_nets_laws.StepNets.StepLaws.{small_bits}
+use Rattle.overlay_net.proofs.cell_core_laws.BitLaws.{small_bits}
 use Rattle.commit_net.proofs.ChooseLemmas.{each_chosen, picked_only}
 use Rattle.commit_net.proofs.WordLemmas.{Needs, Far, far_none, far_more, push_all, item_at, operands_last, like_program, nothing_held, chosen_small, words_choose}
 use Rattle.commit_net.proofs.words.word_net.Goals as goal

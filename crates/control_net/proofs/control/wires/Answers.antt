@@ -1,8 +1,8 @@
 use Rattle.std.proofs.Common.{map, ap, ◌∙◌}
 use Rattle.net_core.specs.Nets.{TRead}
 use Rattle.block_core.specs.View.{block_wire_of}
+use Rattle.block_core.proofs.list_laws_laws.OneMoreLaws.{pushed}
 use Rattle.control_net.specs.RingNet.Trees.{bit_wire, both}
-use Rattle.control_net.proofs.Lists.{pushed}
 use Rattle.control_net.proofs.control.wires.Goals as goal
 
 pub returns : goal.returns

@@ -1,6 +1,6 @@
-use Rattle.control_net.proofs.Told.{sweeps_places, moves_places}
+use Rattle.control_net.proofs.Told.{flushes_places, moves_places}
 use Rattle.control_net.specs.contracts.laws.places.{X-type}
 use Rattle.control_net.proofs.laws.places.Goals as goal
 
 pub returns : goal.returns
-returns g c = record { sweeps = sweeps_places (X-type g.row.X); moves = moves_places (X-type g.row.X) }
+returns g c = record { flushes = flushes_places (X-type g.row.X); moves = moves_places (X-type g.row.X) }

@@ -5,4 +5,4 @@ use Rattle.control_net.specs.Trees.{back_wire}
 use Rattle.control_net.proofs.returns.wires.Given as goal
 
 abbrev pub invariant-loop-i : goal.invariant-loop-i
-invariant-loop-i g l = map block_wire_of l.all.items ≡ map (back_wire l.shape l.part l.control l.due) (range_with_len 0 l.i)
+invariant-loop-i g l = map block_wire_of l.all.items ≡ map (back_wire l.shape l.part l.control l.reload) (range_with_len 0 l.i)

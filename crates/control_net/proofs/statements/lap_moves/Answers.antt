@@ -1,8 +1,9 @@
 use Rattle.std.proofs.Common.{map, arith}
+use Rattle.block_core.proofs.list_laws_laws.OneMoreLaws.{pushed_as}
 use Rattle.net_core.specs.Nets.{SSet}
 use Rattle.net_core.specs.View.{statement_of}
 use Rattle.control_net.specs.Trees.{move_lap}
-use Rattle.control_net.proofs.Lists.{pushed_as, ended}
+use Rattle.control_net.proofs.Lists.{ended}
 use Rattle.control_net.proofs.statements.lap_moves.Goals as goal
 
 pub loop-k-preserved : goal.loop-k-preserved

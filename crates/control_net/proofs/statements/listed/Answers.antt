@@ -1,6 +1,6 @@
 use Rattle.std.proofs.Common.{map, ap}
+use Rattle.block_core.proofs.list_laws_laws.OneMoreLaws.{pushed}
 use Rattle.net_core.specs.View.{statement_of}
-use Rattle.control_net.proofs.Lists.{pushed}
 use Rattle.control_net.proofs.statements.listed.Goals as goal
 
 pub returns : goal.returns

@@ -1,6 +1,6 @@
 use Rattle.std.proofs.Common.{◌≡◌, length}
 use Rattle.operator_cells.specs.Making.{seen}
-use Rattle.operator_cells.specs.HeldCells.Held.{pointed}
+use Rattle.operator_cells.specs.HeldCells.RegisterCells.{pointed}
 use Rattle.edge_cells.specs.declared.part.Part.TheVariants.{Register}
 use Rattle.edge_cells.specs.Meeting.{MeetRow}
 use Rattle.edge_cells.specs.Rows.{MeetRowTo}

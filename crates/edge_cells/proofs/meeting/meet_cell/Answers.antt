@@ -6,7 +6,7 @@ use Rattle.operator_cells.specs.Making.{seen}
 use Rattle.operator_cells.specs.Joining.{chosen, followed, flat, AreThere}
 use Rattle.operator_cells.proofs.RisingLaws.{rises_by}
 use Rattle.operator_cells.specs.declared.held_cells.way.Way.{Way}
-use Rattle.operator_cells.specs.HeldCells.Held.{pointed}
+use Rattle.operator_cells.specs.HeldCells.RegisterCells.{pointed}
 use Rattle.edge_cells.proofs.PointerArms.{arms_more, arms_there, arms_followed, arms_low}
 use Rattle.edge_cells.proofs.Pointed.{cell_index, cell_long, cell_same}
 use Rattle.edge_cells.proofs.meeting.meet_cell.Goals as goal

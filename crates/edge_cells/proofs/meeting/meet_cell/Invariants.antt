@@ -1,5 +1,5 @@
 use Rattle.std.proofs.Common.{◌≡◌, take, map as map_list}
-use Rattle.operator_cells.specs.HeldCells.Held.{pointed}
+use Rattle.operator_cells.specs.HeldCells.RegisterCells.{pointed}
 use Rattle.edge_cells.proofs.PointerArms.{arm_of}
 use Rattle.edge_cells.proofs.meeting.meet_cell.Given as goal
 

@@ -1,7 +1,7 @@
 use Rattle.std.proofs.Common.{◌≡◌, ℕ, suc, ◌+◌, length, subst, arith}
 use Rattle.operator_cells.specs.Making.{seen}
 use Rattle.operator_cells.proofs.RisingLaws.{rise_more}
-use Rattle.operator_cells.specs.HeldCells.Held.{pointed}
+use Rattle.operator_cells.specs.HeldCells.RegisterCells.{pointed}
 use Rattle.edge_cells.specs.Meeting.{BringCells}
 use Rattle.edge_cells.proofs.Pointed.{bring_later, words_more}
 use Rattle.edge_cells.proofs.meeting.meet_key.Goals as goal

@@ -1,5 +1,5 @@
 use Rattle.operator_cells.specs.Making.{seen}
-use Rattle.operator_cells.specs.HeldCells.Held.{pointed}
+use Rattle.operator_cells.specs.HeldCells.RegisterCells.{pointed}
 use Rattle.operator_cells.specs.Rising.{RiseAll}
 use Rattle.edge_cells.specs.Meeting.{PickWords}
 use Rattle.edge_cells.specs.Rows.{choice_row, pointer_row_brought}

@@ -1,13 +1,13 @@
 use Rattle.std.proofs.Common.{suc, List, length, sym, ◌∙◌, ap, subst, arith}
 use Rattle.operator_cells.specs.Making.{seen}
-use Rattle.operator_cells.specs.declared.held_cells.held.Pointer.{Pointer}
-use Rattle.operator_cells.specs.HeldCells.Held.{PointerView, pointed}
+use Rattle.operator_cells.specs.declared.held_cells.machine_cells.Pointer.{Pointer}
+use Rattle.operator_cells.specs.HeldCells.RegisterCells.{PointerView, pointed}
 use Rattle.operator_cells.specs.HeldCells.Rows.{cells_of_pointer}
 use Rattle.operator_cells.specs.Rising.{Rises, RiseAll}
 use Rattle.edge_cells.specs.Meeting.{BringCells, Picks, PickWords, cell_brought}
 use Rattle.edge_cells.specs.Rows.{choice_row, pointer_row_brought}
 use Rattle.edge_cells.specs.Pointing.{Follows}
-use Rattle.edge_cells.proofs.Growth.{picks_before, follows_before}
+use Rattle.edge_cells.proofs.GrowthLaws.{picks_before, follows_before}
 use Rattle.edge_cells.proofs.ExtendingLaws.{pointer_new}
 use Rattle.edge_cells.proofs.ChoiceRows.{rise_cons}
 use Rattle.edge_cells.proofs.Pointed.{bring_later, pointed_length, pointed_more, words_after}

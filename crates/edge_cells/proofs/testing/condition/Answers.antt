@@ -1,6 +1,6 @@
 use Rattle.std.proofs.Common.{sym, ◌∙◌, ap, arith}
 use Rattle.kind_core.specs.declared.number.Number.{Number}
-use Rattle.operator_cells.specs.HeldCells.Held.{pointed}
+use Rattle.operator_cells.specs.HeldCells.RegisterCells.{pointed}
 use Rattle.operator_cells.specs.HeldCells.Rows.{number_row}
 use Rattle.operator_cells.proofs.RisingLaws.{rises_by}
 use Rattle.edge_cells.proofs.Tested.{null_left, null_right, both_numbers, tests_numbers_of, tests_places}

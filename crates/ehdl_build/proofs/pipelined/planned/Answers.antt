@@ -1,5 +1,5 @@
 use Rattle.std.proofs.Common.{◌≡◌}
-use Rattle.kind_core.specs.declared.why.BuildError.TheVariants.{NoMemory}
+use Rattle.xdp_state.specs.declared.refusal.BuildError.TheVariants.{NoMemory}
 use Rattle.hazard_core.specs.cell_core.View.{program_of}
 use Rattle.ehdl_build.proofs.Within.{plan_within, never_refused}
 use Rattle.ehdl_build.proofs.pipelined.planned.Goals as goal

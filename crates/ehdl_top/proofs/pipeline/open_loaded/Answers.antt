@@ -1,7 +1,7 @@
 use Rattle.std.proofs.Common.{sym, subst}
 use Rattle.net_core.specs.Nets.{Netlist}
 use Rattle.net_core.specs.Clock.{Stored, first_stored}
-use Rattle.net_core.specs.History.{NeverStops}
+use Rattle.net_core.specs.Trace.{NeverStops}
 use Rattle.net_core.specs.View.{netlist_of}
 use Rattle.port_drive.specs.realization.HostHistory.Host.{load}
 use Rattle.verilog_read.proofs.design_rules_laws.FormedWidthLaws.{typed}

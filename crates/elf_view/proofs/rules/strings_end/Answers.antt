@@ -1,4 +1,4 @@
--- The loop stops behind the last zero byte, or at 0.
+-- The loop stops after the last zero byte, or at 0.
 use Rattle.std.proofs.Common.{arith}
 use Rattle.elf_view.proofs.SearchLaws.{is_some-string_at}
 use Rattle.elf_view.proofs.rules.strings_end.Goals as goal

@@ -1,7 +1,7 @@
 use Rattle.std.proofs.Common.{◌≢◌, ℕ, ◌<◌, ◌≤◌, length, get_or}
 use Rattle.elf_view.proofs.rules.strings_end.Given as goal
 
--- no byte behind the end is zero
+-- no byte after the end is zero
 abbrev pub invariant-loop-end : goal.invariant-loop-end
 invariant-loop-end l =
     (l.end ≤ length l.table) × ((k : ℕ) → l.end ≤ k → k < length l.table → get_or l.table k 0 ≢ 0)

@@ -4,7 +4,7 @@ use Rattle.cell_core.specs.Formed.{HasWords}
 use Rattle.hazard_core.specs.Tables.{decl_of}
 use Rattle.xdp_maps.specs.declared.decl.MapDecl.{MapDecl}
 use Rattle.cell_core.specs.Sites.{operation_with}
-use Rattle.hazard_core.specs.Held.{held_value}
+use Rattle.hazard_core.specs.StageValues.{stage_value}
 use Rattle.hazard_core.specs.Overlay.{value_as}
 use Rattle.hazard_core.proofs.Lengths.{value_length}
 use Rattle.hazard_core.proofs.operation.operate.Goals as goal
@@ -12,7 +12,7 @@ use Rattle.hazard_core.proofs.operation.operate.Goals as goal
 pub returns-clause-count : goal.returns-clause-count
 returns-clause-count c =
     let s = c.args.site.now in
-    let v = held_value c.args.held.now in
+    let v = stage_value c.args.held.now in
     let P : ℕ → Type 0 = λ n. HasWords (decl_of c.args.tables.now.decls s.map).value s.act n in
     let words = subst P (sym (length-map s.operands.items v)) c.requires.value in
     λ e. ap length c.operate_as.ensures

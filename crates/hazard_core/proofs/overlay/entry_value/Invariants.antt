@@ -4,7 +4,7 @@ use Rattle.cell_core.specs.Rows.{numbers}
 use Rattle.cell_core.specs.Sites.{site_at}
 use Rattle.cell_core.specs.View.{program_of}
 use Rattle.hazard_core.specs.Tables.{decl_of, table_at}
-use Rattle.hazard_core.specs.Held.{is_pending}
+use Rattle.hazard_core.specs.StageValues.{is_pending}
 use Rattle.hazard_core.specs.Overlay.{value_over, value_under}
 use Rattle.hazard_core.proofs.overlay.entry_value.Given as goal
 

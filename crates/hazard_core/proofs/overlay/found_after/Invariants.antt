@@ -2,7 +2,7 @@ use Rattle.std.proofs.Common.{◌≡◌}
 use Rattle.std.specs.Prelude.{slice_index, filter, fold}
 use Rattle.cell_core.specs.Rows.{numbers}
 use Rattle.cell_core.specs.View.{program_of}
-use Rattle.hazard_core.specs.Held.{is_pending}
+use Rattle.hazard_core.specs.StageValues.{is_pending}
 use Rattle.hazard_core.specs.Overlay.{found_over}
 use Rattle.hazard_core.proofs.overlay.found_after.Given as goal
 

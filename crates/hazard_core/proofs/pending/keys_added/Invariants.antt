@@ -2,7 +2,7 @@ use Rattle.std.proofs.Common.{◌≡◌, ◌≤◌}
 use Rattle.std.specs.Prelude.{slice_index, filter, count_by}
 use Rattle.cell_core.specs.Rows.{numbers}
 use Rattle.cell_core.specs.View.{program_of}
-use Rattle.hazard_core.specs.Held.{is_pending, adds_key}
+use Rattle.hazard_core.specs.StageValues.{is_pending, adds_key}
 use Rattle.hazard_core.proofs.pending.keys_added.Given as goal
 
 abbrev pub invariant-loop-i : goal.invariant-loop-i

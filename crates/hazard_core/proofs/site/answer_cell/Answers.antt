@@ -1,6 +1,6 @@
 use Rattle.cell_core.specs.Cells.{CellView}
 use Rattle.cell_core.specs.View.{cell_of}
-use Rattle.hazard_core.specs.Held.{is_answer_of}
+use Rattle.hazard_core.specs.StageValues.{is_answer_of}
 use Rattle.hazard_core.proofs.Positions.{found_mapped}
 use Rattle.hazard_core.proofs.site.answer_cell.Goals as goal
 

@@ -1,6 +1,6 @@
 use Rattle.cell_core.specs.Cells.{CellView}
 use Rattle.cell_core.specs.View.{cell_of}
-use Rattle.hazard_core.specs.Held.{is_found_of}
+use Rattle.hazard_core.specs.StageValues.{is_found_of}
 use Rattle.hazard_core.proofs.Positions.{found_mapped}
 use Rattle.hazard_core.proofs.site.found_cell.Goals as goal
 

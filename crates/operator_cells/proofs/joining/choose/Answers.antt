@@ -7,10 +7,11 @@ use Rattle.operator_cells.specs.Making.{seen}
 use Rattle.operator_cells.specs.Joining.{flat}
 use Rattle.operator_cells.specs.Following.{picked, Goes}
 use Rattle.operator_cells.proofs.Growing.{grown_none, makes_after, new-cell, one-longer}
-use Rattle.operator_cells.proofs.Arms.{followed_same, picked_flat, chosen_fits, flat_first, flat_there, flat_long}
+use Rattle.operator_cells.proofs.Arms.{followed_same, picked_flat, chosen_fits, flat_there, flat_long}
 use Rattle.cell_core.specs.Rows.{greatest}
 use Rattle.operator_cells.proofs.RisingLaws.{rises_none, rises_by}
 use Rattle.operator_cells.proofs.joining.choose.Goals as goal
+use Rattle.operator_cells.proofs.ArmLaws.{flat_first}
 
 abbrev no_arm : Arm
 no_arm = record { bit = 0; cell = 0 }

@@ -2,9 +2,9 @@ use Rattle.std.proofs.Common.{◌<◌, ◌≤◌, ℕ, arith, sym, ap, subst, le
 use Rattle.cell_core.specs.Cells.{CellView, cell_at}
 use Rattle.operator_cells.specs.declared.joining.Arm.{Arm}
 use Rattle.operator_cells.specs.Making.{seen}
-use Rattle.operator_cells.proofs.Growing.{seen_length, seen_at}
 use Rattle.operator_cells.proofs.Arms.{all_more}
 use Rattle.operator_cells.proofs.joining.widest.Goals as goal
+use Rattle.operator_cells.proofs.SeenLaws.{seen_length, seen_at}
 
 abbrev no_arm : Arm
 no_arm = record { bit = 0; cell = 0 }

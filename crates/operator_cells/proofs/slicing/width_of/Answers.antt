@@ -1,7 +1,7 @@
 use Rattle.std.proofs.Common.{◌≤◌, ℕ, arith, sym, ap, subst}
 use Rattle.cell_core.specs.Cells.{CellView}
-use Rattle.operator_cells.proofs.Growing.{seen_length, seen_at}
 use Rattle.operator_cells.proofs.slicing.width_of.Goals as goal
+use Rattle.operator_cells.proofs.SeenLaws.{seen_length, seen_at}
 
 pub bounds-cells-a : goal.bounds-cells-a
 bounds-cells-a c = omega (arith, seen_length c.args.cells.now, c.requires.there)

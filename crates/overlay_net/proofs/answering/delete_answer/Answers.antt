@@ -3,15 +3,15 @@ use Rattle.std.specs.Prelude.{not}
 use Rattle.std.proofs.Common.{◌∙◌, ◌^◌, ◌<◌, [], ◌∷◌, ap, sym, arith}
 use Rattle.std.proofs.Math.Pow.{pow_mono}
 use Rattle.hazard_core.specs.cell_core.Cells.{on, bits_from}
-use Rattle.hazard_core.specs.Held.{is_null}
+use Rattle.hazard_core.specs.StageValues.{is_null}
 use Rattle.hazard_core.specs.Overlay.{key_pointer, delete_answer, answer_over}
 use Rattle.cell_nets.specs.declared.operand.Operand.TheVariants.{Known}
 use Rattle.cell_nets.specs.Operands.{number_in}
 use Rattle.cell_nets.specs.Wires.{wires_of}
 use Rattle.overlay_net.proofs.AnswerLemmas.{delete_is, delete_choice}
 use Rattle.cell_nets.proofs.StepNets.ChainLaws.{starts, last, ends}
-use Rattle.overlay_net.proofs.WriteLemmas.{found_on}
 use Rattle.overlay_net.proofs.answering.delete_answer.Goals as goal
+use Rattle.overlay_net.proofs.PointerLaws.{found_on}
 
 pub returns-in_ok-out-in-Hash : goal.returns-in_ok-out-in-Hash
 returns-in_ok-out-in-Hash g c =

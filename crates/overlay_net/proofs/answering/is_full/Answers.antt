@@ -2,7 +2,7 @@ use Rattle.std.specs.Prelude.{nat_le, count_by}
 use Rattle.std.proofs.Common.{◌∙◌, ◌+◌, [], ◌∷◌, ap, arith}
 use Rattle.hazard_core.specs.cell_core.Cells.{bit}
 use Rattle.hazard_core.specs.Tables.{table_at, used_count}
-use Rattle.hazard_core.specs.Held.{adds_key, takes_key}
+use Rattle.hazard_core.specs.StageValues.{adds_key, takes_key}
 use Rattle.cell_nets.specs.declared.operand.Operand.TheVariants.{Known}
 use Rattle.cell_nets.specs.Operands.{number_in, IsAvailable}
 use Rattle.cell_nets.specs.Wires.{wires_of}

@@ -2,7 +2,7 @@ use Rattle.std.specs.Prelude.{count_by}
 use Rattle.std.proofs.Common.{◌≡◌, ◌+◌, [], ◌∷◌, ap, arith}
 use Rattle.std.proofs.lemmas.List.{take_all}
 use Rattle.hazard_core.specs.cell_core.Cells.{bit, bits_from}
-use Rattle.hazard_core.specs.Held.{adds_key, writes}
+use Rattle.hazard_core.specs.StageValues.{adds_key, writes}
 use Rattle.cell_nets.specs.Operands.{number_in, IsOperand, IsAvailable}
 use Rattle.overlay_net.specs.SiteOperands.Sites.{operands_of, all_of, ShowsSite}
 use Rattle.cell_nets.specs.Wires.{wires_of}

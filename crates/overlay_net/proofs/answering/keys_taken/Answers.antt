@@ -2,7 +2,7 @@ use Rattle.std.specs.Prelude.{count_by}
 use Rattle.std.proofs.Common.{◌≡◌, ◌+◌, [], ◌∷◌, ap, arith}
 use Rattle.std.proofs.lemmas.List.{take_all}
 use Rattle.hazard_core.specs.cell_core.Cells.{bit, bits_from}
-use Rattle.hazard_core.specs.Held.{takes_key, writes}
+use Rattle.hazard_core.specs.StageValues.{takes_key, writes}
 use Rattle.cell_nets.specs.Operands.{number_in, IsAvailable}
 use Rattle.cell_nets.specs.Wires.{wires_of}
 use Rattle.overlay_net.specs.Seen.{all_read, HasOperands}

@@ -4,8 +4,8 @@ use Rattle.hazard_core.specs.Overlay.{key_pointer, answer_over}
 use Rattle.cell_nets.specs.Wires.{wires_of}
 use Rattle.overlay_net.proofs.AnswerLemmas.{lookup_is}
 use Rattle.cell_nets.proofs.StepNets.ChainLaws.{starts, last}
-use Rattle.overlay_net.proofs.WriteLemmas.{found_on}
 use Rattle.overlay_net.proofs.answering.lookup_answer.Goals as goal
+use Rattle.overlay_net.proofs.PointerLaws.{found_on}
 
 pub returns : goal.returns
 returns g c =

@@ -6,7 +6,7 @@ use Rattle.hazard_core.specs.xdp_maps.Contents.{index_of}
 use Rattle.hazard_core.specs.cell_core.Cells.{on, bits_from}
 use Rattle.hazard_core.specs.cell_core.Sites.{site_at, bytes_of}
 use Rattle.hazard_core.specs.Tables.{table_at, used_count}
-use Rattle.hazard_core.specs.Held.{is_null, held_value, adds_key, takes_key}
+use Rattle.hazard_core.specs.StageValues.{is_null, stage_value, adds_key, takes_key}
 use Rattle.hazard_core.specs.Overlay.{key_pointer, update_answer, answer_over}
 use Rattle.cell_nets.specs.Operands.{number_in, IsOperand, IsAvailable}
 use Rattle.cell_nets.specs.Wires.{wires_of}
@@ -14,10 +14,11 @@ use Rattle.overlay_net.specs.SiteOperands.Sites.{operands_of, all_of}
 use Rattle.overlay_net.specs.Seen.{all_read}
 use Rattle.overlay_net.proofs.AnswerLemmas.{update_is, index_first}
 use Rattle.cell_nets.proofs.StepNets.ChainLaws.{starts, next, last}
-use Rattle.overlay_net.proofs.FindLemmas.{first_of, tail_of, left_of, right_of, keys_of, others_of}
+use Rattle.overlay_net.proofs.FindLemmas.{first_of, tail_of, left_of, right_of}
 use Rattle.cell_nets.proofs.StepNets.StepLaws.{all_each}
-use Rattle.overlay_net.proofs.WriteLemmas.{found_on}
 use Rattle.overlay_net.proofs.answering.update_answer.Goals as goal
+use Rattle.overlay_net.proofs.PointerLaws.{found_on}
+use Rattle.overlay_net.proofs.SiteOperandLaws.{keys_of, others_of}
 
 pub returns-in_ok-out-in-Hash : goal.returns-in_ok-out-in-Hash
 returns-in_ok-out-in-Hash g c =
@@ -49,11 +50,11 @@ returns-in_ok-out-in-Hash g c =
           (λ v f k. k.1) (λ v. bits_from (answer_over p t h before j) from width)
           (λ v f k.
           let q = key_pointer p t h before j in
-          let others = map_list (held_value h) (site_at p.sites j).operands in
+          let others = map_list (stage_value h) (site_at p.sites j).operands in
           ap (λ n. bits_from n from width)
           (ap (λ b. cast_unsigned w64 (number_of (hash_refusal (d.cap + less) more b (number_in v flags)))) (ap on k.0.2 ∙ found_on q)
           ∙ ap (λ n. cast_unsigned w64 (number_of (hash_refusal (d.cap + less) more (not (is_null q)) n))) (c.operand_at-flags.ensures.number v ∙ ap (λ l. slice_index (map_list (number_in v) l) 0) c.deref.ensures.value ∙ ap (λ l. slice_index l 0) k.0.0.operands)
-          ∙ sym (update_is p t h before j d is ∙ ap (λ b. cast_unsigned w64 (update_answer b d more less (not (is_null q)) (bytes_of d.key (map_list (held_value h) (site_at p.sites j).key)) (slice_index others 0))) c.in-Hash.is)));
+          ∙ sym (update_is p t h before j d is ∙ ap (λ b. cast_unsigned w64 (update_answer b d more less (not (is_null q)) (bytes_of d.key (map_list (stage_value h) (site_at p.sites j).key)) (slice_index others 0))) c.in-Hash.is)));
     }
 
 pub returns-in_ok-out-in-Array : goal.returns-in_ok-out-in-Array
@@ -82,8 +83,8 @@ returns-in_ok-out-in-Array g c =
           (λ v f k. tt) (λ v. bits_from (answer_over p t h before j) from width)
           (λ v f k.
           let q = key_pointer p t h before j in
-          let keys = map_list (held_value h) (site_at p.sites j).key in
-          let others = map_list (held_value h) (site_at p.sites j).operands in
+          let keys = map_list (stage_value h) (site_at p.sites j).key in
+          let others = map_list (stage_value h) (site_at p.sites j).operands in
           let n = slice_index others 0 in
           ap (λ n. bits_from n from width)
           (ap (λ l. cast_unsigned w64 (number_of (array_refusal d.cap (bits_from (slice_index (map_list (number_in v) l) 0) 0 32) (number_in v flags)))) words.ensures.value

@@ -1,7 +1,7 @@
 use Rattle.std.proofs.Common.{◌∙◌, ◌∷◌, ◌++◌, sym, ap, arith}
 use Rattle.cell_nets.specs.Wires.{wires_of}
 use Rattle.overlay_net.specs.SiteOperands.Pointers.{pointer_number}
-use Rattle.hazard_core.specs.Held.{written_pointer}
+use Rattle.hazard_core.specs.StageValues.{written_pointer}
 use Rattle.hazard_core.specs.Overlay.{found_as}
 use Rattle.overlay_net.specs.Seen.{read_of}
 use Rattle.cell_nets.proofs.StepNets.ChainLaws.{starts, ends}

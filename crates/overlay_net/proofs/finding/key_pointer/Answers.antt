@@ -4,15 +4,16 @@ use Rattle.std.proofs.lemmas.List.{take_all}
 use Rattle.hazard_core.specs.xdp_maps.declared.decl.MapDecl.{MapDecl}
 use Rattle.hazard_core.specs.cell_core.Sites.{site_at}
 use Rattle.hazard_core.specs.Tables.{table_at}
-use Rattle.hazard_core.specs.Held.{asked_key, slot_pointer}
+use Rattle.hazard_core.specs.StageValues.{asked_key, slot_pointer}
 use Rattle.hazard_core.specs.Overlay.{found_over, key_pointer}
 use Rattle.cell_nets.specs.Operands.{IsOperand}
 use Rattle.overlay_net.specs.SiteOperands.Pointers.{pointer_number}
 use Rattle.overlay_net.specs.SiteOperands.Sites.{operands_of, all_of}
 use Rattle.overlay_net.specs.Seen.{all_read, IsSeen}
-use Rattle.overlay_net.proofs.FindLemmas.{keys_of, over_key, over_more, hash_key, array_key}
+use Rattle.overlay_net.proofs.FindLemmas.{over_key, over_more, hash_key, array_key}
 use Rattle.cell_nets.proofs.StepNets.StepLaws.{cut_given, avail_at, gives_same}
 use Rattle.overlay_net.proofs.finding.key_pointer.Goals as goal
+use Rattle.overlay_net.proofs.SiteOperandLaws.{keys_of}
 
 pub loop-seen-init : goal.loop-seen-init
 loop-seen-init g c =

@@ -4,12 +4,13 @@ use Rattle.std.proofs.Common.{◌∙◌, ◌&&◌, [], ◌∷◌, ◌++◌, All,
 use Rattle.std.proofs.lemmas.List.Elements.{All-append}
 use Rattle.hazard_core.specs.cell_core.Cells.{on, bits_from}
 use Rattle.hazard_core.specs.cell_core.Sites.{bytes_of}
+use Rattle.hazard_core.proofs.cell_core_laws.BitLaws.{small_bits}
 use Rattle.cell_nets.specs.Operands.{number_in, IsOperand, IsAvailable}
 use Rattle.cell_nets.specs.Wires.{wires_of, always}
 use Rattle.overlay_net.specs.Seen.{read_of}
 use Rattle.cell_nets.proofs.StepNets.ChainLaws.{starts, next, last}
 use Rattle.overlay_net.proofs.FindLemmas.{left_of, right_of, tail_of, keys_read, key_given}
-use Rattle.cell_nets.proofs.StepNets.StepLaws.{all_each, on_bit, small_bits, narrow_small, choice_small}
+use Rattle.cell_nets.proofs.StepNets.StepLaws.{all_each, on_bit, narrow_small, choice_small}
 use Rattle.overlay_net.proofs.finding.moved.Goals as goal
 
 pub same_key-requires-clause-left : goal.same_key-requires-clause-left

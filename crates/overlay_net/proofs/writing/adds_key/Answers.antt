@@ -1,6 +1,6 @@
 use Rattle.std.proofs.Common.{[], ◌∷◌, arith}
 use Rattle.hazard_core.specs.cell_core.Cells.{bit}
-use Rattle.hazard_core.specs.Held.{adds_key}
+use Rattle.hazard_core.specs.StageValues.{adds_key}
 use Rattle.cell_nets.specs.Operands.{number_in, IsAvailable}
 use Rattle.cell_nets.specs.Wires.{wires_of}
 use Rattle.overlay_net.specs.SiteOperands.Sites.{operands_of, all_of}

@@ -1,6 +1,6 @@
 use Rattle.std.proofs.Common.{[], ◌∷◌, arith}
 use Rattle.hazard_core.specs.cell_core.Cells.{bit}
-use Rattle.hazard_core.specs.Held.{takes_key}
+use Rattle.hazard_core.specs.StageValues.{takes_key}
 use Rattle.cell_nets.specs.Operands.{number_in}
 use Rattle.cell_nets.specs.Wires.{wires_of}
 use Rattle.cell_nets.proofs.StepNets.ChainLaws.{starts, last, ends}

@@ -2,7 +2,7 @@ use Rattle.std.specs.Prelude.{not}
 use Rattle.std.proofs.Common.{true, false, ◌∙◌, [], ◌∷◌, ap, arith}
 use Rattle.hazard_core.specs.cell_core.declared.site.Act.TheVariants as act
 use Rattle.hazard_core.specs.cell_core.Cells.{bit, on}
-use Rattle.hazard_core.specs.Held.{writes, writes_as}
+use Rattle.hazard_core.specs.StageValues.{writes, writes_as}
 use Rattle.cell_nets.specs.Operands.{number_in, IsAvailable}
 use Rattle.cell_nets.specs.Wires.{wires_of}
 use Rattle.overlay_net.specs.SiteOperands.Sites.{operands_of, all_of}

@@ -2,14 +2,15 @@ use Rattle.std.specs.Prelude.{if◌then◌else◌}
 use Rattle.std.proofs.Common.{◌^◌, ◌∙◌, ◌+◌, ◌*◌, [], ◌∷◌, ap, sym, arith}
 use Rattle.hazard_core.specs.cell_core.declared.site.Act.TheVariants as act
 use Rattle.hazard_core.specs.cell_core.Cells.{on}
-use Rattle.hazard_core.specs.Held.{written_as, written_pointer}
+use Rattle.hazard_core.specs.StageValues.{written_as, written_pointer}
+use Rattle.hazard_core.proofs.cell_core_laws.BitLaws.{small_bits}
 use Rattle.cell_nets.specs.declared.operand.Operand.TheVariants.{Known}
 use Rattle.cell_nets.specs.Operands.{number_in, IsAvailable}
 use Rattle.cell_nets.specs.Wires.{wires_of}
 use Rattle.overlay_net.specs.SiteOperands.Pointers.{pointer_number}
 use Rattle.overlay_net.specs.SiteOperands.Sites.{operands_of, all_of}
 use Rattle.cell_nets.proofs.StepNets.ChainLaws.{starts, last}
-use Rattle.cell_nets.proofs.StepNets.StepLaws.{all_each, small_bits, narrow_small, choice_small, cut_given}
+use Rattle.cell_nets.proofs.StepNets.StepLaws.{all_each, narrow_small, choice_small, cut_given}
 use Rattle.overlay_net.proofs.WriteLemmas.{written_is, others_through, update_written}
 use Rattle.overlay_net.proofs.writing.written_pointer.Goals as goal
 

@@ -1,7 +1,7 @@
 use Rattle.std.proofs.Common.{◌≡◌, length, min, ap, arith}
 use Rattle.realization.specs.beat_core.Beats.{bytes_of_beat}
 use Rattle.realization.proofs.beat_core_laws.WordLaws.{length-low_bytes, prefix_is}
-use Rattle.pipe_core.proofs.Arriving.{written_to}
+use Rattle.realization.proofs.list_laws_laws.WrittenLaws.{written_to}
 use Rattle.pipe_core.proofs.arrived.write_beat.Goals as goal
 
 pub overwrite-requires : goal.overwrite-requires

@@ -1,5 +1,5 @@
 use Rattle.pipe_core.proofs.Committing.{commits_are_writes, ends_unsent}
-use Rattle.pipe_core.specs.InTurn.{KeepsSequential}
+use Rattle.pipe_core.specs.SequentialOrder.{KeepsSequential}
 use Rattle.pipe_core.proofs.laws.commits.Goals as goal
 
 pub returns : goal.returns

@@ -1,6 +1,6 @@
 use Rattle.pipe_core.proofs.Carrying.{computed}
 use Rattle.pipe_core.proofs.Overlapping.{keeps_sequential, runs_in_turn, final_maps}
-use Rattle.pipe_core.specs.InTurn.{KeepsSequential}
+use Rattle.pipe_core.specs.SequentialOrder.{KeepsSequential}
 use Rattle.pipe_core.proofs.laws.runs_in_turn.Goals as goal
 
 pub returns : goal.returns

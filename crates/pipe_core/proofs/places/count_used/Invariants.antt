@@ -1,6 +1,6 @@
 use Rattle.std.proofs.Common.{◌≡◌, ◌+◌, ◌≤◌, drop, map as map_list}
 use Rattle.pipe_core.specs.Machine.{inside}
-use Rattle.pipe_core.specs.Stocked.{in_place}
+use Rattle.pipe_core.specs.StageMemory.{in_place}
 use Rattle.pipe_core.proofs.places.count_used.Given as goal
 
 abbrev pub invariant-loop-place : goal.invariant-loop-place

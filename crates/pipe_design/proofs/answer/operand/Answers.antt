@@ -1,5 +1,5 @@
 use Rattle.std.proofs.Common.{IsSome, refl, sym, subst, arith}
-use Rattle.pipe_design.proofs.Answering.{stands_inside}
+use Rattle.row_net.proofs.TableLaws.{stands_inside}
 use Rattle.pipe_design.proofs.answer.operand.Goals as goal
 
 pub offset_bounds-table-cell : goal.offset_bounds-table-cell

@@ -13,6 +13,6 @@ returns c =
     (cons_both c.in_ok-slots.ensures
     (cons_both c.in_ok-words.ensures
     (cons_both c.in_ok-targets.ensures
-    (cons_both (ap (map_list block_of) c.in_ok-turns.ensures.items)
+    (cons_both (ap (map_list block_of) c.in_ok-actions.ensures.items)
     (cons_both c.in_ok-operations.ensures
     (cons_both (ap (map_list block_of) c.in_ok-control.ensures.items) (cons_both refl (cons_both (ap (map_list block_of) c.in_ok-answers.ensures.items) (cons_both refl refl)))))))))))

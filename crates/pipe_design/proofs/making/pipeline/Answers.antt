@@ -13,18 +13,18 @@ pub returns-in_err-design-clause-large : goal.returns-in_err-design-clause-large
 returns-in_err-design-clause-large c = λ e.
     let x = c.in_err-design.field-0.0 in
     let is : error.TooMany ≡ of_link x = subst (λ r. IsErrAnd r (λ y. y ≡ of_link x)) e c.from_residual-in_err-design.ensures.1 in
-    of_program IsTooLarge c.args.program.now c.args.plan.now c.args.decls.now c.in_ok-draft.draft c.in_ok-draft.ensures.draft (c.in_err-design.ensures.large (ap Err (too_many x (sym is))))
+    of_program IsTooLarge c.args.program.now c.args.plan.now c.args.decls.now c.in_ok-pipeline_plan.pipeline_plan c.in_ok-pipeline_plan.ensures.pipeline_plan (c.in_err-design.ensures.large (ap Err (too_many x (sym is))))
 
 pub returns-in_err-design-clause-late : goal.returns-in_err-design-clause-late
 returns-in_err-design-clause-late c = λ few late.
-    let of = c.in_ok-draft.ensures.draft in
-    absurd (late (of_program (λ p plan decls. AreEarly p (slice_index plan.rows)) c.args.program.now c.args.plan.now c.args.decls.now c.in_ok-draft.draft of of.is.early))
+    let of = c.in_ok-pipeline_plan.ensures.pipeline_plan in
+    absurd (late (of_program (λ p plan decls. AreEarly p (slice_index plan.rows)) c.args.program.now c.args.plan.now c.args.decls.now c.in_ok-pipeline_plan.pipeline_plan of of.is.early))
 
 pub returns-clause-design : goal.returns-clause-design
 returns-clause-design c =
-    of_program (λ p plan decls. IsPipelineOf p plan decls (netlist_of c.in_ok-design.design)) c.args.program.now c.args.plan.now c.args.decls.now c.in_ok-draft.draft c.in_ok-draft.ensures.draft c.in_ok-design.ensures.design
+    of_program (λ p plan decls. IsPipelineOf p plan decls (netlist_of c.in_ok-design.design)) c.args.program.now c.args.plan.now c.args.decls.now c.in_ok-pipeline_plan.pipeline_plan c.in_ok-pipeline_plan.ensures.pipeline_plan c.in_ok-design.ensures.design
 
 pub returns-clause-late : goal.returns-clause-late
 returns-clause-late c = λ few late.
-    let of = c.in_ok-draft.ensures.draft in
-    absurd (late (of_program (λ p plan decls. AreEarly p (slice_index plan.rows)) c.args.program.now c.args.plan.now c.args.decls.now c.in_ok-draft.draft of of.is.early))
+    let of = c.in_ok-pipeline_plan.ensures.pipeline_plan in
+    absurd (late (of_program (λ p plan decls. AreEarly p (slice_index plan.rows)) c.args.program.now c.args.plan.now c.args.decls.now c.in_ok-pipeline_plan.pipeline_plan of of.is.early))

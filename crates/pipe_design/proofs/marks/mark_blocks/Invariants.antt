@@ -3,12 +3,12 @@ use Rattle.block_core.specs.declared.name.Name.{Name}
 use Rattle.block_core.specs.declared.block.Block.{Block}
 use Rattle.block_core.specs.View.{block_of}
 use Rattle.pipe_net.specs.declared.parts.Part.{Part}
-use Rattle.pipe_parts.specs.declared.pipe_draft.places.Behind.{Behind}
+use Rattle.pipe_parts.specs.declared.pipe_draft.places.StageSources.{StageSources}
 use Rattle.place_parts.specs.MarkParts.Marks.{IsMarksPart}
 use Rattle.pipe_design.proofs.marks.mark_blocks.Given as goal
 
 abbrev pub invariant-loop-k : goal.invariant-loop-k
 invariant-loop-k l = record {
   count : length l.blocks.items ≡ l.k;
-  each : (k : ℕ) (x : Block (Name Part)) → k < l.k → (b : Behind) → IsMarksPart l.layout (get_or l.places k b).sites.items l.changes k (block_of (get_or l.blocks.items k x));
+  each : (k : ℕ) (x : Block (Name Part)) → k < l.k → (b : StageSources) → IsMarksPart l.layout (get_or l.places k b).sites.items l.changes k (block_of (get_or l.blocks.items k x));
 }

@@ -8,14 +8,14 @@ use Rattle.place_parts.proofs.Taking.{words_are}
 use Rattle.place_parts.proofs.parts.place_parts.Goals as goal
 
 pub first_place-requires-clause-words : goal.first_place-requires-clause-words
-first_place-requires-clause-words c = subst (All IsOperand) (sym c.deref-2.ensures.value) (words_are c.args.draft.now c.deref.result.now c.in_ok-nets.nets.items c.in_ok-nets.ensures)
+first_place-requires-clause-words c = subst (All IsOperand) (sym c.deref-2.ensures.value) (words_are c.args.pipeline_plan.now c.deref.result.now c.in_ok-nets.nets.items c.in_ok-nets.ensures)
 
 pub stages-requires-clause-words : goal.stages-requires-clause-words
-stages-requires-clause-words c = subst (All IsOperand) (sym c.deref-3.ensures.value) (words_are c.args.draft.now c.deref.result.now c.in_ok-nets.nets.items c.in_ok-nets.ensures)
+stages-requires-clause-words c = subst (All IsOperand) (sym c.deref-3.ensures.value) (words_are c.args.pipeline_plan.now c.deref.result.now c.in_ok-nets.nets.items c.in_ok-nets.ensures)
 
 pub returns : goal.returns
 returns c =
-    let d = c.args.draft.now in
+    let d = c.args.pipeline_plan.now in
     let maps = c.args.maps.now in
     let made = c.in_ok-block.ensures in
     record {

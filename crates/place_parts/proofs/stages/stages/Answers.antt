@@ -11,7 +11,7 @@ pub loop-before-preserved : goal.loop-before-preserved
 loop-before-preserved c =
     let a = c.args in
     let l = c.loop-before in
-    let P : ℕ → Block (Name Part) → Type 0 = λ k b. IsLaterStage a.draft.now a.places.now a.maps.now a.words.now k (block_of b) in
+    let P : ℕ → Block (Name Part) → Type 0 = λ k b. IsLaterStage a.pipeline_plan.now a.places.now a.maps.now a.words.now k (block_of b) in
     let x = c.in_ok-later_stage.field-0 in
     let more = block_more P a.first l.blocks.items l.before x l.invariant.count l.invariant.first l.invariant.later c.in_ok-later_stage.ensures in
     subst (λ xs. record { count : length xs ≡ suc (l.before + 1); first : (b : Block (Name Part)) → get_or xs 0 b ≡ a.first; later : (k : ℕ) (b : Block (Name Part)) → k < l.before + 1 → P k (get_or xs (suc k) b) }) (sym {A = List (Block (Name Part))} c.in_ok-push-2.ensures.items)

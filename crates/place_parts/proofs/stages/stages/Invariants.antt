@@ -10,5 +10,5 @@ abbrev pub invariant-loop-before : goal.invariant-loop-before
 invariant-loop-before l = record {
   count : length l.blocks.items ≡ suc l.before;
   first : (b : Block (Name Part)) → get_or l.blocks.items 0 b ≡ l.fn.first;
-  later : (k : ℕ) (b : Block (Name Part)) → k < l.before → IsLaterStage l.draft l.places l.maps l.words k (block_of (get_or l.blocks.items (suc k) b));
+  later : (k : ℕ) (b : Block (Name Part)) → k < l.before → IsLaterStage l.pipeline_plan l.places l.maps l.words k (block_of (get_or l.blocks.items (suc k) b));
 }

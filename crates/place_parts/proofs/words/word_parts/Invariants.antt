@@ -8,5 +8,5 @@ use Rattle.place_parts.proofs.words.word_parts.Given as goal
 abbrev pub invariant-loop-i : goal.invariant-loop-i
 invariant-loop-i l = record {
   count : length l.words.items ≡ l.i;
-  each : (i : ℕ) (x : PointedWords (Name Part)) → i < l.i → IsWordPart l.draft l.places i (get_or l.words.items i x);
+  each : (i : ℕ) (x : PointedWords (Name Part)) → i < l.i → IsWordPart l.pipeline_plan l.places i (get_or l.words.items i x);
 }

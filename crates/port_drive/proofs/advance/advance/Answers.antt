@@ -1,6 +1,7 @@
 use Rattle.std.proofs.Common.{◌≡◌, drop, refl, sym, ap, ◌∙◌}
 use Rattle.net_core.specs.Ports.{words_of}
-use Rattle.net_core.specs.History.{drive_inputs, cycle_of, inputs_with}
+use Rattle.net_core.specs.Trace.{cycle_of}
+use Rattle.realization.specs.History.{drive_inputs, inputs_with}
 use Rattle.net_core.proofs.ClockLaws.{clock_leaves}
 use Rattle.port_drive.proofs.BeatLemmas.{inputs_are, left_gone, left_stays}
 use Rattle.port_drive.proofs.advance.advance.Goals as goal

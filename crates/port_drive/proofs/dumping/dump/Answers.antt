@@ -1,5 +1,5 @@
 use Rattle.std.proofs.Common.{◌+◌, ◌<◌, length, drop, subst, ◌∙◌, arith}
-use Rattle.net_core.specs.History.{NeverStops}
+use Rattle.net_core.specs.Trace.{NeverStops}
 use Rattle.xdp_maps.specs.State.{decl_at}
 use Rattle.realization.specs.HostHistory.Host.{map_reads, reads, dump}
 use Rattle.port_drive.proofs.HostClocks.{stops_in}

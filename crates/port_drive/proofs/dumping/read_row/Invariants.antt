@@ -1,6 +1,6 @@
 use Rattle.std.proofs.Common.{◌≡◌, ◌++◌, ◌-◌, length, take, map}
 use Rattle.std.specs.List.{range_with_len}
-use Rattle.net_core.specs.History.{trace}
+use Rattle.net_core.specs.Trace.{trace}
 use Rattle.realization.specs.HostHistory.Host.{asked, shown_words}
 use Rattle.port_drive.proofs.HostClocks.{UnderWay}
 use Rattle.port_drive.proofs.dumping.read_row.Given as goal

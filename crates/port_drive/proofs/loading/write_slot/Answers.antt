@@ -2,8 +2,9 @@ use Rattle.std.proofs.Common.{◌≡◌, ◌+◌, ◌∷◌, ◌++◌, [], lengt
 use Rattle.std.proofs.lemmas.List.{append-nil}
 use Rattle.realization.specs.HostHistory.Rows.{words_of, slot_of}
 use Rattle.realization.specs.HostHistory.Host.{row_writes, written}
+use Rattle.realization.proofs.WordLaws.{length-words_of}
 use Rattle.port_drive.proofs.HostClocks.{begins, goes_on, stops_in, last_part}
-use Rattle.port_drive.proofs.LoadLemmas.{row_writes-append, length-words}
+use Rattle.port_drive.proofs.LoadLemmas.{row_writes-append}
 use Rattle.port_drive.proofs.loading.write_slot.Goals as goal
 
 pub returns-in-Err-clause-clocks : goal.returns-in-Err-clause-clocks
@@ -28,7 +29,7 @@ returns-clause-clocks c =
     let s = c.args.sim.now.stored in
     let whole = row_writes c.args.map c.args.index 0 (slot_of (c.args.key.now, c.args.value.now)) in
     let first = goes_on d s whole (written c.args.map c.args.index 0 1 ∷ []) (row_writes c.args.map c.args.index 1 (words_of c.args.key.now ++ words_of c.args.value.now)) whole s c.write_word.new.sim.stored (begins d s whole) refl c.in-Ok.ensures.clocks in
-    let behind : 1 + length (words_of c.args.key.now) ≡ 1 + c.div_ceil-behind.result = omega (arith, length-words c.args.key.now, c.div_ceil-behind.ensures) in
+    let behind : 1 + length (words_of c.args.key.now) ≡ 1 + c.div_ceil-behind.result = omega (arith, length-words_of c.args.key.now, c.div_ceil-behind.ensures) in
     let parts = row_writes-append c.args.map c.args.index 1 (1 + c.div_ceil-behind.result) (words_of c.args.key.now) (words_of c.args.value.now) behind in
     let second = goes_on d s whole (row_writes c.args.map c.args.index 1 (words_of c.args.key.now)) (row_writes c.args.map c.args.index (1 + c.div_ceil-behind.result) (words_of c.args.value.now)) _ c.write_word.new.sim.stored c.write_bytes.new.sim.stored first parts (rw c.in-Ok.ensures.netlist at c.in-Ok-write_bytes.ensures.clocks) in
     last_part d s whole c.write_bytes-2.result (row_writes c.args.map c.args.index (1 + c.div_ceil-behind.result) (words_of c.args.value.now)) _ c.write_bytes.new.sim.stored c.write_bytes-2.new.sim.stored second (sym (append-nil (row_writes c.args.map c.args.index (1 + c.div_ceil-behind.result) (words_of c.args.value.now)))) (rw (c.in-Ok-write_bytes.ensures.netlist, c.in-Ok.ensures.netlist) at c.write_bytes-2.ensures.clocks)

@@ -11,7 +11,7 @@ use Rattle.predicate_core.specs.Gathering.{GathersTo}
 use Rattle.predicate_core.specs.Stages.{kinds_of}
 use Rattle.operator_cells.specs.Making.{seen}
 use Rattle.operator_cells.specs.HeldCells.Paths.{NodeView, node_at}
-use Rattle.operator_cells.specs.HeldCells.Held.{pointed}
+use Rattle.operator_cells.specs.HeldCells.RegisterCells.{pointed}
 use Rattle.edge_cells.specs.Joining.{LeadTo}
 use Rattle.edge_cells.specs.Widening.{AreFilled}
 use Rattle.predicate_core.specs.ProgramGraph.Graphs.{node_view, graph_of}

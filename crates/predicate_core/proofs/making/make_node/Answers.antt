@@ -12,8 +12,9 @@ use Rattle.cell_core.specs.declared.site.Site.{Site}
 use Rattle.operator_cells.specs.declared.held_cells.way.Way.{Way}
 use Rattle.operator_cells.specs.Making.{seen}
 use Rattle.operator_cells.specs.HeldCells.Paths.{NodeView, node_at}
-use Rattle.operator_cells.specs.HeldCells.Held.{pointed, AreInside}
+use Rattle.operator_cells.specs.HeldCells.RegisterCells.{pointed, AreInside}
 use Rattle.operator_cells.specs.HeldCells.Steps.{Steps}
+use Rattle.operator_cells.proofs.SeenLaws.{seen_length}
 use Rattle.edge_cells.specs.NodeCells.Ends.{IsNode, is_reference, brought, all_brought}
 use Rattle.edge_cells.specs.NodeCells.Feeding.{Leave}
 use Rattle.site_cells.specs.Sited.{sited}
@@ -24,7 +25,7 @@ use Rattle.predicate_core.specs.ProgramGraph.Graphs.{node_view, graph_of}
 use Rattle.predicate_core.specs.ProgramGraph.Sound.{IsSoundGraph}
 use Rattle.predicate_core.specs.Feeding.{FeedsNodes}
 use Rattle.predicate_core.specs.Progress.{making_of, entries_of, pending_of, targets, Entered}
-use Rattle.predicate_core.proofs.Progressing.{node_is, made_there, site_more, sited_count, small_keys, insn_legal, targets_inside, leave_inside, seen_count, node_made, ready_next, pending_more}
+use Rattle.predicate_core.proofs.Progressing.{node_is, made_there, site_more, sited_count, small_keys, insn_legal, targets_inside, leave_inside, node_made, ready_next, pending_more}
 use Rattle.predicate_core.specs.Laws.{made_next}
 use Rattle.predicate_core.specs.Gathering.{PassesTo}
 use Rattle.predicate_core.specs.Stages.{kinds_of}
@@ -122,7 +123,7 @@ returns-clause-ready c =
     (subst (λ (ws : List Way). Entered (take (length c.arrive_at.new.progress.pending.items) (targets ws)) (targets ws) (entries_of c.arrive_at.new.progress) (map (λ x. x.items) c.enter.new.entries.items) (pending_of c.arrive_at.new.progress) (map (λ x. x.items) c.enter.new.pending.items) c.deref-4.result.now) c.deref-3.ensures.value c.in_ok-enter.ensures))
     (c.in_ok-pass.ensures.count ∙ c.in_ok-arrived.ensures.comes.waiting.0, c.in_ok-pass.ensures.there)
     (c.in_ok-push.ensures.items ∙ ap (λ (n : Node). c.arrive_at.new.progress.nodes.items ++ n ∷ []) (node_made (graph_of c.args.program.now c.args.unfolded.now) c.args.node c.in_ok-arrived.arrived.here.guard (seen c.args.progress.now.made.cells.items) (seen c.pass.new.cells.items) _ _ _
-    (c.place-place.ensures ∙ sym (ap (λ (n : NodeView). n.place) is)) (omega (arith, c.in-Ok.ensures, c.len-first.ensures, seen_count c.args.progress.now.made.cells.items)) (omega (arith, c.in-Ok-try_from.ensures, c.len.ensures, seen_count c.pass.new.cells.items))))
+    (c.place-place.ensures ∙ sym (ap (λ (n : NodeView). n.place) is)) (omega (arith, c.in-Ok.ensures, c.len-first.ensures, seen_length c.args.progress.now.made.cells.items)) (omega (arith, c.in-Ok-try_from.ensures, c.len.ensures, seen_length c.pass.new.cells.items))))
     refl
 
 pub returns-clause-rows : goal.returns-clause-rows
@@ -146,7 +147,7 @@ returns-clause-rows c fit =
     (subst (λ (t : Bool). map brought c.step_node.new.made.ways.items ≡ map brought c.arrive_at.new.progress.made.ways.items ++ all_brought (graph_of c.args.program.now c.args.unfolded.now).decls c.args.node c.index-at.result.now.kinds c.args.insn.now t c.args.ends.next c.args.ends.jump) refers
     (subst (λ (ds : List MapDecl). map brought c.step_node.new.made.ways.items ≡ map brought c.arrive_at.new.progress.made.ways.items ++ all_brought ds c.args.node c.index-at.result.now.kinds c.args.insn.now c.contains.result c.args.ends.next c.args.ends.jump) c.decls.ensures.decls c.in_ok-step_node.ensures.brought)) in
     let sites_at : c.len-sites_before.result ≡ length (sited c.args.progress.now.made.sites.items) = sited_count c.args.progress.now.made.sites c.args.progress.now.made.sites c.len-sites_before.result (omega (arith, c.len-sites_before.ensures)) refl in
-    let first_at : c.len-first.result ≡ length (seen c.args.progress.now.made.cells.items) = omega (arith, c.len-first.ensures, seen_count c.args.progress.now.made.cells.items) in
+    let first_at : c.len-first.result ≡ length (seen c.args.progress.now.made.cells.items) = omega (arith, c.len-first.ensures, seen_length c.args.progress.now.made.cells.items) in
     let passes : PassesTo (seen c.step_node.new.made.cells.items) (seen c.pass.new.cells.items) (sited c.step_node.new.made.sites.items) (length (sited c.args.progress.now.made.sites.items)) (length (seen c.args.progress.now.made.cells.items)) c.in_ok-arrived.arrived.pending.items c.pass.new.pending.items =
     subst (λ (n : ℕ). PassesTo (seen c.step_node.new.made.cells.items) (seen c.pass.new.cells.items) (sited c.step_node.new.made.sites.items) (length (sited c.args.progress.now.made.sites.items)) n c.in_ok-arrived.arrived.pending.items c.pass.new.pending.items) first_at
     (subst (λ (n : ℕ). PassesTo (seen c.step_node.new.made.cells.items) (seen c.pass.new.cells.items) (sited c.step_node.new.made.sites.items) n c.len-first.result c.in_ok-arrived.arrived.pending.items c.pass.new.pending.items) sites_at
@@ -162,7 +163,7 @@ returns-clause-rows c fit =
     (subst (λ (row : List ℕ). Entered (take (length c.arrive_at.new.progress.pending.items) (targets c.step_node.new.made.ways.items)) (targets c.step_node.new.made.ways.items) (entries_of c.arrive_at.new.progress) (map (λ x. x.items) c.enter.new.entries.items) (pending_of c.arrive_at.new.progress) (map (λ x. x.items) c.enter.new.pending.items) row) c.deref-4.ensures.value
     (subst (λ (ws : List Way). Entered (take (length c.arrive_at.new.progress.pending.items) (targets ws)) (targets ws) (entries_of c.arrive_at.new.progress) (map (λ x. x.items) c.enter.new.entries.items) (pending_of c.arrive_at.new.progress) (map (λ x. x.items) c.enter.new.pending.items) c.deref-4.result.now) c.deref-3.ensures.value c.in_ok-enter.ensures)))
     (((c.in_ok-push.ensures.items ∙ ap (λ (n : Node). c.arrive_at.new.progress.nodes.items ++ n ∷ []) (node_made (graph_of c.args.program.now c.args.unfolded.now) c.args.node c.in_ok-arrived.arrived.here.guard (seen c.args.progress.now.made.cells.items) (seen c.pass.new.cells.items) _ _ _
-    (c.place-place.ensures ∙ sym (ap (λ (n : NodeView). n.place) is)) (omega (arith, c.in-Ok.ensures, c.len-first.ensures, seen_count c.args.progress.now.made.cells.items)) (omega (arith, c.in-Ok-try_from.ensures, c.len.ensures, seen_count c.pass.new.cells.items))))) ∙ ap (λ (ns : Vec Node Global). ns.items ++ made_next (graph_of c.args.program.now c.args.unfolded.now) c.args.node c.in_ok-arrived.arrived.here.guard (seen c.args.progress.now.made.cells.items) (seen c.pass.new.cells.items) ∷ []) c.in_ok-arrived.ensures.comes.nodes)
+    (c.place-place.ensures ∙ sym (ap (λ (n : NodeView). n.place) is)) (omega (arith, c.in-Ok.ensures, c.len-first.ensures, seen_length c.args.progress.now.made.cells.items)) (omega (arith, c.in-Ok-try_from.ensures, c.len.ensures, seen_length c.pass.new.cells.items))))) ∙ ap (λ (ns : Vec Node Global). ns.items ++ made_next (graph_of c.args.program.now c.args.unfolded.now) c.args.node c.in_ok-arrived.arrived.here.guard (seen c.args.progress.now.made.cells.items) (seen c.pass.new.cells.items) ∷ []) c.in_ok-arrived.ensures.comes.nodes)
     (subst (λ (ks : Kinds). NodePoints c.args.program.now.decls c.args.insn.now c.in_ok-arrived.arrived.pending.items ks c.in_ok-arrived.arrived.here (made_of c.arrive_at.new.progress.made) (made_of c.step_node.new.made)) of_point
     (subst (λ (w : List ℕ). NodePoints c.args.program.now.decls c.args.insn.now w c.index-at.result.now.kinds c.in_ok-arrived.arrived.here (made_of c.arrive_at.new.progress.made) (made_of c.step_node.new.made)) c.deref.ensures.value
     (subst (λ (ds : List MapDecl). NodePoints ds c.args.insn.now c.deref.result.now c.index-at.result.now.kinds c.in_ok-arrived.arrived.here (made_of c.arrive_at.new.progress.made) (made_of c.step_node.new.made)) c.decls.ensures.decls c.in_ok-step_node.ensures.points)))
@@ -193,7 +194,7 @@ returns-clause-reads c so_far before =
     (sited c.arrive_at.new.progress.made.sites.items) (sited c.step_node.new.made.sites.items) c.arrive_at.new.progress.made.ways.items c.step_node.new.made.ways.items c.arrive_at.new.progress.made.exits.items c.step_node.new.made.exits.items =
     c.in_ok-step_node.ensures.steps (graph_of c.args.program.now c.args.unfolded.now) (sym c.decls.ensures.decls) (subst (IsNode (graph_of c.args.program.now c.args.unfolded.now) c.args.node c.args.insn.now) kinds c.requires.insn) c.requires.ends refers (made_there (graph_of c.args.program.now c.args.unfolded.now) c.args.node c.args.progress.now c.arrive_at.new.progress c.in_ok-arrived.arrived.here c.in_ok-arrived.arrived.pending.items c.requires.ready c.in_ok-arrived.ensures.comes) in
     let sites_at : c.len-sites_before.result ≡ length (sited c.args.progress.now.made.sites.items) = sited_count c.args.progress.now.made.sites c.args.progress.now.made.sites c.len-sites_before.result (omega (arith, c.len-sites_before.ensures)) refl in
-    let first_at : c.len-first.result ≡ length (seen c.args.progress.now.made.cells.items) = omega (arith, c.len-first.ensures, seen_count c.args.progress.now.made.cells.items) in
+    let first_at : c.len-first.result ≡ length (seen c.args.progress.now.made.cells.items) = omega (arith, c.len-first.ensures, seen_length c.args.progress.now.made.cells.items) in
     let passes : PassesTo (seen c.step_node.new.made.cells.items) (seen c.pass.new.cells.items) (sited c.step_node.new.made.sites.items) (length (sited c.args.progress.now.made.sites.items)) (length (seen c.args.progress.now.made.cells.items)) c.in_ok-arrived.arrived.pending.items c.pass.new.pending.items =
     subst (λ (n : ℕ). PassesTo (seen c.step_node.new.made.cells.items) (seen c.pass.new.cells.items) (sited c.step_node.new.made.sites.items) (length (sited c.args.progress.now.made.sites.items)) n c.in_ok-arrived.arrived.pending.items c.pass.new.pending.items) first_at
     (subst (λ (n : ℕ). PassesTo (seen c.step_node.new.made.cells.items) (seen c.pass.new.cells.items) (sited c.step_node.new.made.sites.items) n c.len-first.result c.in_ok-arrived.arrived.pending.items c.pass.new.pending.items) sites_at

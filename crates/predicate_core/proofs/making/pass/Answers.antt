@@ -1,8 +1,9 @@
 use Rattle.std.proofs.Common.{◌∙◌, get_or, refl, ap, arith}
 use Rattle.std.proofs.lemmas.List.{get_or_default}
 use Rattle.cell_core.specs.Sites.{SiteView}
+use Rattle.site_cells.proofs.SitedLaws.{sited_length}
 use Rattle.predicate_core.proofs.Gathered.{passes_none, passes_some}
-use Rattle.predicate_core.proofs.Progressing.{sited_length, sited_at}
+use Rattle.predicate_core.proofs.Progressing.{sited_at}
 use Rattle.predicate_core.proofs.making.pass.Goals as goal
 
 pub index-requires : goal.index-requires

@@ -3,7 +3,7 @@ use Rattle.std.proofs.lemmas.List.{length-map}
 use Rattle.cell_core.specs.Cells.{CellView}
 use Rattle.operator_cells.specs.Making.{seen}
 use Rattle.operator_cells.specs.declared.held_cells.way.Way.{Way}
-use Rattle.operator_cells.specs.HeldCells.Held.{pointed}
+use Rattle.operator_cells.specs.HeldCells.RegisterCells.{pointed}
 use Rattle.site_cells.specs.Sited.{sited}
 use Rattle.predicate_core.specs.ProgramGraph.Graphs.{node_view, graph_of}
 use Rattle.predicate_core.specs.ProgramGraph.Sound.{IsSoundGraph}

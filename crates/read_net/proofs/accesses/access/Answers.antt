@@ -1,7 +1,7 @@
 use Rattle.std.proofs.Common.{◌/◌, ◌∷◌, ◌++◌, All, sym, ap, subst, arith}
 use Rattle.overlay_net.specs.cell_core.Cells.{bits_from}
 use Rattle.overlay_net.specs.cell_core.Sites.{site_at}
-use Rattle.pipe_core.specs.hazard_core.Held.{access_pointer}
+use Rattle.pipe_core.specs.hazard_core.StageValues.{access_pointer}
 use Rattle.pipe_core.specs.hazard_core.Overlay.{answer_over}
 use Rattle.overlay_net.specs.cell_nets.Operands.{IsAvailable}
 use Rattle.overlay_net.specs.cell_nets.Wires.{wires_of}

@@ -1,7 +1,7 @@
 use Rattle.std.proofs.Common.{◌∙◌, [], ◌∷◌, ◌++◌, All, refl, sym, ap, subst, arith, map as map_list}
 use Rattle.std.proofs.lemmas.List.Elements.{All-append}
 use Rattle.overlay_net.specs.cell_core.Sites.{site_at, bytes_of}
-use Rattle.pipe_core.specs.hazard_core.Held.{asked_key, slot_pointer}
+use Rattle.pipe_core.specs.hazard_core.StageValues.{asked_key, slot_pointer}
 use Rattle.pipe_core.specs.hazard_core.Tables.{table_at}
 use Rattle.overlay_net.specs.cell_nets.Operands.{number_in, IsOperand, IsAvailable}
 use Rattle.overlay_net.specs.cell_nets.Wires.{wires_of}

@@ -1,5 +1,6 @@
 use Rattle.std.proofs.Common.{◌∙◌, ◌∷◌, ◌++◌, All, length, sym, ap, subst, arith}
 use Rattle.std.proofs.lemmas.List.Elements.{All-append}
+use Rattle.xdp_maps.proofs.LimitLaws.{cap_few}
 use Rattle.overlay_net.specs.cell_core.declared.site.Act.TheVariants as does
 use Rattle.overlay_net.specs.cell_core.Sites.{site_at}
 use Rattle.pipe_core.specs.hazard_core.Tables.{table_at}
@@ -12,7 +13,7 @@ use Rattle.read_net.specs.Sites.{cells_of, all_cells, slot_cells, sites_of}
 use Rattle.read_net.proofs.StandLemmas.{left_of, right_of, first_of, tail_of}
 use Rattle.read_net.proofs.PendingLemmas.{are_of}
 use Rattle.read_net.proofs.ReadLemmas.{own_of, reads_found}
-use Rattle.read_net.proofs.UsedLemmas.{cap_few, index_key_bytes}
+use Rattle.read_net.proofs.UsedLemmas.{index_key_bytes}
 use Rattle.read_net.proofs.updates.update.Goals as goal
 
 pub update_answer-requires-clause-pending : goal.update_answer-requires-clause-pending

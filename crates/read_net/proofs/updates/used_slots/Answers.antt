@@ -1,5 +1,6 @@
 use Rattle.std.proofs.Common.{sym, arith}
-use Rattle.read_net.proofs.UsedLemmas.{array_used, cap_few}
+use Rattle.xdp_maps.proofs.LimitLaws.{cap_few}
+use Rattle.read_net.proofs.UsedLemmas.{array_used}
 use Rattle.read_net.proofs.updates.used_slots.Goals as goal
 
 pub returns-in-Hash : goal.returns-in-Hash

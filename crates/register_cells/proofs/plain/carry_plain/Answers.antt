@@ -1,4 +1,4 @@
-use Rattle.operator_cells.specs.HeldCells.Held.{pointed}
+use Rattle.operator_cells.specs.HeldCells.RegisterCells.{pointed}
 use Rattle.register_cells.proofs.plain.carry_plain.Goals as goal
 
 pub returns-in-Call-clause-rows : goal.returns-in-Call-clause-rows

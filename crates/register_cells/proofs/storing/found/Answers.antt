@@ -1,5 +1,5 @@
 use Rattle.std.proofs.Common.{sym, ap}
-use Rattle.operator_cells.specs.HeldCells.Held.{PointerView}
+use Rattle.operator_cells.specs.HeldCells.RegisterCells.{PointerView}
 use Rattle.register_cells.proofs.Stored.{pointed_there, pointed_at}
 use Rattle.register_cells.proofs.storing.found.Goals as goal
 

@@ -2,9 +2,9 @@ use Rattle.std.proofs.Common.{◌≡◌, ◌∙◌, ◌-◌, ◌<◌, ℕ, List,
 use Rattle.std.proofs.lemmas.List.{length-map}
 use Rattle.overlay_net.specs.cell_core.Cells.{CellView, cell_at}
 use Rattle.overlay_net.specs.cell_core.View.{cell_of, program_of}
-use Rattle.row_net.proofs.TableLemmas.{cell_is}
 use Rattle.row_net.proofs.MarkLemmas.{closes_none, closes_next, closes_same, closes_all, marks_of}
 use Rattle.row_net.proofs.needed.mark_inputs.Goals as goal
+use Rattle.row_plan.proofs.cell_core_laws.ViewLaws.{cell_is}
 
 pub loop-at-init : goal.loop-at-init
 loop-at-init c =

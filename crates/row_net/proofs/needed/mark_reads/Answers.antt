@@ -4,10 +4,10 @@ use Rattle.overlay_net.specs.cell_core.Cells.{CellView, cell_at, is_read}
 use Rattle.overlay_net.specs.cell_core.declared.cell.Cell.{Cell}
 use Rattle.overlay_net.specs.cell_core.View.{cell_of}
 use Rattle.row_net.specs.Needed.{Marks}
-use Rattle.row_net.proofs.TableLemmas.{cell_is}
 use Rattle.row_net.proofs.MarkLemmas.{FirstReads, reads_start, reads_next, reads_not, reads_all}
 use Rattle.row_net.proofs.needed.mark_reads.Goals as goal
 use Rattle.row_net.proofs.needed.mark_reads.Goals.{then-is_read, else-is_read}
+use Rattle.row_plan.proofs.cell_core_laws.ViewLaws.{cell_is}
 
 pub loop-number-init : goal.loop-number-init
 loop-number-init c = reads_start (map cell_of c.args.cells.now) c.args.flags.now

@@ -7,9 +7,9 @@ use Rattle.cell_nets.specs.Computing.{is_outside, makes_product, taken, HasDivis
 use Rattle.cell_nets.specs.Operands.{number_in, IsOperand}
 use Rattle.cell_nets.specs.Wires.{wires_of, GivesBy}
 use Rattle.row_net.specs.Table.{IsIn, AreOperands}
-use Rattle.row_net.proofs.TableLemmas.{cell_is}
 use Rattle.row_net.proofs.RowLemmas.{args_all, cell_row, no_packet}
 use Rattle.row_net.proofs.row.make.Goals as goal
+use Rattle.row_plan.proofs.cell_core_laws.ViewLaws.{cell_is}
 
 pub operands-requires : goal.operands-requires
 operands-requires g c =

@@ -2,8 +2,9 @@ use Rattle.std.proofs.Common.{rules, ◌≡◌, ◌≤◌, ◌<◌, ℕ, List, l
 use Rattle.std.proofs.lemmas.List.{length-map}
 use Rattle.overlay_net.specs.cell_core.Cells.{CellView, cell_at}
 use Rattle.overlay_net.specs.cell_core.View.{cell_of}
-use Rattle.row_net.proofs.TableLemmas.{cell_is, constants_are, constants_more}
+use Rattle.row_net.proofs.TableLemmas.{constants_are, constants_more}
 use Rattle.row_net.proofs.table.constants.Goals as goal
+use Rattle.row_plan.proofs.cell_core_laws.ViewLaws.{cell_is}
 
 pub constant-requires : goal.constant-requires
 constant-requires g c =

@@ -1,6 +1,7 @@
 use Rattle.std.proofs.Common.{ℕ, length, length-append, slice_index, ap, arith}
-use Rattle.row_net.proofs.TableLemmas.{stands_inside, stands_at, found_at, operands_more}
+use Rattle.row_net.proofs.TableLemmas.{stands_at, found_at, operands_more}
 use Rattle.row_net.proofs.table.operands.Goals as goal
+use Rattle.row_net.proofs.TableLaws.{stands_inside}
 
 pub offset_bounds-table-cell : goal.offset_bounds-table-cell
 offset_bounds-table-cell g c = let r = c.requires c.loop-cell.cell-index 0 c.loop-cell-test.true in omega (arith, stands_inside c.args.table.now (slice_index c.args.ins.now c.loop-cell.cell-index) r.0 r.1)

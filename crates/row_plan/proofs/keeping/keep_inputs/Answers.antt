@@ -2,7 +2,7 @@ use Rattle.std.proofs.Common.{rules, ◌≡◌, ℕ, List, map, get_or, slice_in
 use Rattle.cell_core.specs.Cells.{CellView, cell_at}
 use Rattle.cell_core.specs.View.{cell_of}
 use Rattle.row_plan.specs.Steps.{Keeps, OfAll}
-use Rattle.row_plan.proofs.RowLemmas.{cell_is}
+use Rattle.cell_core.proofs.ViewLaws.{cell_is}
 use Rattle.row_plan.proofs.KeepingLemmas.{inputs_next}
 use Rattle.row_plan.proofs.keeping.keep_inputs.Goals as goal
 

@@ -4,7 +4,7 @@ use Rattle.cell_core.specs.Sites.{SiteView}
 use Rattle.cell_core.specs.View.{cell_of, site_of}
 use Rattle.cell_core.specs.declared.cell.Cell.{Cell}
 use Rattle.row_plan.specs.Steps.{Keeps, OfWrites}
-use Rattle.row_plan.proofs.RowLemmas.{cell_is}
+use Rattle.cell_core.proofs.ViewLaws.{cell_is}
 use Rattle.row_plan.proofs.KeepingLemmas.{writes_next, writes_not}
 use Rattle.row_plan.proofs.keeping.keep_writes.Goals as goal
 use Rattle.row_plan.proofs.keeping.keep_writes.Goals.{then-reads_record, else-reads_record}

@@ -1,6 +1,6 @@
 use Rattle.std.proofs.Common.{◌≡◌, ◌∙◌, ℕ, List, length, map, inl, ap, sym, subst, slice_index, Err}
 use Rattle.std.proofs.lemmas.List.{length-map}
-use Rattle.kind_core.specs.declared.why.BuildError.TheVariants.{Refused}
+use Rattle.xdp_state.specs.declared.refusal.BuildError.TheVariants.{Refused}
 use Rattle.cell_core.specs.declared.cell.Cell.{Cell}
 use Rattle.cell_core.specs.declared.program.Node.{Node}
 use Rattle.cell_core.specs.Rows.{AreRows, last_row}

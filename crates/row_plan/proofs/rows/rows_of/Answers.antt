@@ -3,7 +3,8 @@ use Rattle.std.proofs.lemmas.List.{length-map}
 use Rattle.cell_core.specs.Cells.{CellView, cell_at, bit, is_heavy}
 use Rattle.cell_core.specs.Rows.{greatest}
 use Rattle.cell_core.specs.View.{cell_of}
-use Rattle.row_plan.proofs.RowLemmas.{AreRowsSoFar, cell_is, next_small, rows_next}
+use Rattle.cell_core.proofs.ViewLaws.{cell_is}
+use Rattle.row_plan.proofs.RowLemmas.{AreRowsSoFar, next_small, rows_next}
 use Rattle.row_plan.proofs.rows.rows_of.Goals as goal
 
 pub next_row-row-requires : goal.next_row-row-requires

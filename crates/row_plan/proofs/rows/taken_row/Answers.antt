@@ -1,6 +1,7 @@
 use Rattle.std.proofs.Common.{rules, ◌≡◌, ◌∙◌, ℕ, max, slice_index, ap, sym}
 use Rattle.cell_core.specs.Rows.{greatest}
-use Rattle.row_plan.proofs.RowLemmas.{greatest_append, max_more}
+use Rattle.cell_core.proofs.RowLaws.{greatest_append}
+use Rattle.row_plan.proofs.RowLemmas.{max_more}
 use Rattle.row_plan.proofs.rows.taken_row.Goals as goal
 
 pub returns : goal.returns

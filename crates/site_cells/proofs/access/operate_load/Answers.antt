@@ -1,7 +1,7 @@
 use Rattle.std.proofs.Common.{[], false, ◌*◌, ℕ, refl, ap, to_z-of_z}
 use Rattle.std.specs.Int.{w16}
 use Rattle.cell_core.specs.declared.site.Act.TheVariants as act
-use Rattle.operator_cells.specs.HeldCells.Held.{pointed}
+use Rattle.operator_cells.specs.HeldCells.RegisterCells.{pointed}
 use Rattle.site_cells.proofs.Entries.{entry_index, entry_seen, entry_there, place_aligned}
 use Rattle.site_cells.proofs.Loads.{load_made}
 use Rattle.site_cells.proofs.Allowed.{load_allowed}

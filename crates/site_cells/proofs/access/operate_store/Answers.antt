@@ -4,7 +4,7 @@ use Rattle.operator_cells.specs.Making.{seen}
 use Rattle.kind_core.specs.Kinds.{register}
 use Rattle.kind_core.specs.Effects.{effect_as}
 use Rattle.cell_core.specs.declared.site.Act.TheVariants as act
-use Rattle.operator_cells.specs.HeldCells.Held.{pointed}
+use Rattle.operator_cells.specs.HeldCells.RegisterCells.{pointed}
 use Rattle.site_cells.proofs.Entries.{entry_index, entry_seen, place_aligned}
 use Rattle.site_cells.proofs.Slots.{counts_number}
 use Rattle.site_cells.proofs.Stores.{store_made}

@@ -4,7 +4,7 @@ use Rattle.kind_core.specs.declared.number.Number.TheVariants.{Known}
 use Rattle.kind_core.specs.declared.kind.Kind.TheVariants.{Num}
 use Rattle.kind_core.specs.Effects.{effect_as}
 use Rattle.cell_core.specs.declared.site.Act.TheVariants as act
-use Rattle.operator_cells.specs.HeldCells.Held.{pointed}
+use Rattle.operator_cells.specs.HeldCells.RegisterCells.{pointed}
 use Rattle.site_cells.proofs.Entries.{entry_index, entry_seen, place_aligned}
 use Rattle.kind_core.proofs.xdp_machine_laws.NumberLaws.{word_of, imm_fits}
 use Rattle.site_cells.proofs.Stores.{imm_made}

@@ -6,7 +6,7 @@ use Rattle.cell_core.specs.xdp_machine.Memory.{bytes_in, aligned}
 use Rattle.cell_core.specs.declared.site.Act.TheVariants as act
 use Rattle.operator_cells.specs.Making.{seen}
 use Rattle.operator_cells.proofs.MakingLaws.{grown_none, reads_none}
-use Rattle.operator_cells.specs.HeldCells.Held.{PointerView, pointed}
+use Rattle.operator_cells.specs.HeldCells.RegisterCells.{PointerView, pointed}
 use Rattle.site_cells.specs.Sited.{sited}
 use Rattle.site_cells.specs.Siting.{Accesses, access_site}
 use Rattle.site_cells.proofs.Allowed.{atomic_allowed}

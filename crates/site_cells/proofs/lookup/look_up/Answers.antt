@@ -4,7 +4,7 @@ use Rattle.cell_core.specs.declared.operator.Operator.TheVariants.{Found}
 use Rattle.operator_cells.specs.Making.{seen, Adds, GrowsWith}
 use Rattle.cell_core.specs.Rows.{greatest}
 use Rattle.operator_cells.specs.Rising.{Rises}
-use Rattle.operator_cells.specs.HeldCells.Held.{pointed}
+use Rattle.operator_cells.specs.HeldCells.RegisterCells.{pointed}
 use Rattle.site_cells.specs.Sited.{sited}
 use Rattle.site_cells.proofs.Adding.{read_added, added_alone, pointed_next, pointed_count, site_same, site_pushed, next_site}
 use Rattle.site_cells.proofs.lookup.look_up.Goals as goal

@@ -1,7 +1,7 @@
 use Rattle.std.proofs.Common.{◌<◌, false, refl, sym, subst, arith, length}
 use Rattle.std.specs.Prelude.{All}
 use Rattle.operator_cells.specs.Making.{seen}
-use Rattle.operator_cells.specs.HeldCells.Held.{pointed}
+use Rattle.operator_cells.specs.HeldCells.RegisterCells.{pointed}
 use Rattle.site_cells.proofs.Allowed.{lookup_allowed}
 use Rattle.site_cells.proofs.Lookups.{lookup_made}
 use Rattle.site_cells.proofs.Points.{call_used, lookup_points}

@@ -2,7 +2,7 @@ use Rattle.std.proofs.Common.{arith, sym, subst, refl, slice_index}
 use Rattle.byteorder.specs.Endian.{little_bytes}
 use Rattle.kind_core.specs.declared.number.Number.{Number}
 use Rattle.operator_cells.specs.Making.{seen, Makes}
-use Rattle.operator_cells.specs.HeldCells.Held.{number_of}
+use Rattle.operator_cells.specs.HeldCells.RegisterCells.{number_of}
 use Rattle.operator_cells.proofs.RisingLaws.{rises_by}
 use Rattle.site_cells.proofs.Slots.{byte_unknown, byte_known}
 use Rattle.site_cells.proofs.WordRows.{unknown_row}

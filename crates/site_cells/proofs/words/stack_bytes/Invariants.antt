@@ -3,7 +3,7 @@ use Rattle.cell_core.specs.xdp_maps.declared.decl.MapDecl.{MapDecl}
 use Rattle.operator_cells.specs.Making.{seen}
 use Rattle.operator_cells.specs.Rising.{RiseAll}
 use Rattle.operator_cells.specs.row_rules.PlaceRows.Spans.{slots_of, span_row}
-use Rattle.operator_cells.specs.HeldCells.Held.{PointerView}
+use Rattle.operator_cells.specs.HeldCells.RegisterCells.{PointerView}
 use Rattle.operator_cells.specs.HeldCells.Rows.{held_row}
 use Rattle.site_cells.specs.Words.{HoldsBytes}
 use Rattle.site_cells.proofs.words.stack_bytes.Given as goal

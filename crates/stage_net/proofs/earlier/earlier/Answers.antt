@@ -1,6 +1,6 @@
 use Rattle.std.proofs.Common.{rules, ◌≡◌, ◌∙◌, ◌++◌, ◌∷◌, [], ℕ, Bool, sym, slice_index}
 use Rattle.hazard_core.specs.cell_core.View.{program_of}
-use Rattle.hazard_core.specs.Held.{is_pending}
+use Rattle.hazard_core.specs.StageValues.{is_pending}
 use Rattle.stage_net.proofs.EarlierLemmas.{owns_same, sites_same, sites_more, owns_more}
 use Rattle.stage_net.proofs.earlier.earlier.Goals as goal
 use Rattle.stage_net.proofs.earlier.earlier.Goals.{then-is_pending+in_ok-push, else-is_pending}

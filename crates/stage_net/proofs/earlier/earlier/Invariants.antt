@@ -2,7 +2,7 @@ use Rattle.std.specs.Prelude.{filter}
 use Rattle.std.proofs.Common.{◌≡◌, All, slice_index}
 use Rattle.hazard_core.specs.cell_core.Rows.{numbers}
 use Rattle.hazard_core.specs.cell_core.View.{program_of}
-use Rattle.hazard_core.specs.Held.{is_pending}
+use Rattle.hazard_core.specs.StageValues.{is_pending}
 use Rattle.read_net.specs.Sites.{sites_of}
 use Rattle.stage_net.specs.Nets.{IsOwnOf}
 use Rattle.stage_net.proofs.earlier.earlier.Given as goal

@@ -1,7 +1,7 @@
 use Rattle.std.specs.Prelude.{nat_le}
 use Rattle.std.proofs.Common.{◌∙◌, ◌&&◌, suc, [], ◌∷◌, ap, arith}
 use Rattle.hazard_core.specs.cell_core.Cells.{bit, on}
-use Rattle.hazard_core.specs.Held.{writes}
+use Rattle.hazard_core.specs.StageValues.{writes}
 use Rattle.cell_nets.specs.declared.operand.Operand.TheVariants.{Known}
 use Rattle.cell_nets.specs.Operands.{number_in, IsAvailable}
 use Rattle.cell_nets.specs.Wires.{wires_of}

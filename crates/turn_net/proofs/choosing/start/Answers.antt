@@ -3,11 +3,12 @@ use Rattle.std.proofs.Common.{◌∙◌, ◌&&◌, ◌^◌, [], ◌∷◌, ap, a
 use Rattle.std.proofs.lemmas.Nat.{pow_pos}
 use Rattle.block_core.specs.declared.name.Name.TheVariants as name
 use Rattle.hazard_core.specs.cell_core.Cells.{bit, on}
+use Rattle.hazard_core.proofs.cell_core_laws.BitLaws.{small_bits}
 use Rattle.cell_nets.specs.declared.operand.Operand.TheVariants.{Known, Net}
 use Rattle.cell_nets.specs.Operands.{IsAvailable}
 use Rattle.cell_nets.specs.Wires.{wires_of, always}
 use Rattle.cell_nets.proofs.StepNets.ChainLaws.{starts, next}
-use Rattle.cell_nets.proofs.StepNets.StepLaws.{all_each, on_bit, small_bits, narrow_small, choice_small}
+use Rattle.cell_nets.proofs.StepNets.StepLaws.{all_each, on_bit, narrow_small, choice_small}
 use Rattle.turn_net.proofs.StandLemmas.{leads_as}
 use Rattle.turn_net.proofs.choosing.start.Goals as goal
 

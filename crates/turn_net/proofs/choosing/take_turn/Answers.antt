@@ -1,11 +1,12 @@
 use Rattle.std.specs.Prelude.{if◌then◌else◌}
 use Rattle.std.proofs.Common.{◌≡◌, ◌∙◌, ◌&&◌, ◌+◌, ◌^◌, suc, [], ◌∷◌, ap, arith}
 use Rattle.hazard_core.specs.cell_core.Cells.{on, bits_from}
+use Rattle.hazard_core.proofs.cell_core_laws.BitLaws.{small_bits}
 use Rattle.cell_nets.specs.declared.operand.Operand.TheVariants.{Known}
 use Rattle.cell_nets.specs.Operands.{number_in, IsAvailable}
 use Rattle.cell_nets.specs.Wires.{wires_of, always}
 use Rattle.cell_nets.proofs.StepNets.ChainLaws.{starts, next}
-use Rattle.cell_nets.proofs.StepNets.StepLaws.{all_each, on_bit, small_bits, narrow_small, narrow_bits, choice_small}
+use Rattle.cell_nets.proofs.StepNets.StepLaws.{all_each, on_bit, narrow_small, narrow_bits, choice_small}
 use Rattle.turn_net.proofs.StandLemmas.{leads_as}
 use Rattle.turn_net.proofs.choosing.take_turn.Goals as goal
 

@@ -1,4 +1,4 @@
-use Rattle.unfold_core.proofs.OneGraph.{has_one_graph}
+use Rattle.unfold_core.proofs.OneGraphLaws.{has_one_graph}
 use Rattle.unfold_core.proofs.laws.has_one_graph.Goals as goal
 
 pub returns : goal.returns

@@ -1,6 +1,6 @@
 use Rattle.std.proofs.Common.{length, ◌∷◌, [], arith, ap}
 use Rattle.std.proofs.lemmas.List.{length-append}
-use Rattle.unfold_core.proofs.Walking.{walk_begins, walk_done, walk_ordered, ends_are_nodes, walk_on, walk_failed, walk_too_long}
+use Rattle.unfold_core.proofs.WalkingLaws.{walk_begins, walk_done, walk_ordered, ends_are_nodes, walk_on, walk_failed, walk_too_long}
 use Rattle.unfold_core.proofs.unfolding.walk.Goals as goal
 
 pub loop-number-init : goal.loop-number-init

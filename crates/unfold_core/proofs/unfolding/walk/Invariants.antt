@@ -1,5 +1,5 @@
 use Rattle.std.proofs.Common.{◌≡◌, length}
-use Rattle.unfold_core.proofs.Walking.{IsWalk}
+use Rattle.unfold_core.proofs.WalkingLaws.{IsWalk}
 use Rattle.unfold_core.proofs.unfolding.walk.Given as goal
 
 abbrev pub invariant-loop-number : goal.invariant-loop-number

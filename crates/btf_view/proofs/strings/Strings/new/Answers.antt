@@ -1,4 +1,4 @@
--- The loop stops behind the last zero byte, or at 0.
+-- The loop stops after the last zero byte, or at 0.
 use Rattle.std.proofs.Common.{arith}
 use Rattle.btf_view.proofs.NameEnds.{HasNamesBelow-last_zero}
 use Rattle.btf_view.proofs.strings.Strings.new.Goals as goal

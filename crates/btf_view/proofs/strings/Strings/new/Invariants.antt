@@ -1,7 +1,7 @@
 use Rattle.std.proofs.Common.{◌≢◌, ℕ, ◌<◌, ◌≤◌, length, get_or}
 use Rattle.btf_view.proofs.strings.Strings.new.Given as goal
 
--- no byte behind the end is zero
+-- no byte after the end is zero
 abbrev pub invariant-loop-end : goal.invariant-loop-end
 invariant-loop-end l = record {
   inside : l.end ≤ length l.bytes;

@@ -4,9 +4,9 @@ use Rattle.cell_core.specs.Cells.{bits_from}
 use Rattle.cell_nets.specs.declared.operand.Operand.TheVariants.{Net}
 use Rattle.cell_nets.specs.Operands.{number_in}
 use Rattle.cell_nets.specs.Wires.{wires_of, always, Gives}
-use Rattle.cell_nets.proofs.GiveLemmas.{whole_gives}
-use Rattle.cell_nets.proofs.PartLemmas.{part_computes}
-use Rattle.cell_nets.proofs.NarrowLemmas.{bits_small}
+use Rattle.cell_nets.proofs.GiveLaws.{whole_gives}
+use Rattle.cell_nets.proofs.ExpressionPartLaws.{part_computes}
+use Rattle.cell_nets.proofs.NarrowLaws.{bits_small}
 use Rattle.cell_nets.proofs.WireLemmas.{wire_gives}
 use Rattle.cell_nets.proofs.operand_blocks.wiring.named.Goals as goal
 

@@ -2,9 +2,9 @@ use Rattle.std.proofs.Common.{◌∙◌, ◌++◌, sym, ap, subst}
 use Rattle.overlay_net.specs.cell_core.Cells.{bits_from}
 use Rattle.overlay_net.specs.cell_nets.Operands.{number_in}
 use Rattle.overlay_net.specs.cell_nets.Wires.{wires_of}
-use Rattle.overlay_net.proofs.cell_nets_laws.NarrowLemmas.{bits_small}
-use Rattle.overlay_net.proofs.cell_nets_laws.StepNets.StepLaws.{small_bits}
+use Rattle.overlay_net.proofs.cell_nets_laws.NarrowLaws.{bits_small}
 use Rattle.overlay_net.specs.cell_nets.OperandBlocks.Wiring.{wires_block}
+use Rattle.overlay_net.proofs.cell_core_laws.BitLaws.{small_bits}
 use Rattle.commit_net.specs.ChangeNet.Pointed.{IsPointedWords}
 use Rattle.commit_net.proofs.ChangeNet.PointedLaws.{over_next, over_number}
 use Rattle.commit_net.proofs.ChangeNet.PointedLemmas.{word_wires, pointed}

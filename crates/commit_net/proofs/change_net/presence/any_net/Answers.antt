@@ -4,8 +4,8 @@ use Rattle.overlay_net.specs.cell_nets.declared.operand.Operand.TheVariants.{Kno
 use Rattle.overlay_net.specs.cell_nets.Operands.{number_in, IsAvailable}
 use Rattle.overlay_net.specs.cell_nets.Wires.{wires_of, always}
 use Rattle.overlay_net.proofs.cell_nets_laws.StepNets.ChainLaws.{starts, next, last}
-use Rattle.overlay_net.proofs.cell_nets_laws.StepNets.StepLaws.{all_each, bit_bits}
-use Rattle.commit_net.proofs.ChangeNet.PresenceLemmas.{or_chosen}
+use Rattle.overlay_net.proofs.cell_nets_laws.StepNets.StepLaws.{all_each}
+use Rattle.overlay_net.proofs.cell_core_laws.BitLaws.{bit_bits, or_chosen}
 use Rattle.commit_net.proofs.change_net.presence.any_net.Goals as goal
 
 pub named-requires-clause-operand : goal.named-requires-clause-operand

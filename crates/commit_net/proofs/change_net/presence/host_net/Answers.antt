@@ -4,7 +4,8 @@ use Rattle.overlay_net.specs.cell_nets.declared.operand.Operand.TheVariants.{Kno
 use Rattle.overlay_net.specs.cell_nets.Operands.{number_in, IsAvailable}
 use Rattle.overlay_net.specs.cell_nets.Wires.{wires_of, always}
 use Rattle.overlay_net.proofs.cell_nets_laws.StepNets.ChainLaws.{starts, next, last}
-use Rattle.overlay_net.proofs.cell_nets_laws.StepNets.StepLaws.{all_each, on_bit, bit_bits}
+use Rattle.overlay_net.proofs.cell_nets_laws.StepNets.StepLaws.{all_each, on_bit}
+use Rattle.overlay_net.proofs.cell_core_laws.BitLaws.{bit_bits}
 use Rattle.commit_net.specs.ChangeNet.Changes.{host_map}
 use Rattle.commit_net.proofs.change_net.presence.host_net.Goals as goal
 

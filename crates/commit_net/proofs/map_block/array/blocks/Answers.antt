@@ -16,4 +16,4 @@ returns g c =
     let ask = subst (λ l. IsArrayCommit ps.asker f.decl a.sites.now l values bs.asks) (c.deref.ensures.value ∙ c.in_ok-found.ensures.words) c.in_ok-asked.ensures in
     let block_nets = subst (λ m. IsArray ps.own f.number f.decl f.bits m c.deref-2.result.now bs.stores) c.map_nets-nets.ensures c.in_ok-stores.ensures in
     let block = subst (λ l. IsArray ps.own f.number f.decl f.bits (with_slot_net a.control found.slot) l bs.stores) c.deref-2.ensures.value block_nets in
-    c.arrays.ensures f ps a.control a.sites.now bs values c.requires.kind c.requires.suited c.in_ok-found.ensures.finds c.in_ok-found.ensures.fetches ask block
+    c.arrays.ensures f ps a.control a.sites.now bs values c.requires.kind c.requires.form_fits c.in_ok-found.ensures.finds c.in_ok-found.ensures.fetches ask block

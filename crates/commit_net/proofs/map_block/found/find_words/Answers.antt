@@ -6,7 +6,7 @@ use Rattle.commit_net.specs.Fetching.{IsFetch, fetched_words}
 use Rattle.commit_net.proofs.map_block.found.find_words.Goals as goal
 
 pub commit_slot-requires-clause-bits : goal.commit_slot-requires-clause-bits
-commit_slot-requires-clause-bits g c = let s = c.requires.suited in record { some = omega (arith, s.some); most = omega (arith, s.most) }
+commit_slot-requires-clause-bits g c = let s = c.requires.form_fits in record { some = omega (arith, s.some); most = omega (arith, s.most) }
 
 pub returns-clause-finds : goal.returns-clause-finds
 returns-clause-finds g c = c.in_ok-found.ensures

@@ -1,5 +1,5 @@
 use Rattle.std.proofs.Common.{arith}
-use Rattle.operator_cells.specs.HeldCells.Held.{pointed}
+use Rattle.operator_cells.specs.HeldCells.RegisterCells.{pointed}
 use Rattle.operator_cells.specs.HeldCells.Rows.{held_row}
 use Rattle.edge_cells.proofs.NodeCells.Leaving.{two_leave, undecided_leaving}
 use Rattle.operator_cells.proofs.MakingLaws.{grown}

@@ -1,7 +1,7 @@
 use Rattle.std.proofs.Common.{◌++◌, ◌∙◌, get_or, length, sym}
 use Rattle.std.proofs.lemmas.List.{length-map}
 use Rattle.overlay_net.specs.hazard_core.Commits.{word_count}
-use Rattle.overlay_net.specs.hazard_core.Held.{slot_pointer}
+use Rattle.overlay_net.specs.hazard_core.StageValues.{slot_pointer}
 use Rattle.overlay_net.specs.SiteOperands.Pointers.{pointer_number}
 use Rattle.cell_nets.specs.Wires.{wires_of}
 use Rattle.hash_net.specs.declared.slot_net.choosing.Numbering.TheVariants.{Pointers}

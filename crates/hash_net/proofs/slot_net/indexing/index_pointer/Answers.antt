@@ -1,7 +1,7 @@
 use Rattle.std.proofs.Common.{◌≡◌, false, ◌∙◌, sym, subst, arith}
 use Rattle.std.proofs.lemmas.List.{get_or_default}
 use Rattle.std.proofs.lemmas.List.Elements.{All-get_or}
-use Rattle.overlay_net.specs.hazard_core.Held.{slot_pointer}
+use Rattle.overlay_net.specs.hazard_core.StageValues.{slot_pointer}
 use Rattle.overlay_net.specs.SiteOperands.Pointers.{pointer_number}
 use Rattle.net_core.specs.Value.{Env}
 use Rattle.net_core.specs.View.{tree_of}
@@ -9,7 +9,7 @@ use Rattle.block_core.specs.declared.name.Name.{Name}
 use Rattle.cell_nets.specs.declared.operand.Operand.TheVariants.{Known}
 use Rattle.cell_nets.specs.Operands.{IsAvailable, number_in}
 use Rattle.cell_nets.specs.Wires.{wires_of}
-use Rattle.cell_nets.proofs.PartLemmas.{part_computes}
+use Rattle.cell_nets.proofs.ExpressionPartLaws.{part_computes}
 use Rattle.hash_net.specs.SlotNet.Slots.{HoldsKey}
 use Rattle.hash_net.specs.SlotNet.Choosing.{indexed_pointer}
 use Rattle.hash_net.proofs.SlotNet.ChainLemmas.{first_gives}

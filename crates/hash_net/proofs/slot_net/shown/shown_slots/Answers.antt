@@ -1,6 +1,6 @@
 use Rattle.hash_net.specs.SlotNet.Shown.{shown_slot}
+use Rattle.block_core.proofs.list_laws_laws.OneMoreLaws.{pushed_as}
 use Rattle.hash_net.specs.SlotNet.Slots.{slot_operands}
-use Rattle.hash_net.proofs.SlotNet.ShownLemmas.{pushed_as}
 use Rattle.hash_net.proofs.slot_net.shown.shown_slots.Goals as goal
 
 pub loop-n-preserved : goal.loop-n-preserved

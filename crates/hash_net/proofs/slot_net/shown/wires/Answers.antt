@@ -1,6 +1,6 @@
 use Rattle.block_core.specs.View.{block_wire_of}
+use Rattle.block_core.proofs.list_laws_laws.OneMoreLaws.{pushed_as}
 use Rattle.hash_net.specs.SlotNet.Shown.{shown_wire}
-use Rattle.hash_net.proofs.SlotNet.ShownLemmas.{pushed_as}
 use Rattle.hash_net.proofs.slot_net.shown.wires.Goals as goal
 
 pub loop-i-preserved : goal.loop-i-preserved

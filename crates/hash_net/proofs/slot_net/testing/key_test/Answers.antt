@@ -5,7 +5,7 @@ use Rattle.overlay_net.specs.cell_core.Cells.{bit}
 use Rattle.overlay_net.specs.hazard_core.Commits.{word_count}
 use Rattle.cell_nets.specs.Operands.{IsOperand, IsAvailable}
 use Rattle.cell_nets.specs.Parts.{IsPart}
-use Rattle.cell_nets.proofs.PartLemmas.{part_of}
+use Rattle.cell_nets.proofs.ExpressionPartLaws.{part_of}
 use Rattle.hash_net.specs.SlotNet.Slots.{slot_operands}
 use Rattle.hash_net.specs.SlotNet.Choosing.{is_under}
 use Rattle.hash_net.proofs.SlotNet.TestLemmas.{under_more}

@@ -3,7 +3,7 @@ use Rattle.std.proofs.lemmas.List.{length-map, map-append, length-append}
 use Rattle.std.proofs.lemmas.List.Elements.{All-head}
 use Rattle.net_core.specs.View.{tree_of}
 use Rattle.cell_nets.specs.Operands.{IsOperand, IsAvailable}
-use Rattle.cell_nets.proofs.PartLemmas.{part_of}
+use Rattle.cell_nets.proofs.ExpressionPartLaws.{part_of}
 use Rattle.hash_net.specs.SlotNet.Slots.{slots_of, operands_of}
 use Rattle.hash_net.specs.SlotNet.Choosing.{is_used}
 use Rattle.hash_net.proofs.SlotNet.TestLemmas.{no_tests, slot_all, item_push}

@@ -5,7 +5,7 @@ use Rattle.net_core.specs.declared.tree.Parts.{size-Parts}
 use Rattle.net_core.specs.Nets.{TMore, TLast}
 use Rattle.net_core.specs.View.{tree_of, trees_of}
 use Rattle.net_core.specs.Value.{concatenated_parts}
-use Rattle.net_rules.proofs.LogicRules.PartLemmas.{before, parts_before_value, parts_step}
+use Rattle.net_core.proofs.PartLaws.{before, parts_before_value, parts_step}
 use Rattle.net_rules.proofs.logic_rules.simplifying.+expressions.Goals as goal
 
 pub simplified_parts-loop-left-preserved : goal.simplified_parts-loop-left-preserved

@@ -5,7 +5,7 @@ use Rattle.net_core.specs.View.{tree_of, trees_of}
 use Rattle.net_core.specs.Value.{Env, concatenated_parts}
 use Rattle.net_rules.specs.NetSizes.Fitting.{AreFitting, sizes_of}
 use Rattle.net_rules.specs.LogicRules.Known.{AreKnown}
-use Rattle.net_rules.proofs.LogicRules.PartLemmas.{before}
+use Rattle.net_core.proofs.PartLaws.{before}
 use Rattle.net_rules.proofs.logic_rules.simplifying.+expressions.Given as goal
 
 abbrev pub invariant-simplified_parts-loop-left : goal.invariant-simplified_parts-loop-left

@@ -1,21 +1,12 @@
-use Rattle.std.specs.Prelude.{◌≡◌, ℕ, zero, suc, ◌<◌, List, [], ◌∷◌, length, map, take}
-use Rattle.std.proofs.Common.{get_or, ap, sym, subst, add-one, arith}
+use Rattle.std.specs.Prelude.{map}
+use Rattle.std.proofs.Common.{sym, subst, add-one, arith}
 use Rattle.std.proofs.lemmas.Bool.{and_parts}
 use Rattle.std.proofs.lemmas.List.{take_all}
-use Rattle.net_core.specs.declared.tree.Net.{Net}
-use Rattle.net_core.specs.declared.tree.Stmt.{Stmt}
 use Rattle.net_core.specs.View.{statement_of}
-use Rattle.net_core.specs.Value.{Env}
-use Rattle.net_core.specs.Clock.{Stored, done, edge}
+use Rattle.net_core.specs.Clock.{edge}
+use Rattle.net_core.proofs.EdgeLaws.{edge_more}
 use Rattle.net_rules.specs.NetSizes.Staying.{HaveSizes}
 use Rattle.net_rules.proofs.net_sizes.keeping.edge_keeps.Goals as goal
-
--- one always block more
-edge_more : (v : Env Net) (xs : List (Stmt Net)) (i : ℕ) (x : Stmt Net) (s : Stored) → i < length xs → x ≡ get_or xs i x
-    → edge v (map statement_of (take (suc i) xs)) s ≡ done v (statement_of x) (edge v (map statement_of (take i xs)) s)
-edge_more v [] i x s l e = absurd (omega arith)
-edge_more v (y ∷ ys) zero x s l e = ap (λ z. done v (statement_of z) s) (sym e)
-edge_more v (y ∷ ys) (suc i) x s l e = edge_more v ys i x (done v (statement_of y) s) (omega arith) e
 
 pub loop-stmt-preserved : goal.loop-stmt-preserved
 loop-stmt-preserved c both v known s h =

@@ -1,26 +1,11 @@
-use Rattle.std.specs.Prelude.{◌≡◌, ℕ, zero, suc, ◌<◌, List, [], ◌∷◌, ◌++◌, length, map, take}
-use Rattle.std.proofs.Common.{get_or, refl, sym, ap, ◌∙◌, add-one, arith}
+use Rattle.std.specs.Prelude.{[], ◌∷◌, ◌++◌, map, take}
+use Rattle.std.proofs.Common.{sym, ap, ◌∙◌, add-one, arith}
 use Rattle.std.proofs.lemmas.List.{append-nil, map-append}
-use Rattle.net_core.specs.declared.tree.Word.{Word}
-use Rattle.net_core.specs.declared.design.Declared.{Declared}
-use Rattle.net_core.specs.declared.design.Declared.TheVariants.{Integer, Register, Memory}
 use Rattle.net_core.specs.Clock.{first_words}
 use Rattle.net_core.specs.Width.{const_width}
+use Rattle.net_core.proofs.DeclaredLaws.{words_more, no_word}
 use Rattle.net_rules.proofs.net_sizes.staying.first_sizes.Goals as goal
 use Rattle.net_rules.proofs.net_sizes.staying.first_sizes.Goals.{in-Register+in_ok-push, in_default}
-
--- one item more
-words_more : (ds : List Declared) (i : ℕ) → i < length ds → first_words (take (suc i) ds) ≡ first_words (take i ds) ++ first_words (get_or ds i Integer ∷ [])
-words_more [] i l = absurd (omega arith)
-words_more (d ∷ ds) zero l = refl
-words_more (Integer ∷ ds) (suc i) l = words_more ds i (omega arith)
-words_more (Register w ∷ ds) (suc i) l = ap (λ ws. w ∷ ws) (words_more ds i (omega arith))
-words_more (Memory m w n ∷ ds) (suc i) l = words_more ds i (omega arith)
-
-no_word : (d : Declared) → ((w : Word) → d ≡ Register w → ⊥) → first_words (d ∷ []) ≡ []
-no_word Integer h = refl
-no_word (Register w) h = absurd (h w refl)
-no_word (Memory m w n) h = refl
 
 pub loop-item-preserved : goal.loop-item-preserved
 loop-item-preserved c =

@@ -1,17 +1,18 @@
 use Rattle.std.specs.Prelude.{if◌then◌else◌, slice_range}
 use Rattle.std.proofs.Common.{◌≡◌, ◌+◌, ◌/◌, ◌%◌, ◌≤◌, [], ◌∷◌, ◌∙◌, ap, sym, subst, arith}
+use Rattle.block_core.proofs.list_laws_laws.AllLaws.{all_two}
 use Rattle.byteorder.specs.Endian.{little_number}
 use Rattle.hazard_core.specs.cell_core.Cells.{bits_from, on}
 use Rattle.hazard_core.specs.cell_core.Sites.{site_at}
 use Rattle.cell_nets.specs.Operands.{number_in, IsAvailable}
 use Rattle.hazard_core.specs.Commits.{word_at}
-use Rattle.hazard_core.specs.Held.{access_pointer, asked}
+use Rattle.hazard_core.specs.StageValues.{access_pointer, asked}
 use Rattle.hazard_core.specs.Overlay.{entry_value, where_some, answer_as}
 use Rattle.overlay_net.specs.ValueNet.Pendings.{all_taken, ShowPendings, ShowsEntry}
 use Rattle.overlay_net.specs.ValueNet.Words.{access_start, access_bytes}
-use Rattle.overlay_net.proofs.ValueNet.Holding.{two_are, hold_none, hold_more, hold_gives}
-use Rattle.overlay_net.proofs.ValueNet.ChangeLemmas.{access_one}
-use Rattle.overlay_net.proofs.ValueNet.EntryLemmas.{entry_bytes, null_choice, answer_is}
+use Rattle.overlay_net.proofs.ValueNet.Holding.{hold_none, hold_more, hold_gives}
+use Rattle.overlay_net.proofs.ValueNet.ChangeLaws.{access_one}
+use Rattle.overlay_net.proofs.ValueNet.EntryLaws.{entry_bytes, null_choice, answer_is}
 use Rattle.overlay_net.proofs.value_net.answering.access_answer.Goals as goal
 
 pub number_under-requires-clause-one : goal.number_under-requires-clause-one
@@ -43,7 +44,7 @@ returns g c = λ view t h before j doing of declared has.
     let made = c.in_ok-out.ensures d.value value b in
     let x = hold_more p _ _ _ args args args (λ v. ShowsEntry v t s.map (access_start a / 8) q under first × ShowPendings v view t h before ns) (λ v. ShowsEntry v t s.map (access_start a / 8) q under first × ShowPendings v view t h before ns) (λ v. ShowsEntry v t s.map (at / 8) q under first × ShowPendings v view t h before ns) _ 64 word (hold_none p _ args (λ v. ShowsEntry v t s.map (access_start a / 8) q under first × ShowPendings v view t h before ns)) (c.in_ok-word.ensures.gives view t h before s.map q of declared has) (λ ins a. a)
     (λ v f k. (subst (λ i. ShowsEntry v t s.map (i / 8) q under first) (sym ea) k.0, k.1)) in
-    let y = hold_more p _ _ _ args (word ∷ args) (under ∷ word ∷ []) (λ v. ShowsEntry v t s.map (access_start a / 8) q under first × ShowPendings v view t h before ns) _ (λ v. number_in v word ≡ word_at value (at / 8)) _ c.args.width out x made (λ ins a. two_are (IsAvailable ins) under word (a 1 word (omega arith)) (a 0 word (omega arith))) (λ v f k. k.1) in
+    let y = hold_more p _ _ _ args (word ∷ args) (under ∷ word ∷ []) (λ v. ShowsEntry v t s.map (access_start a / 8) q under first × ShowPendings v view t h before ns) _ (λ v. number_in v word ≡ word_at value (at / 8)) _ c.args.width out x made (λ ins a. all_two (IsAvailable ins) under word (a 1 word (omega arith)) (a 0 word (omega arith))) (λ v f k. k.1) in
     hold_gives p _ _ args (out ∷ word ∷ args) (λ v. ShowsEntry v t s.map (access_start a / 8) q under first × ShowPendings v view t h before ns) _ _ c.args.width out y made.operand made.bits (λ ins a. a 0 out (omega arith))
     (λ v f k.
     k.1 ∙ ap (λ u. bits_from (if on u then little_number bytes (slice_range value at (at + bytes)) else 0) c.args.from c.args.width) k.0.0.0.pointer

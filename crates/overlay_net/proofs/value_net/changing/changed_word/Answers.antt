@@ -1,11 +1,12 @@
 use Rattle.std.proofs.Common.{◌≡◌, ◌*◌, ◌/◌, ◌<◌, ◌^◌, [], ◌∷◌, ◌∙◌, sym, subst, arith}
+use Rattle.block_core.proofs.list_laws_laws.AllLaws.{all_one, all_two, all_three}
 use Rattle.hazard_core.specs.Commits.{word_at}
 use Rattle.cell_nets.specs.Operands.{number_in, IsAvailable}
 use Rattle.cell_nets.specs.Wires.{always}
+use Rattle.cell_nets.proofs.PartLaws.{bits_below}
 use Rattle.overlay_net.specs.ValueNet.Words.{change_bits}
-use Rattle.overlay_net.proofs.ValueNet.Holding.{one_is, two_are, three_are, hold_none, hold_more, hold_gives, there_gives}
-use Rattle.overlay_net.proofs.ValueNet.BitLemmas.{bits_below}
-use Rattle.overlay_net.proofs.ValueNet.ChangeLemmas.{wide_one, changed_is, unchanged_is}
+use Rattle.overlay_net.proofs.ValueNet.Holding.{hold_none, hold_more, hold_gives, there_gives}
+use Rattle.overlay_net.proofs.ValueNet.ChangeLaws.{wide_one, changed_is, unchanged_is}
 use Rattle.overlay_net.proofs.value_net.changing.changed_word.Goals as goal
 
 pub returns-then-at-w : goal.returns-then-at-w
@@ -30,10 +31,10 @@ returns g c = λ n value b inside.
     let w = c.change_bytes-bytes.result * 8 in
     let e : w ≡ change_bits a.wide = omega (arith, c.change_bytes-bytes.ensures.value) in
     let same : c.args.at / 8 ≡ c.args.w = omega arith in
-    let x = hold_more p _ _ _ args args (old ∷ []) (λ v. number_in v old ≡ word_at value c.args.w) (λ v. number_in v old ≡ word_at value c.args.w) always _ w number (hold_none p _ args (λ v. number_in v old ≡ word_at value c.args.w)) c.in_ok-number.ensures (λ ins h. one_is (IsAvailable ins) old (h 0 old (omega arith))) (λ v f k. tt) in
-    let y = hold_more p _ _ _ args (number ∷ args) (number ∷ source ∷ compare ∷ []) (λ v. number_in v old ≡ word_at value c.args.w) _ _ _ (change_bits a.wide) new x c.in_ok-new.ensures (λ ins h. three_are (IsAvailable ins) number source compare (h 0 number (omega arith)) (h 2 source (omega arith)) (h 3 compare (omega arith)))
+    let x = hold_more p _ _ _ args args (old ∷ []) (λ v. number_in v old ≡ word_at value c.args.w) (λ v. number_in v old ≡ word_at value c.args.w) always _ w number (hold_none p _ args (λ v. number_in v old ≡ word_at value c.args.w)) c.in_ok-number.ensures (λ ins h. all_one (IsAvailable ins) old (h 0 old (omega arith))) (λ v f k. tt) in
+    let y = hold_more p _ _ _ args (number ∷ args) (number ∷ source ∷ compare ∷ []) (λ v. number_in v old ≡ word_at value c.args.w) _ _ _ (change_bits a.wide) new x c.in_ok-new.ensures (λ ins h. all_three (IsAvailable ins) number source compare (h 0 number (omega arith)) (h 2 source (omega arith)) (h 3 compare (omega arith)))
     (λ v f k. subst (λ m. number_in v number < 2 ^ m) e (bits_below v number w c.in_ok-number.ensures.bits (f 0 number (omega arith)))) in
-    let z = hold_more p _ _ _ args (new ∷ number ∷ args) (old ∷ new ∷ []) (λ v. number_in v old ≡ word_at value c.args.w) _ always _ 64 out y c.in_ok-out.ensures (λ ins h. two_are (IsAvailable ins) old new (h 2 old (omega arith)) (h 0 new (omega arith))) (λ v f k. tt) in
+    let z = hold_more p _ _ _ args (new ∷ number ∷ args) (old ∷ new ∷ []) (λ v. number_in v old ≡ word_at value c.args.w) _ always _ 64 out y c.in_ok-out.ensures (λ ins h. all_two (IsAvailable ins) old new (h 2 old (omega arith)) (h 0 new (omega arith))) (λ v f k. tt) in
     hold_gives p _ _ args (out ∷ new ∷ number ∷ args) (λ v. number_in v old ≡ word_at value c.args.w) _ _ 64 out z c.in_ok-out.ensures.operand c.in_ok-out.ensures.bits (λ ins h. h 0 out (omega arith))
     (λ v f k.
     changed_is n value a c.args.at c.args.w (number_in v source) (number_in v compare) c.first_bit-from.result w (number_in v old) (number_in v number) (number_in v new) (number_in v out) b inside (wide_one a.wide c.args.at c.requires.aligned) same c.first_bit-from.ensures (omega (arith, c.change_bytes-bytes.ensures.value))

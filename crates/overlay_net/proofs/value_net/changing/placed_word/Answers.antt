@@ -3,7 +3,7 @@ use Rattle.hazard_core.specs.Commits.{word_at}
 use Rattle.cell_nets.specs.Operands.{number_in}
 use Rattle.cell_nets.specs.Wires.{always}
 use Rattle.overlay_net.proofs.ValueNet.Holding.{step_gives, there_gives}
-use Rattle.overlay_net.proofs.ValueNet.ByteLemmas.{stored_is, word_left}
+use Rattle.overlay_net.proofs.ValueNet.ByteLaws.{stored_is, word_left}
 use Rattle.overlay_net.proofs.value_net.changing.placed_word.Goals as goal
 
 pub returns-then-at-w : goal.returns-then-at-w

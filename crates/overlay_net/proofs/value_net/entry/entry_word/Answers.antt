@@ -2,7 +2,7 @@ use Rattle.std.proofs.Common.{◌∷◌, get_or, sym, subst, arith}
 use Rattle.cell_nets.specs.Wires.{wires_of, Gives}
 use Rattle.hazard_core.specs.Commits.{word_at}
 use Rattle.overlay_net.specs.ValueNet.Pendings.{all_taken, IsFitting, IsOf, ShowPendings, ShowsEntry}
-use Rattle.overlay_net.proofs.ValueNet.EntryLemmas.{so_far, far_bytes, far_starts, far_more, far_all}
+use Rattle.overlay_net.proofs.ValueNet.EntryLaws.{so_far, far_bytes, far_starts, far_more, far_all}
 use Rattle.overlay_net.proofs.value_net.entry.entry_word.Goals as goal
 
 pub loop-pending-init : goal.loop-pending-init

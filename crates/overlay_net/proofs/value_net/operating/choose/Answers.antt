@@ -1,10 +1,11 @@
 use Rattle.std.proofs.Common.{sym, subst, All}
+use Rattle.block_core.proofs.list_laws_laws.AllLaws.{all_three}
 use Rattle.hazard_core.specs.cell_core.declared.operator.Operator.TheVariants.{Select}
 use Rattle.hazard_core.specs.cell_core.Cells.{number, bits_from}
 use Rattle.cell_nets.specs.Operands.{IsOperand}
 use Rattle.cell_nets.specs.Wires.{wires_of, always, Gives}
 use Rattle.overlay_net.specs.ValueNet.Lists.{numbers_in}
-use Rattle.overlay_net.proofs.ValueNet.Holding.{no_packet, three_are, three_listed}
+use Rattle.overlay_net.proofs.ValueNet.Holding.{no_packet, three_listed}
 use Rattle.overlay_net.proofs.value_net.operating.choose.Goals as goal
 
 pub operate-requires-clause-operands : goal.operate-requires-clause-operands
@@ -13,7 +14,7 @@ operate-requires-clause-operands g c =
     let a = c.args.a in
     let b = c.args.b in
     subst (All IsOperand) (sym (three_listed _ _ _ _ c.deref.result.now x a b c.new-args.ensures.items c.in_ok-push.ensures.items c.in_ok-push-2.ensures.items c.in_ok-push-3.ensures.items c.deref.ensures.value))
-    (three_are IsOperand x a b c.requires.condition c.requires.left c.requires.right)
+    (all_three IsOperand x a b c.requires.condition c.requires.left c.requires.right)
 
 pub returns : goal.returns
 returns g c =

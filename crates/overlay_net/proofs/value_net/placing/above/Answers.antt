@@ -1,9 +1,11 @@
 use Rattle.std.proofs.Common.{◌≡◌, ◌+◌, ◌-◌, ◌*◌, ◌/◌, ◌^◌, ◌≤◌, [], ◌∷◌, sym, ◌∙◌, ap, subst, arith}
+use Rattle.block_core.proofs.list_laws_laws.AllLaws.{all_one, all_two}
 use Rattle.cell_nets.specs.Operands.{number_in, IsAvailable}
 use Rattle.cell_nets.specs.Wires.{always, HasBits}
-use Rattle.cell_nets.proofs.ChoiceLemmas.{number_small}
-use Rattle.overlay_net.proofs.ValueNet.Holding.{no_packet, one_is, two_are, hold_none, hold_more, hold_gives, there_gives}
-use Rattle.overlay_net.proofs.ValueNet.BitLemmas.{bits_below, join_bits, high_bits, high_zero}
+use Rattle.cell_nets.proofs.ChoiceLaws.{number_small}
+use Rattle.cell_nets.proofs.PartLaws.{bits_below}
+use Rattle.overlay_net.proofs.ValueNet.Holding.{no_packet, hold_none, hold_more, hold_gives, there_gives}
+use Rattle.overlay_net.proofs.ValueNet.BitLemmas.{join_bits, high_bits, high_zero}
 use Rattle.overlay_net.proofs.value_net.placing.above.Goals as goal
 
 pub returns-then-from-eq64 : goal.returns-then-from-eq64
@@ -25,8 +27,8 @@ returns g c =
     let high = c.in_ok-high.high in
     let out = c.in_ok-out.out in
     let join = c.in_ok-out.ensures.gives no_packet in
-    let x = hold_more p _ _ _ (filled ∷ old ∷ []) (filled ∷ old ∷ []) (old ∷ []) always always always _ (64 - from) high (hold_none p _ (filled ∷ old ∷ []) always) c.in_ok-high.ensures (λ ins h. one_is (IsAvailable ins) old (h 1 old (omega arith))) (λ v f k. tt) in
-    let y = hold_more p _ _ _ (filled ∷ old ∷ []) (high ∷ filled ∷ old ∷ []) (high ∷ filled ∷ []) always _ always _ 64 out x join (λ ins h. two_are (IsAvailable ins) high filled (h 0 high (omega arith)) (h 1 filled (omega arith))) (λ v f k. tt) in
+    let x = hold_more p _ _ _ (filled ∷ old ∷ []) (filled ∷ old ∷ []) (old ∷ []) always always always _ (64 - from) high (hold_none p _ (filled ∷ old ∷ []) always) c.in_ok-high.ensures (λ ins h. all_one (IsAvailable ins) old (h 1 old (omega arith))) (λ v f k. tt) in
+    let y = hold_more p _ _ _ (filled ∷ old ∷ []) (high ∷ filled ∷ old ∷ []) (high ∷ filled ∷ []) always _ always _ 64 out x join (λ ins h. all_two (IsAvailable ins) high filled (h 0 high (omega arith)) (h 1 filled (omega arith))) (λ v f k. tt) in
     let most : from ≤ 64 = c.requires.inside in
     hold_gives p _ _ (filled ∷ old ∷ []) (out ∷ high ∷ filled ∷ old ∷ []) always _ _ 64 out y join.operand join.bits (λ ins h. h 0 out (omega arith))
     (λ v f k.

@@ -1,8 +1,10 @@
 use Rattle.std.proofs.Common.{◌≡◌, ◌+◌, ◌*◌, ◌%◌, ◌^◌, [], ◌∷◌, refl, sym, ◌∙◌, ap, subst, arith}
+use Rattle.block_core.proofs.list_laws_laws.AllLaws.{all_one, all_two}
 use Rattle.cell_nets.specs.Operands.{number_in, IsAvailable}
 use Rattle.cell_nets.specs.Wires.{always, HasBits}
-use Rattle.overlay_net.proofs.ValueNet.Holding.{no_packet, one_is, two_are, hold_none, hold_more, hold_gives, there_gives}
-use Rattle.overlay_net.proofs.ValueNet.BitLemmas.{low_bits, bits_below, join_bits}
+use Rattle.cell_nets.proofs.PartLaws.{bits_below}
+use Rattle.overlay_net.proofs.ValueNet.Holding.{no_packet, hold_none, hold_more, hold_gives, there_gives}
+use Rattle.overlay_net.proofs.ValueNet.BitLemmas.{low_bits, join_bits}
 use Rattle.overlay_net.proofs.value_net.placing.below.Goals as goal
 
 pub returns-then-from-eq0 : goal.returns-then-from-eq0
@@ -24,8 +26,8 @@ returns g c =
     let low = c.in_ok-low.low in
     let out = c.in_ok-out.out in
     let join = c.in_ok-out.ensures.gives no_packet in
-    let x = hold_more p _ _ _ (piece ∷ old ∷ []) (piece ∷ old ∷ []) (old ∷ []) always always always _ from low (hold_none p _ (piece ∷ old ∷ []) always) c.in_ok-low.ensures (λ ins h. one_is (IsAvailable ins) old (h 1 old (omega arith))) (λ v f k. tt) in
-    let y = hold_more p _ _ _ (piece ∷ old ∷ []) (low ∷ piece ∷ old ∷ []) (piece ∷ low ∷ []) always _ always _ (from + width) out x join (λ ins h. two_are (IsAvailable ins) piece low (h 1 piece (omega arith)) (h 0 low (omega arith))) (λ v f k. tt) in
+    let x = hold_more p _ _ _ (piece ∷ old ∷ []) (piece ∷ old ∷ []) (old ∷ []) always always always _ from low (hold_none p _ (piece ∷ old ∷ []) always) c.in_ok-low.ensures (λ ins h. all_one (IsAvailable ins) old (h 1 old (omega arith))) (λ v f k. tt) in
+    let y = hold_more p _ _ _ (piece ∷ old ∷ []) (low ∷ piece ∷ old ∷ []) (piece ∷ low ∷ []) always _ always _ (from + width) out x join (λ ins h. all_two (IsAvailable ins) piece low (h 1 piece (omega arith)) (h 0 low (omega arith))) (λ v f k. tt) in
     hold_gives p _ _ (piece ∷ old ∷ []) (out ∷ low ∷ piece ∷ old ∷ []) always _ _ (from + width) out y join.operand join.bits (λ ins h. h 0 out (omega arith))
     (λ v f k.
     k.1

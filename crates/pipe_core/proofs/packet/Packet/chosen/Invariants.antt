@@ -1,7 +1,7 @@
 use Rattle.std.proofs.Common.{◌≡◌, ℕ, Bool, ◌-◌, ◌&&◌, length, find, nat_le}
 use Rattle.hazard_core.specs.cell_core.Rows.{numbers}
 use Rattle.hazard_core.specs.cell_core.View.{program_of}
-use Rattle.hazard_core.specs.Held.{writes}
+use Rattle.hazard_core.specs.StageValues.{writes}
 use Rattle.pipe_core.proofs.packet.Packet.chosen.Given as goal
 
 -- what is left says the same as all

@@ -4,8 +4,8 @@ use Rattle.hazard_core.specs.cell_core.View.{program_of}
 use Rattle.pipe_core.specs.Machine.{Moves, worked}
 use Rattle.pipe_core.specs.BuildView.{BuildView, build_in}
 use Rattle.pipe_core.specs.StateView.{state_of}
-use Rattle.pipe_core.specs.Queued.{Queued, left_word}
-use Rattle.pipe_core.specs.Piped.{Piped, IsSteady}
+use Rattle.pipe_core.specs.FrameQueue.{FrameQueue, left_word}
+use Rattle.pipe_core.specs.PipeView.{PipeView, IsSteady}
 use Rattle.pipe_core.proofs.Clocking.{moved_steady}
 use Rattle.pipe_core.proofs.Piping.{moved_pipe, steady_as, map_map, frame_for, left_length, some_of, answered_slots}
 use Rattle.pipe_core.proofs.pipe.Pipe.advance.Goals as goal
@@ -17,7 +17,7 @@ pub answer-requires : goal.answer-requires
 answer-requires c = λ some.
     let i = c.self.inside in
     let frame : 0 < length i.queue.frames = frame_for (λ x. x.now) c.at-leaving.result i.places.places c.planned-planned.result.now.last (length i.queue.frames) c.at-leaving.ensures.packet c.self.invariant.packets (some_of _ c.at-leaving.result c.leave-left.result c.leave-left.ensures.answer some) in
-    omega (arith, frame, ap (λ (q : Queued). length q.frames) c.leave-left.ensures.queue, left_length (program_of c.planned-planned.result.now.program.now) (option_map (λ x. x.now) c.at-leaving.result) i.queue.frames)
+    omega (arith, frame, ap (λ (q : FrameQueue). length q.frames) c.leave-left.ensures.queue, left_length (program_of c.planned-planned.result.now.program.now) (option_map (λ x. x.now) c.at-leaving.result) i.queue.frames)
 
 pub invariant_of-self : goal.invariant_of-self
 invariant_of-self c =
@@ -25,7 +25,7 @@ invariant_of-self c =
     let plan = c.planned-planned.result.now in
     let p = program_of plan.program.now in
     let build = c.planned-planned.ensures.build in
-    let slots : c.answer.new.self.slots ≡ i.queue.slots = ap (λ (q : Queued). q.slots) c.answer.ensures ∙ answered_slots c.leave-left.result c.leave-left.new.self ∙ ap (λ (q : Queued). q.slots) c.leave-left.ensures.queue in
+    let slots : c.answer.new.self.slots ≡ i.queue.slots = ap (λ (q : FrameQueue). q.slots) c.answer.ensures ∙ answered_slots c.leave-left.result c.leave-left.new.self ∙ ap (λ (q : FrameQueue). q.slots) c.leave-left.ensures.queue in
     let same = moved_pipe i.tables i.queue c.leave-left.new.self c.answer.new.self i.places c.advance.new.self i.done i.taken.items i.passed c.counted-passed.result p plan.last plan.commit (option_map (λ x. x.now) c.at-leaving.result) c.leave-left.result c.has_packet-passes.result c.args.back c.frames.result.now
     (ap (λ (b : BuildView). b.program) build) c.at-leaving.ensures.packet (ap (λ (b : BuildView). b.last) build) (ap (λ (b : BuildView). b.commit) build) c.self.invariant.places c.self.invariant.packets
     c.leave-left.ensures.queue (c.leave-left.ensures.answer ∙ map_map _ (left_word p) c.at-leaving.result) c.has_packet-passes.ensures c.counted-passed.ensures c.frames.ensures c.advance.ensures c.answer.ensures in
@@ -40,4 +40,4 @@ returns c =
     moved_pipe i.tables i.queue c.leave-left.new.self c.answer.new.self i.places c.advance.new.self i.done i.taken.items i.passed c.counted-passed.result p plan.last plan.commit (option_map (λ x. x.now) c.at-leaving.result) c.leave-left.result c.has_packet-passes.result c.args.back c.frames.result.now
     (ap (λ (b : BuildView). b.program) build) c.at-leaving.ensures.packet (ap (λ (b : BuildView). b.last) build) (ap (λ (b : BuildView). b.commit) build) c.self.invariant.places c.self.invariant.packets
     c.leave-left.ensures.queue (c.leave-left.ensures.answer ∙ map_map _ (left_word p) c.at-leaving.result) c.has_packet-passes.ensures c.counted-passed.ensures c.frames.ensures c.advance.ensures c.answer.ensures
-    ∙ ap (λ (T : Piped). record T { state = worked (build_in T.build) T.state c.args.back T.state.places Moves }) c.self.view_is
+    ∙ ap (λ (T : PipeView). record T { state = worked (build_in T.build) T.state c.args.back T.state.places Moves }) c.self.view_is

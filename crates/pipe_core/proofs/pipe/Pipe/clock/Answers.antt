@@ -1,7 +1,7 @@
 use Rattle.std.proofs.Common.{◌≡◌, ℕ, sym, ap, ◌∙◌, subst}
 use Rattle.pipe_core.specs.Machine.{Output, clock, output}
 use Rattle.pipe_core.specs.BuildView.{build_in}
-use Rattle.pipe_core.specs.Piped.{Piped, input_of, output_of}
+use Rattle.pipe_core.specs.PipeView.{PipeView, input_of, output_of}
 use Rattle.pipe_core.specs.Points.{KeepsPoints}
 use Rattle.pipe_core.proofs.Piping.{clock_room, clock_slot, clock_some, clock_more, clock_pipe}
 use Rattle.pipe_core.proofs.pipe.Pipe.clock.Goals as goal
@@ -12,7 +12,7 @@ gather-requires-clause-room c = clock_room c.args.self.now c.work-reloaded.new.s
 pub gather-requires-clause-slot : goal.gather-requires-clause-slot
 unfolding output
 gather-requires-clause-slot c = clock_slot c.args.self.now c.work-reloaded.new.self (input_of c.args.input) c.beat_if-over.result c.shown-out.result.ready
-    (ap (λ (o : Output). o.ready) c.shown-out.ensures.output) c.beat_if-over.ensures (ap (λ (T : Piped). T.build) c.work-reloaded.ensures.pipe) c.work-reloaded.ensures.ready
+    (ap (λ (o : Output). o.ready) c.shown-out.ensures.output) c.beat_if-over.ensures (ap (λ (T : PipeView). T.build) c.work-reloaded.ensures.pipe) c.work-reloaded.ensures.ready
 
 pub scatter-requires-clause-some : goal.scatter-requires-clause-some
 unfolding output
@@ -25,7 +25,7 @@ scatter-requires-clause-more c = clock_more c.args.self.now c.work-reloaded.new.
 
 pub returns-clause-state : goal.returns-clause-state
 unfolding output
-returns-clause-state c = ap (λ (T : Piped). T.state) (clock_pipe c.args.self.now c.work-reloaded.new.self c.gather.new.self c.scatter.new.self (input_of c.args.input) c.shown-out.result.beat c.beat_if-over.result c.beat_if-taken.result c.shown-out.result.ready (record {
+returns-clause-state c = ap (λ (T : PipeView). T.state) (clock_pipe c.args.self.now c.work-reloaded.new.self c.gather.new.self c.scatter.new.self (input_of c.args.input) c.shown-out.result.beat c.beat_if-over.result c.beat_if-taken.result c.shown-out.result.ready (record {
   shown_is = ap (λ (o : Output). o.beat) c.shown-out.ensures.output;
   ready_is = ap (λ (o : Output). o.ready) c.shown-out.ensures.output;
   over_is = c.beat_if-over.ensures;
@@ -36,7 +36,7 @@ returns-clause-state c = ap (λ (T : Piped). T.state) (clock_pipe c.args.self.no
 }))
 
 pub returns-clause-build : goal.returns-clause-build
-returns-clause-build c = ap (λ (T : Piped). T.build) c.scatter.ensures ∙ ap (λ (T : Piped). T.build) c.gather.ensures ∙ ap (λ (T : Piped). T.build) c.work-reloaded.ensures.pipe
+returns-clause-build c = ap (λ (T : PipeView). T.build) c.scatter.ensures ∙ ap (λ (T : PipeView). T.build) c.gather.ensures ∙ ap (λ (T : PipeView). T.build) c.work-reloaded.ensures.pipe
 
 pub returns-clause-output : goal.returns-clause-output
 unfolding output
@@ -46,7 +46,7 @@ pub returns-clause-points : goal.returns-clause-points
 unfolding output
 returns-clause-points c =
     let S = c.args.self.now in
-    let state : c.scatter.new.self.state ≡ clock (build_in S.build) (input_of c.args.input) S.state = ap (λ (T : Piped). T.state) (clock_pipe c.args.self.now c.work-reloaded.new.self c.gather.new.self c.scatter.new.self (input_of c.args.input) c.shown-out.result.beat c.beat_if-over.result c.beat_if-taken.result c.shown-out.result.ready (record {
+    let state : c.scatter.new.self.state ≡ clock (build_in S.build) (input_of c.args.input) S.state = ap (λ (T : PipeView). T.state) (clock_pipe c.args.self.now c.work-reloaded.new.self c.gather.new.self c.scatter.new.self (input_of c.args.input) c.shown-out.result.beat c.beat_if-over.result c.beat_if-taken.result c.shown-out.result.ready (record {
       shown_is = ap (λ (o : Output). o.beat) c.shown-out.ensures.output;
       ready_is = ap (λ (o : Output). o.ready) c.shown-out.ensures.output;
       over_is = c.beat_if-over.ensures;

@@ -9,5 +9,5 @@ use Rattle.pipe_design.proofs.map_parts.words.host_words.Given as goal
 abbrev pub invariant-loop-m : goal.invariant-loop-m
 invariant-loop-m l = record {
   count : length l.words.items ≡ l.m;
-  each : (m : ℕ) (n : Name Part) → m < l.m → (f : MapForm) → get_or l.words.items m n ≡ host_word (get_or l.draft.forms.items m f) (part.own l.draft.sizes m);
+  each : (m : ℕ) (n : Name Part) → m < l.m → (f : MapForm) → get_or l.words.items m n ≡ host_word (get_or l.pipeline_plan.forms.items m f) (part.own l.pipeline_plan.sizes m);
 }

@@ -8,19 +8,19 @@ returns c =
       declared = c.all_are_declared.ensures;
       formed = c.pipelines_are_formed.ensures.formed;
       packets = c.packets_are_shown.ensures.held;
-      dues = c.dues_are_shown.ensures;
+      reloads = c.reloads_are_shown.ensures;
       returns = c.places_return.ensures;
       allow = c.host_is_served.ensures.writes;
       host = c.host_is_shown.ensures;
-      turn = c.turn_is_shown.ensures.turn;
-      targets = c.turn_is_shown.ensures.targets;
+      action = c.action_is_shown.ensures.action;
+      targets = c.action_is_shown.ensures.targets;
       changes = c.changes_are_shown.ensures;
       value = c.host_is_served.ensures.reads;
       answers = c.packets_are_shown.ensures.answers;
       frames = c.frames_follow.ensures.clock;
       packets_follow = c.packets_follow.ensures.clock;
       marks_follow = c.marks_follow.ensures.clock;
-      turn_follows = c.turn_follows.ensures.clock;
+      action_follows = c.action_follows.ensures.clock;
       tables_follow = c.tables_follow.ensures.clock;
     } in
     let first : FirstLaws = record {
@@ -28,7 +28,7 @@ returns c =
       frames = c.frames_follow.ensures.first;
       packets = c.packets_follow.ensures.first;
       marks = c.marks_follow.ensures.first;
-      turn = c.turn_follows.ensures.first;
+      action = c.action_follows.ensures.first;
       tables = c.tables_follow.ensures.first;
     } in
     record { shows = clocks_show laws; clock = clocks_follow laws; first = begin_related first }

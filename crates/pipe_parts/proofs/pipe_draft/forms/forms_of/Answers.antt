@@ -1,8 +1,9 @@
 use Rattle.std.proofs.Common.{◌≡◌, ◌∙◌, ℕ, ◌+◌, ◌<◌, length, get_or, sym, subst, arith}
+use Rattle.std.proofs.lemmas.List.{get_or_default}
+use Rattle.block_core.proofs.list_laws_laws.PlaceLaws.{each_more, one_more}
 use Rattle.hazard_core.specs.xdp_maps.declared.decl.MapDecl.{MapDecl}
 use Rattle.commit_net.specs.declared.map_block.form.MapForm.{MapForm}
-use Rattle.pipe_parts.proofs.PipeDraft.Forming.{IsFormOf, same_default, decls_are, are_forms}
-use Rattle.pipe_parts.proofs.PipeDraft.Pushing.{each_more, one_more}
+use Rattle.pipe_parts.proofs.PipeDraft.Forming.{IsFormOf, decls_are, are_forms}
 use Rattle.pipe_parts.proofs.pipe_draft.forms.forms_of.Goals as goal
 
 pub loop-number-preserved : goal.loop-number-preserved
@@ -13,8 +14,8 @@ loop-number-preserved c =
     let x = c.form_of-form.result in
     let P : ℕ → MapForm → Type 0 = λ m f. (d : MapDecl) → IsFormOf m (get_or decls m d) f in
     let within : n < length decls = omega arith in
-    let is : (d : MapDecl) → x.decl ≡ get_or decls n d = λ d. c.form_of-form.ensures.decl ∙ c.index-decls-number.is ∙ same_default decls n _ d within in
-    let made : P n x = λ d. record { number = c.form_of-form.ensures.number; decl = is d; suited = c.form_of-form.ensures.suited } in
+    let is : (d : MapDecl) → x.decl ≡ get_or decls n d = λ d. c.form_of-form.ensures.decl ∙ c.index-decls-number.is ∙ get_or_default decls n _ d within in
+    let made : P n x = λ d. record { number = c.form_of-form.ensures.number; decl = is d; form_fits = c.form_of-form.ensures.form_fits } in
     let more = each_more P c.loop-number.forms.items n x inv.count (λ m f l d. inv.each m f d l) made in
     subst (λ xs. record { count : length xs ≡ n + 1; each : (m : ℕ) (f : MapForm) (d : MapDecl) → m < n + 1 → IsFormOf m (get_or decls m d) (get_or xs m f) }) (sym c.in_ok-push.ensures.items)
     (record { count = one_more c.loop-number.forms.items n x inv.count; each = λ m f d l. more m f l d })

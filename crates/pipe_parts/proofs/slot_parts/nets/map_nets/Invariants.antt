@@ -8,5 +8,5 @@ use Rattle.pipe_parts.proofs.slot_parts.nets.map_nets.Given as goal
 abbrev pub invariant-loop-m : goal.invariant-loop-m
 invariant-loop-m l = record {
   count : length l.nets.items ≡ l.m;
-  each : (m : ℕ) (n : MapNets (Name Part)) → m < l.m → IsMapIn l.draft m (get_or l.nets.items m n);
+  each : (m : ℕ) (n : MapNets (Name Part)) → m < l.m → IsMapIn l.pipeline_plan m (get_or l.nets.items m n);
 }

@@ -6,6 +6,6 @@ use Rattle.pipe_parts.proofs.turn_parts.records.records_at.Given as goal
 
 abbrev pub invariant-loop-i : goal.invariant-loop-i
 invariant-loop-i l = record {
-  sites : sites_of l.records.items ≡ take l.i l.draft.records.items;
-  each : All (IsRecordAt l.draft l.at (list_at l.owns) (targets_at l.targets)) l.records.items;
+  sites : sites_of l.records.items ≡ take l.i l.pipeline_plan.records.items;
+  each : All (IsRecordAt l.pipeline_plan l.at (list_at l.owns) (targets_at l.targets)) l.records.items;
 }

@@ -10,5 +10,5 @@ use Rattle.pipe_parts.proofs.turn_parts.sites.own_lists.Given as goal
 abbrev pub invariant-loop-m : goal.invariant-loop-m
 invariant-loop-m l = record {
   count : length l.lists.items ≡ l.m;
-  each : (m : ℕ) (r : Vec (OwnSite (Name Part)) Global) → m < l.m → AreOwnOf l.draft l.at m (get_or l.lists.items m r).items;
+  each : (m : ℕ) (r : Vec (OwnSite (Name Part)) Global) → m < l.m → AreOwnOf l.pipeline_plan l.at m (get_or l.lists.items m r).items;
 }

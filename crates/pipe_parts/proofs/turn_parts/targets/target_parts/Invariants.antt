@@ -11,5 +11,5 @@ use Rattle.pipe_parts.proofs.turn_parts.targets.target_parts.Given as goal
 abbrev pub invariant-loop-m : goal.invariant-loop-m
 invariant-loop-m l = record {
   count : length l.parts.items ≡ l.m;
-  each : (m : ℕ) (n : MapNets (Name Part)) (f : MapForm) (r : TargetPart Part) → m < l.m → IsTargetPart l.draft m (get_or l.maps m n) (list_at l.owns m) l.taken (get_or l.draft.forms.items m f) (get_or l.parts.items m r);
+  each : (m : ℕ) (n : MapNets (Name Part)) (f : MapForm) (r : TargetPart Part) → m < l.m → IsTargetPart l.pipeline_plan m (get_or l.maps m n) (list_at l.owns m) l.taken (get_or l.pipeline_plan.forms.items m f) (get_or l.parts.items m r);
 }

@@ -1,5 +1,5 @@
 use Rattle.std.proofs.Common.{rules, refl, ◌∙◌, ◌≡◌, ℕ, ◌<◌, Bool, true, sym, ap, arith, length, map as map_list}
-use Rattle.std.proofs.lemmas.List.{length-map}
+use Rattle.std.proofs.lemmas.List.{length-map, get_or_default}
 use Rattle.std.proofs.lemmas.List.Elements.{All-push}
 use Rattle.block_core.specs.declared.name.Name.{Name}
 use Rattle.hazard_core.specs.cell_core.View.{site_of}
@@ -10,7 +10,6 @@ use Rattle.place_parts.specs.MarkParts.Places.{program_in}
 use Rattle.place_parts.specs.MarkParts.Owns.{is_own, IsOwn}
 use Rattle.place_parts.proofs.MarkParts.Listing.{kept_same}
 use Rattle.place_parts.proofs.MarkParts.Owning.{own_more, own_bytes}
-use Rattle.place_parts.proofs.MarkParts.Forming.{same_there}
 use Rattle.place_parts.proofs.mark_parts.owns.own_keys.Goals as goal
 use Rattle.place_parts.proofs.mark_parts.owns.own_keys.Goals.{then-is_own+in_ok-push, else-is_own}
 
@@ -28,7 +27,7 @@ loop-j-preserved c =
           record {
             known = there;
             bytes_are = own_bytes (program_in f) f.decls.now c.args.bytes n yes;
-            key = λ s. w.deref.ensures.value ∙ ap (λ (x : SiteNets (Name Part)). x.key.items) (same_there c.args.sites.now n w.index-sites-j.result s there);
+            key = λ s. w.deref.ensures.value ∙ ap (λ (x : SiteNets (Name Part)). x.key.items) (get_or_default c.args.sites.now n w.index-sites-j.result s there);
           } in
           search (rules, own_more q n c.loop-j.all.items o yes refl c.loop-j.invariant.are, All-push (IsOwn f c.args.sites.now c.args.bytes) c.loop-j.all.items o c.loop-j.invariant.each own)
       | else-is_own w ↦ search (rules, kept_same q n (map_list (λ (x : OwnKey (Name Part)). x.site) c.loop-j.all.items) (sym c.is_own.ensures ∙ w.if-is_own.false) c.loop-j.invariant.are)

@@ -1,6 +1,6 @@
 use Rattle.std.proofs.Common.{◌∙◌, length, sym, ap}
 use Rattle.operator_cells.specs.Making.{seen}
-use Rattle.operator_cells.specs.HeldCells.Held.{pointed}
+use Rattle.operator_cells.specs.HeldCells.RegisterCells.{pointed}
 use Rattle.site_cells.specs.Sited.{sited}
 use Rattle.predicate_core.proofs.StepCells.Nodes.{plain_operates}
 use Rattle.predicate_core.proofs.StepCells.Behind.{plain_rows, operated_rows}

@@ -5,8 +5,9 @@ use Rattle.cell_core.specs.View.{site_of}
 use Rattle.cell_core.specs.Rows.{taken_by}
 use Rattle.cell_core.specs.Formed.{IsBelow}
 use Rattle.operator_cells.specs.Making.{seen}
+use Rattle.site_cells.proofs.SitedLaws.{sited_length}
 use Rattle.predicate_core.specs.StepCells.Waiting.{AreReaders}
-use Rattle.predicate_core.proofs.StepCells.Waiting.{stays_alone, stays_unwritten, taken_there, site_seen, sited_count, waits}
+use Rattle.predicate_core.proofs.StepCells.Waiting.{stays_alone, stays_unwritten, taken_there, site_seen, waits}
 use Rattle.predicate_core.proofs.step_cells.pending.pending_behind.Goals as goal
 
 pub returns-then-sites-sites_before : goal.returns-then-sites-sites_before
@@ -24,7 +25,7 @@ pending-requires c =
     (sym (c.deref-3.ensures.value ∙ c.in_ok-extend_from_slice.ensures.items ∙ ap (λ (xs : List ℕ). xs ++ c.deref-2.result.now) c.in_ok-ins.ensures
     ∙ ap (λ (xs : List ℕ). c.args.before ∷ taken_by (site_of c.index-sites-sites_before.result) ++ xs) c.deref-2.ensures.value))
     (taken_there (length (seen c.args.cells.now.items)) (site_of c.index-sites-sites_before.result) c.args.before c.in_ok-reading.reading.items c.requires.before
-    (subst (IsBelow (length (seen c.args.cells.now.items))) at (c.requires.site (omega (arith, c.if-sites-sites_before.false, sited_count c.args.sites.now)))) read.there)
+    (subst (IsBelow (length (seen c.args.cells.now.items))) at (c.requires.site (omega (arith, c.if-sites-sites_before.false, sited_length c.args.sites.now)))) read.there)
 
 pub returns : goal.returns
 returns c =

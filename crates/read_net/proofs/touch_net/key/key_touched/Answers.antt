@@ -9,7 +9,8 @@ use Rattle.overlay_net.specs.cell_nets.Wires.{wires_of, always}
 use Rattle.overlay_net.specs.SiteOperands.Sites.{operands_of, all_of}
 use Rattle.overlay_net.proofs.cell_nets_laws.StepNets.ChainLaws.{starts, next, last}
 use Rattle.overlay_net.proofs.cell_nets_laws.StepNets.StepLaws.{all_each, on_bit}
-use Rattle.read_net.proofs.TouchNet.ListLemmas.{left_of, right_of, behind, keys_of, others_of}
+use Rattle.overlay_net.proofs.SiteOperandLaws.{keys_of, others_of}
+use Rattle.read_net.proofs.TouchNet.ListLemmas.{left_of, right_of, behind}
 use Rattle.read_net.proofs.TouchNet.ReadLemmas.{update_sees, other_sees, key_given}
 use Rattle.read_net.proofs.touch_net.key.key_touched.Goals as goal
 

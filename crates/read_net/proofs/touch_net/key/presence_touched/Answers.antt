@@ -3,7 +3,7 @@ use Rattle.std.proofs.Common.{[], ◌∷◌, ◌++◌, arith}
 use Rattle.std.proofs.lemmas.List.Elements.{All-append}
 use Rattle.overlay_net.specs.cell_core.Cells.{bit}
 use Rattle.overlay_net.specs.cell_core.Sites.{site_at}
-use Rattle.pipe_core.specs.hazard_core.Held.{asked, is_null, pointer_in, found_cell}
+use Rattle.pipe_core.specs.hazard_core.StageValues.{asked, is_null, pointer_in, found_cell}
 use Rattle.pipe_core.specs.hazard_core.Marks.{presence_touched}
 use Rattle.pipe_core.specs.hazard_core.Tables.{decl_of}
 use Rattle.overlay_net.specs.cell_nets.Operands.{number_in, IsOperand, IsAvailable}

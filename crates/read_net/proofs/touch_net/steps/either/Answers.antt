@@ -5,7 +5,7 @@ use Rattle.overlay_net.specs.cell_nets.Operands.{number_in, IsAvailable}
 use Rattle.overlay_net.specs.cell_nets.Wires.{wires_of, always}
 use Rattle.overlay_net.proofs.cell_nets_laws.StepNets.ChainLaws.{starts, next, last}
 use Rattle.overlay_net.proofs.cell_nets_laws.StepNets.StepLaws.{all_each}
-use Rattle.read_net.proofs.TouchNet.StepLemmas.{or_chosen}
+use Rattle.overlay_net.proofs.cell_core_laws.BitLaws.{or_chosen}
 use Rattle.read_net.proofs.touch_net.steps.either.Goals as goal
 
 pub returns : goal.returns

@@ -1,7 +1,7 @@
 use Rattle.std.proofs.Common.{◌∙◌, ◌++◌, sym, arith}
 use Rattle.overlay_net.specs.cell_core.Cells.{bit}
 use Rattle.overlay_net.specs.cell_core.Sites.{site_at}
-use Rattle.pipe_core.specs.hazard_core.Held.{access_pointer}
+use Rattle.pipe_core.specs.hazard_core.StageValues.{access_pointer}
 use Rattle.pipe_core.specs.hazard_core.Marks.{touches}
 use Rattle.overlay_net.specs.cell_nets.Operands.{IsAvailable}
 use Rattle.overlay_net.specs.cell_nets.Wires.{wires_of}

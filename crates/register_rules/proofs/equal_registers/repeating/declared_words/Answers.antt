@@ -1,7 +1,7 @@
 use Rattle.std.proofs.Common.{add-one, arith, ap, ◌∙◌, sym, ◌++◌, ◌∷◌, [], take}
 use Rattle.std.proofs.lemmas.List.{append-nil}
 use Rattle.net_core.specs.Clock.{first_words}
-use Rattle.register_rules.proofs.EqualRegisters.EdgeLemmas.{words_more, no_word}
+use Rattle.net_core.proofs.DeclaredLaws.{words_more, no_word}
 use Rattle.register_rules.proofs.equal_registers.repeating.declared_words.Goals as goal
 use Rattle.register_rules.proofs.equal_registers.repeating.declared_words.Goals.{in-Register+in_ok-push, in_default}
 

@@ -3,7 +3,7 @@ use Rattle.std.proofs.lemmas.List.{take_all}
 use Rattle.net_core.specs.View.{statement_of}
 use Rattle.net_core.specs.Clock.{edge}
 use Rattle.register_rules.specs.EqualRegisters.Setting.{HoldTheSame}
-use Rattle.register_rules.proofs.EqualRegisters.EdgeLemmas.{edge_more}
+use Rattle.net_core.proofs.EdgeLaws.{edge_more}
 use Rattle.register_rules.proofs.equal_registers.repeating.keeps_alike.Goals as goal
 
 pub loop-i-preserved : goal.loop-i-preserved

@@ -4,7 +4,7 @@ use Rattle.net_core.specs.declared.tree.Parts.{size-Parts}
 use Rattle.net_core.specs.View.{tree_of, trees_of}
 use Rattle.net_core.specs.Value.{Env, concatenated_parts}
 use Rattle.register_rules.specs.NarrowRegisters.Narrow.{coding_of, AreNarrowed}
-use Rattle.register_rules.proofs.NarrowRegisters.ValueLemmas.{before}
+use Rattle.net_core.proofs.PartLaws.{before}
 use Rattle.register_rules.proofs.narrow_registers.widening.+expressions.Given as goal
 
 abbrev pub invariant-wide_parts-loop-left : goal.invariant-wide_parts-loop-left

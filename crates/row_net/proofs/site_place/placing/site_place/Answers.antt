@@ -3,7 +3,7 @@ use Rattle.net_core.specs.ProductRules.Products.{statement_flat}
 use Rattle.overlay_net.specs.cell_core.View.{cell_of}
 use Rattle.cell_nets.specs.Wires.{wires_of}
 use Rattle.frame_net.proofs.FormLaws.{same_block}
-use Rattle.row_net.proofs.ApartLemmas.{alone}
+use Rattle.row_net.proofs.ApartLaws.{alone}
 use Rattle.row_net.specs.SitePlace.Pointing.{ArePointed}
 use Rattle.row_net.specs.SitePlace.PointerNets.{IsPointerRow}
 use Rattle.row_net.specs.SitePlace.Inputs.{first_word, input_tree, held_statement, cell_input, pointer_input}

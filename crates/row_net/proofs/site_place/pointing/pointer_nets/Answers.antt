@@ -6,11 +6,11 @@ use Rattle.cell_nets.specs.declared.operand.Operand.{Operand}
 use Rattle.cell_nets.specs.Operands.{IsOperand}
 use Rattle.cell_nets.specs.Wires.{wires_of, HasBits}
 use Rattle.row_net.specs.Table.{Stands, IsIn}
-use Rattle.row_net.proofs.TableLemmas.{cell_is}
 use Rattle.row_net.specs.SitePlace.Pointing.{Takes}
 use Rattle.row_net.specs.SitePlace.PointerNets.{GivesPointer}
 use Rattle.row_net.proofs.SitePlace.PointingLemmas.{pointers_more, takes_now}
 use Rattle.row_net.proofs.site_place.pointing.pointer_nets.Goals as goal
+use Rattle.row_plan.proofs.cell_core_laws.ViewLaws.{cell_is}
 
 pub pointer-requires-clause-takes : goal.pointer-requires-clause-takes
 pointer-requires-clause-takes g c =

@@ -6,7 +6,7 @@ use Rattle.row_rules.specs.declared.place_rows.origin.Origin.{Origin}
 use Rattle.row_rules.specs.PlaceRows.Origins.{every_row}
 use Rattle.row_rules.specs.NodeRows.Joining.{edge_row}
 use Rattle.row_rules.specs.NodeRows.Rows.{no_point, arrivals_of}
-use Rattle.row_rules.proofs.NodeRows.RowsLemmas.{before_low, behind_made}
+use Rattle.row_rules.proofs.NodeRows.RowsLaws.{before_low, behind_made}
 use Rattle.row_rules.proofs.node_rows.stages.behind.Goals as goal
 
 pub pass-requires-clause-low : goal.pass-requires-clause-low

@@ -1,4 +1,4 @@
-use Rattle.row_rules.proofs.NodeRows.RowsLemmas.{SoFar}
+use Rattle.row_rules.proofs.NodeRows.RowsLaws.{SoFar}
 use Rattle.row_rules.proofs.node_rows.stages.count_stages.Given as goal
 
 abbrev pub invariant-loop-number : goal.invariant-loop-number

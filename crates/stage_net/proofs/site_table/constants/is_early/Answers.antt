@@ -1,8 +1,8 @@
 use Rattle.std.proofs.Common.{◌<◌, ◌≤◌, length, map, subst, arith}
 use Rattle.std.proofs.lemmas.List.{length-map}
+use Rattle.row_plan.proofs.cell_core_laws.ViewLaws.{cell_is}
 use Rattle.hazard_core.specs.cell_core.Cells.{CellView}
 use Rattle.hazard_core.specs.cell_core.View.{cell_of}
-use Rattle.stage_net.proofs.SiteTable.FlagLemmas.{cell_is}
 use Rattle.stage_net.proofs.site_table.constants.is_early.Goals as goal
 
 pub constant_number-requires-clause-width : goal.constant_number-requires-clause-width

@@ -1,10 +1,11 @@
 use Rattle.std.proofs.Common.{Bool, ◌≡◌, ◌<◌, ◌≤◌, ℕ, List, length, length-append, map, get_or, ap, subst, rules, arith}
 use Rattle.std.proofs.lemmas.List.{length-map}
+use Rattle.row_plan.proofs.cell_core_laws.ViewLaws.{cell_is}
 use Rattle.hazard_core.specs.cell_core.Cells.{CellView}
 use Rattle.hazard_core.specs.cell_core.Formed.{takes}
 use Rattle.hazard_core.specs.cell_core.View.{cell_of}
 use Rattle.stage_net.specs.SiteTable.Pointing.{IsFlagged}
-use Rattle.stage_net.proofs.SiteTable.FlagLemmas.{cell_is, flagged_more, flagged_are}
+use Rattle.stage_net.proofs.SiteTable.FlagLemmas.{flagged_more, flagged_are}
 use Rattle.stage_net.proofs.site_table.pointing.pointing.Goals as goal
 
 pub may_point-points-requires : goal.may_point-points-requires

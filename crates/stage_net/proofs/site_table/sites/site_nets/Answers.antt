@@ -1,7 +1,7 @@
 use Rattle.std.proofs.Common.{◌≡◌, ◌∙◌, List, map as map_list, ap}
 use Rattle.hazard_core.specs.cell_core.Sites.{site_at}
 use Rattle.hazard_core.specs.cell_core.View.{program_of}
-use Rattle.hazard_core.specs.Held.{found_cell, answer_cell}
+use Rattle.hazard_core.specs.StageValues.{found_cell, answer_cell}
 use Rattle.overlay_net.specs.cell_nets.declared.operand.Operand.{Operand}
 use Rattle.overlay_net.specs.SiteOperands.Sites.{SiteOperands, operands_of}
 use Rattle.stage_net.specs.SiteTable.Sites.{operand_at, access_operand}

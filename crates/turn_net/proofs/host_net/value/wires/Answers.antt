@@ -1,7 +1,7 @@
 use Rattle.std.proofs.Common.{map, ap}
 use Rattle.net_core.specs.Nets.{RPlain}
 use Rattle.block_core.specs.View.{block_wire_of}
-use Rattle.turn_net.proofs.HostNet.TreeLemmas.{pushed}
+use Rattle.block_core.proofs.list_laws_laws.OneMoreLaws.{pushed}
 use Rattle.turn_net.proofs.host_net.value.wires.Goals as goal
 
 pub returns : goal.returns

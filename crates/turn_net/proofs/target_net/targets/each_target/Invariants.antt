@@ -1,6 +1,6 @@
 use Rattle.std.proofs.Common.{◌≡◌, ◌≤◌, ◌^◌, ℕ, List, All, length}
 use Rattle.hazard_core.specs.cell_core.Sites.{ProgramView}
-use Rattle.hazard_core.specs.Held.{Held}
+use Rattle.hazard_core.specs.StageValues.{StageValues}
 use Rattle.hazard_core.specs.Tables.{TableState, table_at}
 use Rattle.cell_nets.specs.Operands.{IsOperand}
 use Rattle.cell_nets.specs.Wires.{wires_of, HasBits}
@@ -15,5 +15,5 @@ invariant-loop-i g l = record {
   operands : All IsOperand (all_of l.all.items);
   slot_bits : All (λ d. HasBits l.slot_bits d.slot) l.all.items;
   makes_bits : All (λ d. HasBits 1 d.makes) l.all.items;
-  stands : (p : ProgramView) (t : TableState) (took : List ℕ) (h : Held) (m : ℕ) → length (table_at t m) ≤ 2 ^ l.slot_bits → All (IsOwn p m) l.records → Far l.part l.slot_bits l.records l.seen l.free l.taken p t took h m (wires_of l.fn.wires.items) (wires_of l.wires.items) l.all.items l.i;
+  stands : (p : ProgramView) (t : TableState) (took : List ℕ) (h : StageValues) (m : ℕ) → length (table_at t m) ≤ 2 ^ l.slot_bits → All (IsOwn p m) l.records → Far l.part l.slot_bits l.records l.seen l.free l.taken p t took h m (wires_of l.fn.wires.items) (wires_of l.wires.items) l.all.items l.i;
 }

@@ -1,5 +1,5 @@
 use Rattle.std.proofs.Common.{ℕ, List, [], sym, subst}
-use Rattle.hazard_core.specs.Held.{Held}
+use Rattle.hazard_core.specs.StageValues.{StageValues}
 use Rattle.hazard_core.specs.Tables.{TableState}
 use Rattle.cell_nets.specs.Wires.{wires_of}
 use Rattle.cell_nets.specs.StepNets.Standing.{Stands}
@@ -19,7 +19,7 @@ returns g c = λ p m own.
     let ws = wires_of c.target_nets.new.wires.items in
     let outside = outside_of map rs ss in
     let outs = all_of ds in
-    let x : (u : TableState) (took : List ℕ) (h : Held) → IsMapOf u m map.decl.now → Stands part [] ws outside (λ v. Shows v p u took h m map rs ss) outs (λ v. ShowTargets v p u took h ss rs ds) =
+    let x : (u : TableState) (took : List ℕ) (h : StageValues) → IsMapOf u m map.decl.now → Stands part [] ws outside (λ v. Shows v p u took h m map rs ss) outs (λ v. ShowTargets v p u took h ss rs ds) =
     λ u took h is. subst (λ os. Stands part (wires_of os) ws outside (λ v. Shows v p u took h m map rs ss) outs (λ v. ShowTargets v p u took h ss rs ds)) c.new-wires.ensures.items (c.in_ok-targets.ensures.stands p u took h m own is) in
     let any = x (first_tables map.decl.now m) [] (record { values = []; pointers = [] }) (c.tables_are_there.ensures map.decl.now m c.requires.map.limits) in
     subst (IsTargets p m part map c.args.slot_bits rs ss ds) (sym c.in_ok-block.ensures)

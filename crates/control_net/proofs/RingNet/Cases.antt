@@ -1,6 +1,0 @@
--- A test is true or false.
-use Rattle.std.proofs.Common.{◌≡◌, Bool, true, false, refl}
-
-pub by_test : (P : Bool → Type 0) (b : Bool) → (b ≡ true → P true) → (b ≡ false → P false) → P b
-by_test P true h k = h refl
-by_test P false h k = k refl

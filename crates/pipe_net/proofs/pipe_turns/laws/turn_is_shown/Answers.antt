@@ -1,6 +1,0 @@
-use Rattle.pipe_net.proofs.PipeTurns.TurnShown as shown
-use Rattle.pipe_net.proofs.PipeTurns.TargetShown as targets
-use Rattle.pipe_net.proofs.pipe_turns.laws.turn_is_shown.Goals as goal
-
-pub returns : goal.returns
-returns c = record { turn = shown.turn_is_shown c.records_alone.ensures; targets = targets.targets_are_shown }

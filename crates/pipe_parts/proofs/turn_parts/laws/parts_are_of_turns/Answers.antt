@@ -1,5 +1,0 @@
-use Rattle.pipe_parts.proofs.TurnParts.Laying.{turn_parts_of}
-use Rattle.pipe_parts.proofs.turn_parts.laws.parts_are_of_turns.Goals as goal
-
-pub returns : goal.returns
-returns c d places l w shape b maps r is stand from answered at shown made for blocks = turn_parts_of c.drafted_are_laid.ensures.sites d places l w shape b maps r is stand from answered at shown made for blocks

@@ -1,7 +1,0 @@
-use Rattle.std.proofs.Common.{All, sym, subst}
-use Rattle.read_net.specs.TouchNet.Marking.{HasOperands}
-use Rattle.place_parts.proofs.MarkParts.Forming.{nets_have}
-use Rattle.place_parts.proofs.mark_parts.due.due_part.Goals as goal
-
-pub due-requires-2 : goal.due-requires-2
-due-requires-2 c = subst (All HasOperands) (sym c.deref-2.ensures.value) (nets_have c.args.layout.now c.args.sites.now c.requires.operands c.args.k c.in_ok-nets.nets.items c.in_ok-nets.ensures)
