@@ -44,7 +44,12 @@ pub(crate) fn write_word<C: Clocked>(
 }
 
 /// A clock in which the host reads a word under an index of a map.
-pub(crate) fn read_word<C: Clocked>(sim: &mut C, map: u8, index: u16, word: u8) -> Result<u64, XValue>
+pub(crate) fn read_word<C: Clocked>(
+    sim: &mut C,
+    map: u8,
+    index: u16,
+    word: u8,
+) -> Result<u64, XValue>
     requires map { map < 16 }
     requires word { word < 16 }
     ensures netlist { C.netlist sim.new ≡ C.netlist sim.old }

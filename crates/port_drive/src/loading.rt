@@ -29,7 +29,13 @@ fn first_word(rest: &[u8]) -> u64
 }
 
 // Writes bytes from a word on.
-fn write_bytes<C: Clocked>(sim: &mut C, map: u8, index: u16, first: u8, bytes: &[u8]) -> Result<(), XValue>
+fn write_bytes<C: Clocked>(
+    sim: &mut C,
+    map: u8,
+    index: u16,
+    first: u8,
+    bytes: &[u8],
+) -> Result<(), XValue>
     requires map { map < 16 }
     requires room { first + beat_count (length bytes.now) ≤ 16 }
     ensures netlist { C.netlist sim.new ≡ C.netlist sim.old }
@@ -49,7 +55,13 @@ fn write_bytes<C: Clocked>(sim: &mut C, map: u8, index: u16, first: u8, bytes: &
 }
 
 // Writes an entry into a slot.
-fn write_slot<C: Clocked>(sim: &mut C, map: u8, index: u16, key: &[u8], value: &[u8]) -> Result<(), XValue>
+fn write_slot<C: Clocked>(
+    sim: &mut C,
+    map: u8,
+    index: u16,
+    key: &[u8],
+    value: &[u8],
+) -> Result<(), XValue>
     requires map { map < 16 }
     requires room { 1 + beat_count (length key.now) + beat_count (length value.now) ≤ 16 }
     ensures netlist { C.netlist sim.new ≡ C.netlist sim.old }

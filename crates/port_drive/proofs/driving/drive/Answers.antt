@@ -1,4 +1,4 @@
-use Rattle.std.proofs.Common.{◌≡◌, ◌+◌, ◌-◌, ◌<◌, length, suc, refl, ap, ◌∙◌, arith}
+use Rattle.std.proofs.Common.{◌≡◌, ◌+◌, ◌-◌, ◌<◌, length, suc, refl, ◌∙◌, arith}
 use Rattle.port_drive.specs.Reports.{full_drive}
 use Rattle.port_drive.proofs.DriveLaws.{driven_done, driven_late, driven_stopped, driven_prefix, driven_on, number_is}
 use Rattle.port_drive.proofs.driving.drive.Goals as goal
