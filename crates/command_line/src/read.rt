@@ -10,7 +10,7 @@ use crate::command::Command;
 use crate::error::WordsError;
 use crate::parse::parse;
 use crate::values::{
-    number_if_there, read_choice, read_files, read_ifindex, read_text, required, required_number,
+    possible_number, read_choice, read_files, read_ifindex, read_text, required, required_number,
 };
 use crate::words::Words;
 use clap::ArgMatches;
@@ -133,7 +133,7 @@ fn read_sim<'a>(name: &str, matches: &ArgMatches<'a>) -> Option<Command<'a>>
     let choice = read_choice(matches)?;
     let ifindex = read_ifindex(matches)?;
     let clocks = required_number(matches, "clocks", 0, CLOCK_LIMIT)?;
-    let events = number_if_there(matches, "events", 0, u32::MAX)?;
+    let events = possible_number(matches, "events", 0, u32::MAX)?;
     Some(Command::Sim {
         files,
         verilog,

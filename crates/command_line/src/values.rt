@@ -65,7 +65,7 @@ fn optional_number(
 }
 
 // The same, and where the option is not there no number.
-pub(crate) fn number_if_there(
+pub(crate) fn possible_number(
     matches: &ArgMatches<'_>,
     option: &str,
     low: u32,

@@ -241,9 +241,9 @@ shown_over d maps ifindex packets clocks =
     of_end (AreOver maps.decls) d maps.decls (λ ms. refl) (λ w. tt) (λ answers frames. tt) maps ifindex packets clocks (first_stop d (first_stored d) (load maps)) refl
 
 -- a status of its own
-pub sim_ends : (names : Names) (verilog : List ℕ) (chosen : Chosen) (n clocks : ℕ) (d : Netlist) (maps : MapState) (ifindex : ℕ) (packets : List Timed) → EndsItself (AskSim names verilog chosen n clocks) (ended (given_up (simulation d maps ifindex packets clocks).end))
-sim_ends names verilog chosen n clocks d maps ifindex packets =
-    let P : Result MapState CommandError → Type 0 = λ r. EndsItself (AskSim names verilog chosen n clocks) (ended (given_up r)) in
+pub sim_ends : (names : Names) (verilog : List ℕ) (chosen : Chosen) (n clocks : ℕ) (events : Option ℕ) (d : Netlist) (maps : MapState) (ifindex : ℕ) (packets : List Timed) → EndsItself (AskSim names verilog chosen n clocks events) (ended (given_up (simulation d maps ifindex packets clocks).end))
+sim_ends names verilog chosen n clocks events d maps ifindex packets =
+    let P : Result MapState CommandError → Type 0 = λ r. EndsItself (AskSim names verilog chosen n clocks events) (ended (given_up r)) in
     of_end P d maps.decls (λ ms. inl refl) (λ w. inr (inl refl)) (λ answers frames. inr (inr refl)) maps ifindex packets clocks (first_stop d (first_stored d) (load maps)) refl
 
 -- what is written of it

@@ -69,9 +69,12 @@ fn run_command<S: Shelf>(
             choice,
             ifindex,
             clocks,
+            events,
         } => without_lines(
             alloc,
-            sim_files(alloc, shelf, files, verilog, *choice, *ifindex, *clocks),
+            sim_files(
+                alloc, shelf, files, verilog, *choice, *ifindex, *clocks, *events,
+            ),
         ),
         Command::Ref {
             files,
