@@ -10,6 +10,7 @@ ghost use Rattle.ehdl_top.specs.Simulation.{dumped, driven, simulation};
 ghost use Rattle.ehdl_top.specs.Steps.{StopsInside, error_of, IsGiven};
 
 use crate::error::{CommandError, NetName};
+use crate::events::open_events;
 use beat_core::Timed;
 use clock_sim::{Clocked, Sim};
 use net_core::design::Design;
@@ -129,7 +130,7 @@ fn simulate_from_first<C: Clocked>(
 }
 
 /// Simulates a design over packets: these maps are loaded, the packets are driven through in at most so many clocks, and the maps are
-/// dumped.
+/// dumped. Where a seed is given, a clock is settled by events, in the order of its draws, which gives the same.
 pub(crate) fn simulate_design(
     alloc: Global,
     design: Design,
@@ -137,14 +138,23 @@ pub(crate) fn simulate_design(
     packets: &[Timed],
     ifindex: u32,
     clocks: u64,
+    events: Option<u32>,
 ) -> Result<Driven, AllocError>
     requires formed { IsWellFormed (netlist_of design) }
     requires limits { All IsWithinLimits maps.now.decls }
     requires few { length maps.now.decls ≤ 16 }
     ensures { IfOk result (IsGiven (simulation (netlist_of design) maps.now ifindex packets.now clocks)) }
 {
-    let mut sim = Sim::open(alloc, design)?;
-    simulate_from_first(alloc, &mut sim, maps, packets, ifindex, clocks)
+    match events {
+        None => {
+            let mut sim = Sim::open(alloc, design)?;
+            simulate_from_first(alloc, &mut sim, maps, packets, ifindex, clocks)
+        }
+        Some(seed) => {
+            let mut sim = open_events(alloc, design, seed)?;
+            simulate_from_first(alloc, &mut sim, maps, packets, ifindex, clocks)
+        }
+    }
 }
 
 /// The clocks that these packets may take: `n * (S + 2 * B + Q + 8)` for n frames of at most B beats, S the last stage and Q the record sites.
