@@ -1,0 +1,40 @@
+-- The value of a right side depends on the nets alone that it reads.
+use Rattle.std.specs.Prelude.{◌==◌, if◌then◌else◌}
+use Rattle.std.proofs.Common.{◌≡◌, ℕ, Bool, true, false, refl, ap, ◌∙◌}
+use Rattle.std.proofs.lemmas.Bool.{and_parts}
+use Rattle.net_core.specs.declared.tree.Word.{Word}
+use Rattle.net_core.specs.Nets.{Tree, TConst, TRead, TBit, TPartSelect, TMemoryWord, TUnary, TBinary, TConditional, TConcatenation, Trees, TLast, TMore, RightTree, RPlain, RQuotient, RRemainder}
+use Rattle.net_core.specs.Value.{Env, part_select, apply_unary, value, concatenated_parts, right_value, stops}
+use Rattle.design_rules.specs.FormedScope.{Sorts, reads_known, parts_known, right_known}
+use Rattle.event_sim.specs.Events.{event_value}
+
+module _ {N : Type 0} (s : Sorts N) (v w : Env N) (words : (m : N) (a : ℕ) → v.memory_word m a ≡ w.memory_word m a) (nets : (n : N) → s.value n ≡ true → v.net n ≡ w.net n) where
+  mutual
+    pub same_value : (e : Tree N) → reads_known s e ≡ true → value v e ≡ value w e
+    same_value (TConst x) h = refl
+    same_value (TRead n) h = nets n h
+    same_value (TBit n i) h = ap (λ x. part_select x i i) (nets n h)
+    same_value (TPartSelect n hi lo) h = ap (λ x. part_select x hi lo) (nets n h)
+    same_value (TMemoryWord m i) h = words m (value v i).value ∙ ap (λ (x : Word). w.memory_word m x.value) (same_value i (and_parts _ _ h).1)
+    same_value (TUnary p a) h = ap (apply_unary p) (same_value a h)
+    same_value (TBinary op a b) h = let g = and_parts _ _ h in let x = same_value a g.0 in let y = same_value b g.1 in rw (x, y)
+    same_value (TConditional c a b) h = let g = and_parts _ _ h in let f = and_parts _ _ g.1 in let x = same_value c g.0 in let y = same_value a f.0 in let z = same_value b f.1 in rw (x, y, z)
+    same_value (TConcatenation ps) h = same_parts ps h
+
+    same_parts : (ps : Trees N) → parts_known s ps ≡ true → concatenated_parts v ps ≡ concatenated_parts w ps
+    same_parts (TLast a) h = same_value a h
+    same_parts (TMore a ps) h = let g = and_parts _ _ h in let x = same_value a g.0 in let y = same_parts ps g.1 in rw (x, y)
+
+  pub same_event : (r : RightTree N) → right_known s r ≡ true → event_value v r ≡ event_value w r
+  same_event (RPlain e) h = same_value e h
+  same_event (RQuotient a b) h = let g = and_parts _ _ h in let x = nets a g.0 in let y = nets b g.1 in rw (x, y)
+  same_event (RRemainder a b) h = let g = and_parts _ _ h in let x = nets a g.0 in let y = nets b g.1 in rw (x, y)
+
+  pub same_stops : (r : RightTree N) → right_known s r ≡ true → stops v r ≡ stops w r
+  same_stops (RPlain e) h = refl
+  same_stops (RQuotient a b) h = let y = nets b (and_parts _ _ h).1 in rw y
+  same_stops (RRemainder a b) h = let y = nets b (and_parts _ _ h).1 in rw y
+
+-- a right side that does not stop
+pub event_is_right : {N : Type 0} (v : Env N) (r : RightTree N) → stops v r ≡ false → event_value v r ≡ right_value v r
+event_is_right v r h = rw h

@@ -1,0 +1,58 @@
+//! Orders of nets and of always blocks.
+
+ghost use Rattle.std.specs.Prelude.{◌≡◌, ◌≤◌, ◌^◌, ◌↔◌, length, IfOk, IsTrue, Contains, slice_index};
+ghost use Rattle.event_sim.specs.Orders.{IsOrder, IsByDraws};
+
+use std::alloc::{AllocError, Global};
+
+/// Whether a list names each number below `count` once.
+pub fn is_order(order: &[u32], count: usize) -> bool
+    ensures { IsTrue result ↔ IsOrder count order.now }
+{
+    if order.len() != count {
+        return false;
+    }
+    for number in 0..count {
+        if !contains(order, number) {
+            return false;
+        }
+    }
+    true
+}
+
+fn contains(order: &[u32], number: usize) -> bool
+    ensures { IsTrue result ↔ Contains order.now number }
+{
+    for named in order {
+        if *named as usize == number {
+            return true;
+        }
+    }
+    false
+}
+
+/// The places of draws, by draw and then by place.
+pub fn order_of(alloc: Global, draws: &[u32]) -> Result<Vec<u32>, AllocError>
+    ensures order { IfOk result (λ order. IsOrder (length draws.now) order.items) }
+    ensures sorted { IfOk result (λ order. IsByDraws draws.now order.items) }
+{
+    let mut places = Vec::new(alloc);
+    for at in 0..draws.len() {
+        let Ok(place) = u32::try_from(at) else {
+            return Err(AllocError);
+        };
+        places.push(place)?;
+    }
+    places.sort_by_key(|place| (draw_at(draws, *place), *place))?;
+    Ok(places)
+}
+
+// The draw at a place, or 0.
+fn draw_at(draws: &[u32], place: u32) -> u32
+    ensures { result ≡ slice_index draws.now place }
+{
+    match draws.get(place as usize) {
+        Some(draw) => *draw,
+        None => 0,
+    }
+}
