@@ -5,13 +5,13 @@ use Rattle.std.proofs.lemmas.List.{length-set}
 use Rattle.net_core.specs.declared.tree.Word.{Word}
 use Rattle.net_core.specs.Nets.{Netlist}
 use Rattle.net_core.specs.Value.{number_of}
-use Rattle.net_core.specs.Clock.{Stored, stopping}
+use Rattle.net_core.specs.Clock.{Stored, env, rights, stopped_at, stopping}
 use Rattle.design_rules.specs.Formed.{IsWellFormed}
 use Rattle.event_sim.specs.Events.{State, value_at, net_count, is_active, fired, passed, ran, events_in, swept, IsQuiet, Happen}
 use Rattle.event_sim.specs.Ends.{settled, IsSettled, Ends}
 use Rattle.event_sim.specs.Orders.{IsOrder}
 use Rattle.event_sim.proofs.Ending.{active, fire, pass, passes, turns, Happens, Quiets, happens_length, few, turns_few, pass_length, passes_gain, none_fires, none_active}
-use Rattle.event_sim.proofs.Settling.{rights_local, quiet_settles, clock_settles}
+use Rattle.event_sim.proofs.Settling.{rights_local, quiet_settles, clock_settles, stop_is}
 
 -- a state of a well-formed design, with a word for each net
 pub record IsFormed (s : State) : Type 0 where
@@ -137,3 +137,37 @@ swept_settles s t f0 order k e quiet =
     let values = (quiet_settled (swept s order k) (swept_formed s f0 order k) (subst IsQuiet e quiet)).values in
     let nets : sweeps s.netlist s.ins s.stored s.nets order k ≡ settled s = subst (λ (x : State). x.nets ≡ settled x) is values in
     e ∙ is ∙ ap (λ ws. at s.netlist s.ins s.stored ws) nets
+
+-- ---- how a settling stops
+pub record Stops (s t : State) (order : List ℕ) (k : ℕ) : Type 0 where
+  pub settles : t ≡ record s { nets = settled s }
+  pub quiet : IsQuiet t
+  pub settled : IsSettled t
+  pub sweeps : t ≡ swept s order k
+
+stopped : (s t : State) → IsFormed s → (order : List ℕ) (k : ℕ) → t ≡ swept s order k → IsQuiet t → Stops s t order k
+stopped s t f0 order k e quiet = record {
+  settles = swept_settles s t f0 order k e quiet;
+  quiet = quiet;
+  settled = quiet_settled t (subst IsFormed (sym e) (swept_formed s f0 order k)) quiet;
+  sweeps = e;
+}
+
+-- at a sweep in which none fires
+pub stopped_idle : (s m t : State) → IsFormed s → (order : List ℕ) → IsOrder (net_count s.netlist) order → (k : ℕ) → m ≡ swept s order k → events_in m order ≡ 0 → t ≡ ran m order → Stops s t order k
+stopped_idle s m t f0 order is k e none done =
+    let formed : IsFormed m = subst IsFormed (sym e) (swept_formed s f0 order k) in
+    let same : t ≡ m = done ∙ idle_same m formed order none in
+    let netlist : s.netlist ≡ m.netlist = sym (ap (λ (x : State). x.netlist) e ∙ swept_netlist s order k) in
+    let quiet = idle_quiet m formed order (subst (λ (d : Netlist). IsOrder (net_count d) order) netlist is) none in
+    stopped s t f0 order k (same ∙ e) (subst IsQuiet (sym same) quiet)
+
+-- after as many sweeps as there are nets
+pub stopped_all : (s t : State) → IsFormed s → (order : List ℕ) → IsOrder (net_count s.netlist) order → (k : ℕ) → k ≡ net_count s.netlist → t ≡ swept s order k → Stops s t order k
+stopped_all s t f0 order is k all e =
+    stopped s t f0 order k e (subst IsQuiet (sym (e ∙ ap (swept s order) all)) (swept_quiet s f0 order is))
+
+-- the first divisor that is zero is that of the clock
+pub quiet_stop : (s : State) → IsFormed s → IsQuiet s → stopped_at (env s.ins s.stored s.nets) 0 (rights s.netlist.wires) ≡ stopping s.netlist s.ins s.stored
+quiet_stop s f0 quiet =
+    ap (λ ws. stopped_at (env s.ins s.stored ws) 0 (rights s.netlist.wires)) (quiet_settled s f0 quiet).values ∙ stop_is s.netlist s.ins s.stored f0.formed

@@ -7,3 +7,4 @@ pub mod Operands
 pub mod Reading
 pub mod States
 pub mod Choices
+pub mod Walks

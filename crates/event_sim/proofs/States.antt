@@ -1,27 +1,34 @@
 -- What a well-formed design can have between two events: all is readable and fits, and an event keeps it so.
 use Rattle.std.specs.Prelude.{nat_le, ◌==◌, nat_lt, if◌then◌else◌, slice_set}
 use Rattle.std.proofs.Common.{◌≡◌, ℕ, zero, suc, ◌+◌, ◌-◌, ◌^◌, ◌<◌, ◌≤◌, Bool, true, false, ◌&&◌, List, [], ◌∷◌, ◌++◌, length, map, take, get_or, refl, sym, ap, ◌∙◌, subst, arith, inl, inr}
-use Rattle.std.proofs.lemmas.Bool.{and_parts, eqb-true, leb-true, cases_lt, cases_eq}
-use Rattle.std.proofs.lemmas.List.{get_or_append_left, get_or-append_right, get_or_default, get_or-map, get_or-take, get_or-set_same, get_or-set_other, length-map, length-append, length-set, length-take, take_all}
+use Rattle.std.proofs.lemmas.Bool.{and_parts, eqb-true, leb-true, ltb-true, ltb-false, false≢true, cases_lt, cases_eq}
+use Rattle.std.proofs.lemmas.List.{get_or_append_left, get_or-append_right, get_or_default, get_or_past, get_or-map, get_or-take, get_or-set_same, get_or-set_other, length-map, length-append, length-set, length-take, take_all}
 use Rattle.std.proofs.lemmas.Nat.{pow_pos}
-use Rattle.net_core.specs.declared.ports.TheConstants.{PORT_COUNT}
+use Rattle.net_core.specs.declared.ports.TheConstants.{PORT_COUNT, SILENT}
+use Rattle.net_core.specs.declared.ports.Inputs.{Inputs}
 use Rattle.net_core.specs.declared.tree.Word.{Word}
 use Rattle.net_core.specs.declared.tree.Net.{Net}
 use Rattle.net_core.specs.declared.tree.Net.TheVariants as net
 use Rattle.net_core.specs.Nets.{StatementTree, SBlock, SEnd, RightTree, RPlain, WireTree, AssignTree, Netlist}
 use Rattle.net_core.specs.Value.{Env, word, nothing, value, right_value, stops}
-use Rattle.net_core.specs.Clock.{Stored, env, net_value, memory_word_value}
-use Rattle.net_core.specs.Ports.{port_list}
+use Rattle.net_core.specs.declared.design.Port as port
+use Rattle.net_core.specs.Clock.{Stored, first_stored, env, env_of, net_value, memory_word_value}
+use Rattle.net_core.specs.Names.{name_place}
+use Rattle.net_core.specs.Ports.{port_list, words_of, AreInputs, FitInputs}
 use Rattle.net_core.specs.Width.{Scope, port_width, output_width, register_widths, memory_widths, memory_width, net_width, scope, scope_before, full_scope, wire_widths, same, width_of, right_width}
 use Rattle.net_core.specs.Suits.{IsOfWidth, Suits}
 use Rattle.net_core.proofs.WireLaws.{width_at, length_widths}
 use Rattle.net_core.proofs.WidthLaws.{value_fits, right_fits}
-use Rattle.design_rules.specs.Formed.{wire_fits}
-use Rattle.design_rules.proofs.FormedItemLaws.{wire_kept, assign_kept, block_kept}
-use Rattle.design_rules.proofs.FormedWidthLaws.{ports_listed, same_some}
+use Rattle.design_rules.specs.FormedScope.{is_output}
+use Rattle.design_rules.specs.Formed.{IsWellFormed}
+use Rattle.design_rules.proofs.FormedItemLaws.{wire_kept, assign_kept, block_kept, last_kept}
+use Rattle.design_rules.proofs.FormedWidthLaws.{typed, ports_listed, same_some}
 use Rattle.list_laws.proofs.PlaceLaws.{some_below}
 use Rattle.clock_sim.specs.Ready.{ArePorts, IsStored}
-use Rattle.event_sim.specs.Events.{State, right_sides, net_count, no_right, no_assign, event_value, value_at, right_side, fired}
+use Rattle.clock_sim.proofs.FitLemmas.{ports_fit}
+use Rattle.clock_sim.proofs.StoredLemmas.{first_is_stored}
+use Rattle.clock_sim.proofs.ClockLemmas.{all_suit}
+use Rattle.event_sim.specs.Events.{State, right_sides, net_count, no_right, no_assign, net_named, event_value, value_at, right_side, fired}
 use Rattle.event_sim.specs.Readable.{IsReadable, IsRight, IsStatement, AreBlocks}
 use Rattle.event_sim.specs.Inside.{assigned_width, net_widths, IsState}
 use Rattle.event_sim.proofs.Settling.{no_wire, wire_right, assign_right}
@@ -53,6 +60,12 @@ event_fits v r w f = by_test (stops v r)
     by_test : (b : Bool) → IsOfWidth w (if b then word (right_value v r).width 0 else right_value v r)
     by_test true = record { width = f.width; fits = record { some = f.fits.some; most = f.fits.most; small = pow_pos (right_value v r).width } }
     by_test false = f
+
+output_there : (ports : List port.Port) (k : ℕ) → is_output ports k ≡ true → k < length ports
+output_there ports k h = elim (cases_lt k (length ports)) [
+  | inl below ↦ below
+  | inr past ↦ let e = ap (λ (p : port.Port). p.output) (get_or_past ports k (record { output = false; width = 0 }) past) in absurd (false≢true (sym e ∙ h))
+]
 
 module _ (s : State) (is : IsState s) where
   pub formed_of : IsFormed s
@@ -176,3 +189,80 @@ module _ (s : State) (is : IsState s) where
 
   pub with_stored : (t : Stored) → IsStored s.netlist.declared t → IsState (record s { stored = t })
   with_stored t stored = record { formed = is.formed; room = is.room; ports = is.ports; stored = stored; count = is.count; fit = is.fit; few = is.few }
+
+  -- ---- names
+  pub named : (n : ℕ) → n < net_count s.netlist → name_place s.netlist (net_named s.netlist n) < length s.netlist.names
+  named n l = by_test (nat_lt n (length s.netlist.wires)) refl
+    where
+      count : length s.netlist.names ≡ length s.netlist.ports + length s.netlist.declared + length s.netlist.wires
+      count = (last_kept s.netlist is.formed).names
+
+      by_test : (b : Bool) → nat_lt n (length s.netlist.wires) ≡ b → name_place s.netlist (if b then net.Wire n else net.Port (get_or s.netlist.assigns (n - length s.netlist.wires) no_assign).port) < length s.netlist.names
+      by_test true e = let below = ltb-true n (length s.netlist.wires) e in omega (arith, count, below)
+      by_test false e =
+          let from = ltb-false n (length s.netlist.wires) e in
+          let k = n - length s.netlist.wires in
+          let inside : k < length s.netlist.assigns = omega (arith, l, from) in
+          let a = get_or s.netlist.assigns k no_assign in
+          let there = output_there s.netlist.ports a.port (assign_kept s.netlist is.formed k a inside (get_or_default s.netlist.assigns k no_assign a inside)).output in
+          omega (arith, count, there)
+
+-- ---- inputs
+pub words_counted : (i : Inputs) → length (words_of i) ≡ PORT_COUNT
+words_counted i = refl
+
+pub set_state : (s : State) → IsState s → (i : Inputs) → AreInputs i → FitInputs i → (ws : List Word) → ws ≡ words_of i → IsState (record s { ins = ws })
+set_state s is i are fit ws e = subst (λ l. IsState (record s { ins = l })) (sym e) (with_inputs s is (words_of i) (words_counted i) (ports_fit i are fit))
+
+pub silent_inputs : AreInputs SILENT
+silent_inputs = record { bytes = omega arith; map = omega arith; word = omega arith }
+
+-- ---- the first state
+pub first_state : (d : Netlist) → IsWellFormed d → net_count d ≤ 2 ^ 32 → (ins nets : List Word) (t : Stored) → ArePorts ins → length ins ≡ PORT_COUNT → IsStored d.declared t → nets ≡ map (λ w. word w 0) (net_widths d) → IsState (record { netlist = d; ins = ins; stored = t; nets = nets })
+first_state d formed few ins nets t ports room stored zeros = record {
+  formed = formed;
+  room = room;
+  ports = ports;
+  stored = stored;
+  count = ap length zeros ∙ length-map (net_widths d) (λ w. word w 0) ∙ widths_counted d;
+  fit = λ n l.
+      let inside : n < length (net_widths d) = omega (arith, l, widths_counted d) in
+      let at : get_or nets n nothing ≡ word (get_or (net_widths d) n 0) 0 = ap (λ ws. get_or ws n nothing) zeros ∙ get_or-map (λ w. word w 0) (net_widths d) n 0 nothing inside in
+      subst (λ x. IsOfWidth (get_or (net_widths d) n 0) x) (sym at) (zero_fits (get_or (net_widths d) n 0) (width_fits n l));
+  few = few;
+}
+  where
+    zero_fits : (w : ℕ) → (0 < w) × (w ≤ 64) → IsOfWidth w (word w 0)
+    zero_fits w f = record { width = refl; fits = record { some = f.0; most = f.1; small = pow_pos w } }
+
+    wire_fits_at : (n : ℕ) → n < length d.wires → (0 < get_or (net_widths d) n 0) × (get_or (net_widths d) n 0 ≤ 64)
+    wire_fits_at n l =
+        let w = get_or d.wires n no_wire in
+        let kept = (wire_kept d formed n w l (get_or_default d.wires n no_wire w l)).fits in
+        let p = and_parts (same w.width (right_width (scope_before d n) w.right)) (nat_le w.width 64) kept in
+        let some = (same_some w.width (right_width (scope_before d n) w.right) p.0).0 in
+        let most = leb-true w.width 64 p.1 in
+        let is = wire_width d n no_wire l in
+        (omega (arith, some, is), omega (arith, most, is))
+
+    assign_fits_at : (n : ℕ) → length d.wires ≤ n → n < net_count d → (0 < get_or (net_widths d) n 0) × (get_or (net_widths d) n 0 ≤ 64)
+    assign_fits_at n l m =
+        let k = n - length d.wires in
+        let inside : k < length d.assigns = omega (arith, l, m) in
+        let a = get_or d.assigns k no_assign in
+        let kept = (assign_kept d formed k a inside (get_or_default d.assigns k no_assign a inside)).fits in
+        let some = same_some (assigned_width d a) (width_of (full_scope d) a.value) kept in
+        let typed_d = typed d formed in
+        let x = value_fits (full_scope d) (env_of d ins t) (all_suit d typed_d.ports ins ports t stored typed_d.wires) a.value some.1 in
+        let width = x.width in
+        let most = x.fits.most in
+        let sides = sides_same (assigned_width d a) (width_of (full_scope d) a.value) kept in
+        let is = assign_width d n no_assign l m in
+        (omega (arith, some.0, is), omega (arith, most, width, sides, is))
+
+    width_fits : (n : ℕ) → n < net_count d → (0 < get_or (net_widths d) n 0) × (get_or (net_widths d) n 0 ≤ 64)
+    width_fits n l = elim (cases_lt n (length d.wires)) [ | inl below ↦ wire_fits_at n below | inr from ↦ assign_fits_at n from l ]
+
+pub opened : (d : Netlist) → IsWellFormed d → net_count d ≤ 2 ^ 32 → (ins nets : List Word) (t : Stored) → FitInputs SILENT → ins ≡ words_of SILENT → t ≡ first_stored d → nets ≡ map (λ w. word w 0) (net_widths d) → IsState (record { netlist = d; ins = ins; stored = t; nets = nets })
+opened d formed few ins nets t fit inputs held zeros =
+    first_state d formed few ins nets t (subst ArePorts (sym inputs) (ports_fit SILENT silent_inputs fit)) (ap length inputs ∙ words_counted SILENT) (subst (IsStored d.declared) (sym held) (first_is_stored d.declared (typed d formed).declared)) zeros

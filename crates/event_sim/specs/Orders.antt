@@ -1,7 +1,6 @@
 -- Orders of nets and of always blocks.
-use Rattle.std.specs.Prelude.{◌≡◌, ℕ, ◌<◌, List, length, map, Contains, IsSortedByKey}
-use Rattle.std.specs.Ordering.{nat_cmp, ordering_then}
-use Rattle.std.specs.declared.cmp.Ordering.{Ordering}
+use Rattle.std.specs.Prelude.{◌≡◌, ℕ, ◌+◌, ◌*◌, ◌<◌, List, length, map, Contains}
+use Rattle.std.specs.List.Sorted.{IsNonDecreasingBy}
 use Rattle.std.proofs.Common.{get_or}
 use Rattle.net_core.specs.declared.tree.Word.{Word}
 use Rattle.net_core.specs.declared.tree.Net.{Net}
@@ -21,12 +20,10 @@ blocks_in order blocks = map (λ k. get_or blocks k (SBlock SEnd)) order
 abbrev pub ClocksInAnyOrder : Netlist → List Word → Stored → Type 0
 ClocksInAnyOrder d ins s = (order : List ℕ) → IsOrder (length d.always) order → edge (env_of d ins s) (blocks_in order d.always) s ≡ after d ins s
 
--- each place comes after those of smaller draws, and after those before it of the same draw
-abbrev pub by_draw : List ℕ → ℕ → ℕ × ℕ
-by_draw draws place = (get_or draws place 0, place)
+-- the draw of a place, and then the place
+abbrev pub rank : List ℕ → ℕ → ℕ
+rank draws place = get_or draws place 0 * 4294967296 + place
 
-abbrev pub by_both : (a b : ℕ × ℕ) → Ordering
-by_both a b = ordering_then (nat_cmp a.0 b.0) (nat_cmp a.1 b.1)
-
+-- places by their draws, and those of one draw as they stand
 abbrev pub IsByDraws : List ℕ → List ℕ → Type 0
-IsByDraws draws order = IsSortedByKey (by_draw draws) by_both order
+IsByDraws draws order = IsNonDecreasingBy (rank draws) order

@@ -13,11 +13,11 @@ ghost use Rattle.event_sim.specs.Orders.{IsOrder, ClocksInAnyOrder};
 ghost use Rattle.event_sim.specs.Refusals.{MayEdge, IsRefused};
 ghost use Rattle.event_sim.specs.Inside.{net_widths};
 
-use crate::execute::execute_blocks;
+use crate::edge::step;
 use crate::held::Held;
 use crate::names::place_of;
 use crate::nets::{first_active, is_active, net_count, right_side, same_word};
-use crate::outputs::{shown, write_inputs};
+use crate::outputs::write_inputs;
 use crate::refusal::{EdgeError, refusal};
 use crate::values::{NOTHING, Values};
 use net_core::design::Design;
@@ -146,7 +146,10 @@ impl Events {
         ensures quiet { IsTrue result ↔ IsQuiet self.now }
         ensures settled { IsTrue result → IsSettled self.now }
     {
-        first_active(&self.design, &self.values).is_none()
+        match first_active(&self.design, &self.values) {
+            None => true,
+            Some(_) => false,
+        }
     }
 
     /// Lets an active net take the value of its right side.
@@ -185,6 +188,7 @@ impl Events {
         ensures fired { result ≡ events_in self.old picks.now }
         ensures few { result < 2 ^ net_count self.old.netlist }
     {
+        let _ = &self.design;
         let mut fired = 0;
         for pick in picks {
             fired += self.pass(*pick);
@@ -202,7 +206,7 @@ impl Events {
         ensures sweeps { self.new ≡ swept self.old order.now result }
         ensures few { result ≤ net_count self.old.netlist }
     {
-        let count = self.net_count();
+        let count = net_count(&self.design);
         for sweeps in 0..count {
             if self.run(order) == 0 {
                 return sweeps;
@@ -221,13 +225,12 @@ impl Events {
         ensures unchanged { OnErr result (self.new ≡ self.old) }
         ensures any_order { ClocksInAnyOrder self.old.netlist self.old.ins self.old.stored }
     {
-        if let Some(error) = refusal(&self.design, &self.values, blocks) {
-            return Err(error);
+        match refusal(&self.design, &self.values, blocks) {
+            Some(error) => Err(error),
+            None => {
+                let outputs = step(&self.design, &mut self.values, &mut self.next, blocks);
+                Ok(outputs)
+            }
         }
-        let words = &self.values.nets[self.design.wires.len()..];
-        let outputs = shown(&self.design.assigns, words);
-        execute_blocks(blocks, &self.design.always, &self.values, &mut self.next);
-        self.values.held.copy_from(&self.next);
-        Ok(outputs)
     }
 }

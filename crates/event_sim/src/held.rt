@@ -1,6 +1,6 @@
 //! What registers and memories store.
 
-ghost use Rattle.std.specs.Prelude.{◌≡◌, [], slice_index_or, slice_set, IfOk, IsTrue};
+ghost use Rattle.std.specs.Prelude.{◌≡◌, ℕ, ◌<◌, [], length, slice_index_or, slice_set, IfOk, IsTrue};
 ghost use Rattle.net_core.specs.Value.{nothing};
 ghost use Rattle.net_core.specs.Clock.{first_words, first_memories};
 ghost use Rattle.net_core.specs.Width.{declared_typed};
@@ -29,6 +29,17 @@ impl Model for Held {
     ghost coded = { coded_stored };
 
     ghost view = { λ h. record { registers = h.registers.items; memories = h.memories.items } };
+}
+
+// Takes the words of as many other memories, each of which has as many words.
+fn copy_memories(memories: &mut [MemoryWords], others: &[MemoryWords])
+    requires count { length memories.old ≡ length others.now }
+    requires each { (m : ℕ) → m < length memories.old → length (slice_index_or memories.old m []) ≡ length (slice_index_or others.now m []) }
+    ensures { memories.new ≡ others.now }
+{
+    for at in 0..memories.len() {
+        memories[at].copy_from(&others[at]);
+    }
 }
 
 impl Held {
@@ -94,11 +105,7 @@ impl Held {
         requires { HaveOneShape self.old other.now }
         ensures { self.new ≡ other.now }
     {
-        for register in 0..self.registers.len() {
-            self.registers[register] = other.registers[register];
-        }
-        for memory in 0..self.memories.len() {
-            self.memories[memory].copy_from(&other.memories[memory]);
-        }
+        self.registers.copy_from_slice(&other.registers);
+        copy_memories(&mut self.memories, &other.memories);
     }
 }

@@ -3,6 +3,7 @@
 #![tactic(auto)]
 
 mod clocked;
+mod edge;
 mod evaluate;
 mod events;
 mod execute;

@@ -57,8 +57,6 @@ impl MemoryWords {
         requires { length self.old ≡ length other.now }
         ensures { self.new ≡ other.now }
     {
-        for at in 0..self.words.len() {
-            self.words[at] = other.words[at];
-        }
+        self.words.copy_from_slice(&other.words);
     }
 }

@@ -1,10 +1,10 @@
 //! The nets of a design: what their right sides say, and which are active.
 
 ghost use Rattle.std.specs.Prelude.{◌≡◌, ℕ, ◌<◌, ◌==◌, false, MatchOption};
-ghost use Rattle.net_core.specs.Clock.{rights, stopped_at};
+ghost use Rattle.net_core.specs.Clock.{stopping};
 ghost use Rattle.net_core.specs.View.{netlist_of};
 ghost use Rattle.event_sim.specs.Events.{right_side, same_word, is_active, net_count, IsQuiet};
-ghost use Rattle.event_sim.specs.Views.{env_in, state_of};
+ghost use Rattle.event_sim.specs.Views.{state_of};
 ghost use Rattle.event_sim.specs.Inside.{IsState};
 ghost use Rattle.event_sim.specs.Refusals.{IsFirstActive};
 
@@ -30,11 +30,13 @@ pub fn right_side(design: &Design, values: &Values, net: usize) -> Word
 {
     let wires = design.wires.as_slice();
     if net < wires.len() {
-        right_value_of(&wires[net].right, values)
-    } else {
-        let assigns = design.assigns.as_slice();
-        value_of(&assigns[net - wires.len()].value, values)
+        let wire = &wires[net];
+        return right_value_of(&wire.right, values);
     }
+    let assigns = design.assigns.as_slice();
+    let place = net - wires.len();
+    let assign = &assigns[place];
+    value_of(&assign.value, values)
 }
 
 /// Whether two words are the same.
@@ -66,10 +68,11 @@ pub fn first_active(design: &Design, values: &Values) -> Option<u32>
     None
 }
 
-/// The first wire whose divisor is zero.
+/// The first wire whose divisor is zero, where no net is active: that at which the clock stops.
 pub fn first_stop(design: &Design, values: &Values) -> Option<u32>
-    requires { IsState (state_of design.now values.now) }
-    ensures { result ≡ stopped_at (env_in values.now) 0 (rights (netlist_of design.now).wires) }
+    requires state { IsState (state_of design.now values.now) }
+    requires quiet { IsQuiet (state_of design.now values.now) }
+    ensures { result ≡ stopping (netlist_of design.now) values.now.ports.items values.now.held }
 {
     let wires = design.wires.as_slice();
     for (at, wire) in wires.iter().enumerate() {

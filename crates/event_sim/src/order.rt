@@ -1,7 +1,7 @@
 //! Orders of nets and of always blocks.
 
 ghost use Rattle.std.specs.Prelude.{◌≡◌, ◌≤◌, ◌^◌, ◌↔◌, length, IfOk, IsTrue, Contains, slice_index};
-ghost use Rattle.event_sim.specs.Orders.{IsOrder, IsByDraws};
+ghost use Rattle.event_sim.specs.Orders.{IsOrder, rank, IsByDraws};
 
 use std::alloc::{AllocError, Global};
 
@@ -43,7 +43,7 @@ pub fn order_of(alloc: Global, draws: &[u32]) -> Result<Vec<u32>, AllocError>
         };
         places.push(place)?;
     }
-    places.sort_by_key(|place| (draw_at(draws, *place), *place))?;
+    places.sort_by_key(|place| rank(*place, draws))?;
     Ok(places)
 }
 
@@ -55,4 +55,11 @@ fn draw_at(draws: &[u32], place: u32) -> u32
         Some(draw) => *draw,
         None => 0,
     }
+}
+
+// The draw at a place, and then the place.
+fn rank(place: u32, draws: &[u32]) -> u64
+    ensures { result ≡ rank draws.now place }
+{
+    u64::from(draw_at(draws, place)) * 4294967296 + u64::from(place)
 }

@@ -35,14 +35,14 @@ value_of-returns-then-test-eq0 t c =
     let test = c.value_of-test.ensures ∙ ap (λ e. value (env_in c.args.values.now) (tree_of e)) c.deref-in-Conditional.ensures in
     rw c.in-Conditional.is
     (c.value_of.ensures ∙ ap (λ e. value (env_in c.args.values.now) (tree_of e)) c.deref-then-test-eq0.ensures
-    ∙ second_is _ _ _ (ap (λ (x : Word). x.value) (sym test) ∙ c.if-test-eq0.true))
+    ∙ second_is (value (env_in c.args.values.now) (tree_of c.in-Conditional.c.value)) (value (env_in c.args.values.now) (tree_of c.in-Conditional.a.value)) (value (env_in c.args.values.now) (tree_of c.in-Conditional.b.value)) (ap (λ (x : Word). x.value) (sym test) ∙ c.if-test-eq0.true))
 
 pub value_of-returns-else-test-eq0 : goal.value_of-returns-else-test-eq0
 value_of-returns-else-test-eq0 t c =
     let test = c.value_of-test.ensures ∙ ap (λ e. value (env_in c.args.values.now) (tree_of e)) c.deref-in-Conditional.ensures in
     rw c.in-Conditional.is
     (c.value_of-else-test-eq0.ensures ∙ ap (λ e. value (env_in c.args.values.now) (tree_of e)) c.deref-else-test-eq0.ensures
-    ∙ first_is _ _ _ (λ z. c.if-test-eq0.false (ap (λ (x : Word). x.value) test ∙ z)))
+    ∙ first_is (value (env_in c.args.values.now) (tree_of c.in-Conditional.c.value)) (value (env_in c.args.values.now) (tree_of c.in-Conditional.a.value)) (value (env_in c.args.values.now) (tree_of c.in-Conditional.b.value)) (λ z. c.if-test-eq0.false (ap (λ (x : Word). x.value) test ∙ z)))
 
 pub value_of_parts-concatenated-requires : goal.value_of_parts-concatenated-requires
 value_of_parts-concatenated-requires t c =

@@ -3,8 +3,9 @@ use Rattle.net_core.specs.declared.tree.Net.{Net}
 use Rattle.net_core.specs.declared.tree.Word.{Word}
 use Rattle.net_core.specs.declared.tree.Stmt.TheViews.{sized-Then}
 use Rattle.net_core.specs.declared.tree.Stmts.{size-Stmts}
+use Rattle.net_core.specs.Value.{value}
 use Rattle.net_core.specs.Clock.{done, all_done}
-use Rattle.net_core.specs.View.{statement_of, statements_of}
+use Rattle.net_core.specs.View.{tree_of, statement_of, statements_of}
 use Rattle.event_sim.specs.Views.{env_in}
 use Rattle.event_sim.proofs.Choices.{done_first}
 use Rattle.event_sim.proofs.Reading.{first_statement, more_statements}
@@ -14,7 +15,7 @@ pub execute-returns-else-value_of-eq0 : goal.execute-returns-else-value_of-eq0
 execute-returns-else-value_of-eq0 t c =
     rw c.in-IfElse.is
     (c.execute-else-value_of-eq0.ensures ∙ ap (λ a. done (env_in c.args.values.now) (statement_of a) c.args.next.now) c.deref-else-value_of-eq0.ensures
-    ∙ done_first _ _ _ (λ z. c.if-value_of-eq0.false (ap (λ (x : Word). x.value) c.value_of-in-IfElse.ensures ∙ z)))
+    ∙ done_first (value (env_in c.args.values.now) (tree_of c.in-IfElse.c)) (done (env_in c.args.values.now) (statement_of c.in-IfElse.a.value) c.args.next.now) (done (env_in c.args.values.now) (statement_of c.in-IfElse.b.value) c.args.next.now) (λ z. c.if-value_of-eq0.false (ap (λ (x : Word). x.value) c.value_of-in-IfElse.ensures ∙ z)))
 
 pub execute_all-execute-requires : goal.execute_all-execute-requires
 execute_all-execute-requires t c =
