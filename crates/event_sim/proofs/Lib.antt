@@ -8,3 +8,5 @@ pub mod Reading
 pub mod States
 pub mod Choices
 pub mod Walks
+pub mod Edges
+pub mod Clocking

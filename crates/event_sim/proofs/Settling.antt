@@ -30,7 +30,7 @@ length_rights (w ∷ ws) = ap (λ (n : ℕ). suc n) (length_rights ws)
 pub rights_counted : (d : Netlist) → length (right_sides d) ≡ net_count d
 rights_counted d = omega (arith, length-append (rights d.wires) (assigned_rights d.assigns), length_rights d.wires, length-map d.assigns (λ a. RPlain a.value))
 
-right_in : (ws : List WireTree) (k : ℕ) (w : WireTree) (r : RightTree Net) → k < length ws → get_or (rights ws) k r ≡ (get_or ws k w).right
+pub right_in : (ws : List WireTree) (k : ℕ) (w : WireTree) (r : RightTree Net) → k < length ws → get_or (rights ws) k r ≡ (get_or ws k w).right
 right_in [] k w r l = absurd (omega arith)
 right_in (x ∷ ws) zero w r l = refl
 right_in (x ∷ ws) (suc k) w r l = right_in ws k w r (omega arith)
@@ -72,7 +72,7 @@ reads_before d formed n = elim (cases_lt n (length d.wires)) [
 
 module _ (d : Netlist) (ins : List Word) (s : Stored) where
   -- nets that agree below a number agree on what can be read there
-  nets_agree : (before n : ℕ) (us ws : List Word) → before ≤ n → ((k : ℕ) → k < n → get_or us k nothing ≡ get_or ws k nothing) → (net : Net) → is_value d before net ≡ true → net_value ins s us net ≡ net_value ins s ws net
+  pub nets_agree : (before n : ℕ) (us ws : List Word) → before ≤ n → ((k : ℕ) → k < n → get_or us k nothing ≡ get_or ws k nothing) → (net : Net) → is_value d before net ≡ true → net_value ins s us net ≡ net_value ins s ws net
   nets_agree before n us ws le same (Wire k) h = let l = ltb-true k before h in same k (omega arith)
   nets_agree before n us ws le same (Port k) h = refl
   nets_agree before n us ws le same (Register k) h = refl
@@ -121,7 +121,7 @@ module _ (d : Netlist) (ins : List Word) (s : Stored) where
       let x = event_value (env ins s ws) r in
       front_nets rs (ws ++ x ∷ []) k (omega (arith, l, length_push ws x)) ∙ get_or_append_left ws (x ∷ []) nothing k l
 
-  front_wires : (rest : List WireTree) (ws : List Word) (k : ℕ) → k < length ws → get_or (with_wires ins s ws rest) k nothing ≡ get_or ws k nothing
+  pub front_wires : (rest : List WireTree) (ws : List Word) (k : ℕ) → k < length ws → get_or (with_wires ins s ws rest) k nothing ≡ get_or ws k nothing
   front_wires [] ws k l = refl
   front_wires (w ∷ rest) ws k l =
       let x = right_value (env ins s ws) w.right in

@@ -3,19 +3,21 @@ use Rattle.std.specs.Prelude.{◌==◌, if◌then◌else◌, Contains, IsPermuta
 use Rattle.std.specs.List.{range_with_len}
 use Rattle.std.proofs.Common.{◌≡◌, ℕ, zero, suc, ◌+◌, ◌<◌, Bool, true, false, Option, Some, None, List, [], ◌∷◌, ◌++◌, length, map, drop, get_or, refl, sym, ap, ◌∙◌, subst, arith, add-one}
 use Rattle.std.proofs.lemmas.Bool.{cond-true, cond-false, eq-eqb, ne_eqb}
-use Rattle.std.proofs.lemmas.List.{drop_more, drop_all, get_or-map, length-map}
-use Rattle.std.proofs.lemmas.List.FromFn.{length-range_with_len, get_or-range_with_len}
+use Rattle.std.proofs.lemmas.List.{drop_more, drop_all, get_or-map, length-map, map-id}
+use Rattle.std.proofs.lemmas.List.FromFn.{length-range_with_len, get_or-range_with_len, map-range_with_len_more}
 use Rattle.std.proofs.lemmas.List.Sorted.{length_permutation, Contains-permutation}
 use Rattle.net_core.specs.declared.design.Design.{Design}
 use Rattle.net_core.specs.declared.design.Wire.{Wire}
 use Rattle.net_core.specs.declared.design.Assign.{Assign}
 use Rattle.net_core.specs.declared.design.Port.{Port}
+use Rattle.net_core.specs.declared.ports.Inputs.{Inputs}
+use Rattle.net_core.specs.declared.ports.TheConstants.{PORT_COUNT}
 use Rattle.net_core.specs.declared.tree.Word.{Word}
 use Rattle.net_core.specs.declared.tree.Net.{Net}
 use Rattle.net_core.specs.Nets.{RightTree, AssignTree, WireTree}
 use Rattle.net_core.specs.Value.{Env, word, nothing, value, stops}
 use Rattle.net_core.specs.Clock.{rights, stopped_at, assigned}
-use Rattle.net_core.specs.Ports.{input_width, words_by}
+use Rattle.net_core.specs.Ports.{input_width, words_by, numbers_of}
 use Rattle.net_core.specs.View.{netlist_of, right_of, wire_of, assign_of}
 use Rattle.event_sim.specs.Showing.{stored_for}
 use Rattle.event_sim.specs.Orders.{IsOrder}
@@ -90,3 +92,10 @@ sorted_order n xs ys e p = record {
   count = length_permutation xs ys p ∙ ap length e ∙ length-range_with_len 0 n;
   each = λ k l. Contains-permutation xs ys k p (subst (λ zs. Contains zs k) (sym e) (range_contains n k l));
 }
+
+pub range_more : (n : ℕ) → range_with_len 0 (n + 1) ≡ range_with_len 0 n ++ n ∷ []
+range_more n = sym (map-id (range_with_len 0 (n + 1))) ∙ map-range_with_len_more (λ k. k) 0 n n (omega arith) ∙ ap (λ l. l ++ n ∷ []) (map-id (range_with_len 0 n))
+
+-- ---- inputs
+pub numbers_counted : (i : Inputs) → length (numbers_of i) ≡ PORT_COUNT
+numbers_counted i = refl

@@ -36,12 +36,12 @@ pub fn order_of(alloc: Global, draws: &[u32]) -> Result<Vec<u32>, AllocError>
     ensures order { IfOk result (λ order. IsOrder (length draws.now) order.items) }
     ensures sorted { IfOk result (λ order. IsByDraws draws.now order.items) }
 {
+    if draws.len() > u32::MAX as usize {
+        return Err(AllocError);
+    }
     let mut places = Vec::new(alloc);
     for at in 0..draws.len() {
-        let Ok(place) = u32::try_from(at) else {
-            return Err(AllocError);
-        };
-        places.push(place)?;
+        places.push(at as u32)?;
     }
     places.sort_by_key(|place| rank(*place, draws))?;
     Ok(places)

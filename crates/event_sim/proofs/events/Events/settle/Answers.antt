@@ -33,10 +33,22 @@ returns-then-run-eq0-clause-sweeps c =
     (stopped_idle c.args.self.now c.loop-sweeps.self c.run.new.self formed c.args.order.now c.requires c.loop-sweeps.sweeps c.loop-sweeps.invariant (sym c.run.ensures.fired ∙ c.if-run-eq0.true) c.run.ensures.ran).sweeps
 
 pub returns-clause-settles : goal.returns-clause-settles
-returns-clause-settles c = ?
+returns-clause-settles c =
+    let formed = subst IsFormed c.self.view_is (formed_of _ c.self.invariant.state) in
+    let count = ap (λ (s : State). net_count s.netlist) c.self.view_is in
+    let all : c.loop-sweeps.sweeps ≡ net_count c.args.self.now.netlist = omega (arith, count, c.net_count-count.ensures, c.loop-sweeps-test.false, c.loop-sweeps.auto.sweeps-end) in
+    (stopped_all c.args.self.now c.loop-sweeps.self formed c.args.order.now c.requires c.loop-sweeps.sweeps all c.loop-sweeps.invariant).settles
 
 pub returns-clause-quiet : goal.returns-clause-quiet
-returns-clause-quiet c = ?
+returns-clause-quiet c =
+    let formed = subst IsFormed c.self.view_is (formed_of _ c.self.invariant.state) in
+    let count = ap (λ (s : State). net_count s.netlist) c.self.view_is in
+    let all : c.loop-sweeps.sweeps ≡ net_count c.args.self.now.netlist = omega (arith, count, c.net_count-count.ensures, c.loop-sweeps-test.false, c.loop-sweeps.auto.sweeps-end) in
+    (stopped_all c.args.self.now c.loop-sweeps.self formed c.args.order.now c.requires c.loop-sweeps.sweeps all c.loop-sweeps.invariant).quiet
 
 pub returns-clause-settled : goal.returns-clause-settled
-returns-clause-settled c = ?
+returns-clause-settled c =
+    let formed = subst IsFormed c.self.view_is (formed_of _ c.self.invariant.state) in
+    let count = ap (λ (s : State). net_count s.netlist) c.self.view_is in
+    let all : c.loop-sweeps.sweeps ≡ net_count c.args.self.now.netlist = omega (arith, count, c.net_count-count.ensures, c.loop-sweeps-test.false, c.loop-sweeps.auto.sweeps-end) in
+    (stopped_all c.args.self.now c.loop-sweeps.self formed c.args.order.now c.requires c.loop-sweeps.sweeps all c.loop-sweeps.invariant).settled
