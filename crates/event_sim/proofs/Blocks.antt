@@ -1,8 +1,8 @@
 -- The always blocks of a well-formed design in any order give the same: each register and each memory is set in one block.
 use Rattle.std.specs.Prelude.{slice_set, Contains, All, ◌==◌, if◌then◌else◌}
 use Rattle.std.specs.List.{AllByRecursion, list_all, range_with_len}
-use Rattle.std.proofs.Common.{◌≡◌, ℕ, zero, suc, ◌+◌, ◌<◌, ◌≤◌, Bool, true, false, ◌&&◌, not, List, [], ◌∷◌, ◌++◌, length, map, take, drop, get_or, refl, sym, ap, ◌∙◌, subst, arith, inl, inr, length-append, append_assoc}
-use Rattle.std.proofs.lemmas.Bool.{and_parts, and_from, not-true, eqb-false, cases_lt}
+use Rattle.std.proofs.Common.{◌≡◌, ℕ, zero, suc, ◌+◌, ◌<◌, ◌≤◌, Bool, true, false, not, List, [], ◌∷◌, ◌++◌, length, take, drop, get_or, refl, sym, ap, ◌∙◌, subst, arith, length-append, append_assoc}
+use Rattle.std.proofs.lemmas.Bool.{and_parts, and_from, not-true, eqb-false}
 use Rattle.std.proofs.lemmas.List.{set_comm, get_or-set_other, set_split, set-get_or, get_or_at, get_or_default, nil_from_length, length_push}
 use Rattle.std.proofs.lemmas.List.Elements.{All-from_recursion}
 use Rattle.net_core.specs.declared.tree.Word.{Word}
@@ -11,7 +11,7 @@ use Rattle.net_core.specs.Nets.{StatementTree, SBlock, SIf, SIfElse, SSet, SStor
 use Rattle.net_core.specs.Value.{Env, value}
 use Rattle.net_core.specs.Clock.{Stored, done, all_done, edge, env_of}
 use Rattle.design_rules.specs.FormedScope.{targets_pass, all_targets_pass, leaves_register, leaves_memory}
-use Rattle.design_rules.specs.Formed.{IsWellFormed, targets_free}
+use Rattle.design_rules.specs.Formed.{IsWellFormed}
 use Rattle.design_rules.proofs.FormedItemLaws.{block_kept}
 use Rattle.event_sim.specs.Orders.{IsOrder, blocks_in, ClocksInAnyOrder}
 

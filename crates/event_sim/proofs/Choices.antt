@@ -3,9 +3,8 @@ use Rattle.std.specs.Prelude.{◌==◌, if◌then◌else◌}
 use Rattle.std.proofs.Common.{◌≡◌, sym}
 use Rattle.std.proofs.lemmas.Bool.{cond-true, cond-false, eq-eqb, ne_eqb}
 use Rattle.net_core.specs.declared.tree.Word.{Word}
-use Rattle.net_core.specs.Nets.{Tree, StatementTree}
-use Rattle.net_core.specs.Value.{Env, value, conditional}
-use Rattle.net_core.specs.Clock.{Stored, done}
+use Rattle.net_core.specs.Value.{conditional}
+use Rattle.net_core.specs.Clock.{Stored}
 
 pub second_is : (c a b : Word) → c.value ≡ 0 → b ≡ conditional c a b
 second_is c a b e = sym (cond-true (c.value == 0) b a (eq-eqb c.value 0 e))

@@ -1,5 +1,5 @@
 -- The edge of a state in which no net is active is that of the clock.
-use Rattle.std.proofs.Common.{◌≡◌, ℕ, zero, suc, ◌+◌, ◌^◌, ◌<◌, ◌≤◌, true, false, ◌&&◌, None, List, [], ◌∷◌, ◌++◌, length, map, drop, get_or, refl, sym, ap, ◌∙◌, subst, arith}
+use Rattle.std.proofs.Common.{◌≡◌, ℕ, suc, ◌^◌, ◌<◌, false, None, List, [], ◌∷◌, ◌++◌, length, map, drop, get_or, refl, sym, ap, ◌∙◌, arith}
 use Rattle.std.specs.Prelude.{All}
 use Rattle.std.proofs.lemmas.Bool.{and_parts}
 use Rattle.std.proofs.lemmas.List.{drop_at, get_or_append_left, get_or_default, length-map}
@@ -7,7 +7,7 @@ use Rattle.net_core.specs.declared.tree.Word.{Word}
 use Rattle.net_core.specs.declared.tree.Net.{Net}
 use Rattle.net_core.specs.declared.design.Assign.{Assign}
 use Rattle.net_core.specs.declared.design.Design.{Design}
-use Rattle.net_core.specs.Nets.{StatementTree, SBlock, SEnd, Netlist}
+use Rattle.net_core.specs.Nets.{StatementTree, SBlock, SEnd}
 use Rattle.net_core.specs.Value.{nothing, value}
 use Rattle.net_core.specs.Clock.{Stored, env, env_of, with_wires, stopping, done, edge, after, shown}
 use Rattle.net_core.specs.Width.{memory_widths}
@@ -24,7 +24,6 @@ use Rattle.clock_sim.proofs.ClockLemmas.{after_stored, outputs_fit}
 use Rattle.event_sim.specs.declared.values.Values.{Values}
 use Rattle.event_sim.specs.Events.{State, IsQuiet}
 use Rattle.event_sim.specs.Orders.{IsOrder, blocks_in}
-use Rattle.event_sim.specs.Refusals.{MayEdge}
 use Rattle.event_sim.specs.Shapes.{HaveOneShape}
 use Rattle.event_sim.specs.Showing.{stored_for}
 use Rattle.event_sim.specs.Views.{state_of}

@@ -1,16 +1,16 @@
 -- Every order of events ends in the values of a clock.
 use Rattle.std.specs.Prelude.{if◌then◌else◌, All}
-use Rattle.std.proofs.Common.{◌≡◌, ℕ, zero, suc, ◌+◌, ◌^◌, ◌<◌, ◌≤◌, Bool, true, false, None, List, [], ◌∷◌, length, get_or, refl, sym, ap, ◌∙◌, subst, arith}
+use Rattle.std.proofs.Common.{◌≡◌, ℕ, zero, suc, ◌+◌, ◌^◌, ◌<◌, ◌≤◌, Bool, true, false, List, [], ◌∷◌, length, refl, sym, ap, ◌∙◌, subst, arith}
 use Rattle.std.proofs.lemmas.List.{length-set}
 use Rattle.net_core.specs.declared.tree.Word.{Word}
 use Rattle.net_core.specs.Nets.{Netlist}
 use Rattle.net_core.specs.Value.{number_of}
 use Rattle.net_core.specs.Clock.{Stored, env, rights, stopped_at, stopping}
 use Rattle.design_rules.specs.Formed.{IsWellFormed}
-use Rattle.event_sim.specs.Events.{State, value_at, net_count, is_active, fired, passed, ran, events_in, swept, IsQuiet, Happen}
+use Rattle.event_sim.specs.Events.{State, value_at, net_count, passed, ran, events_in, swept, IsQuiet, Happen}
 use Rattle.event_sim.specs.Ends.{settled, IsSettled, Ends}
 use Rattle.event_sim.specs.Orders.{IsOrder}
-use Rattle.event_sim.proofs.Ending.{active, fire, pass, passes, turns, Happens, Quiets, happens_length, few, turns_few, pass_length, passes_gain, none_fires, none_active}
+use Rattle.event_sim.proofs.Ending.{active, fire, pass, passes, turns, Happens, Quiets, happens_length, few, turns_few, passes_gain, none_fires, none_active}
 use Rattle.event_sim.proofs.Settling.{rights_local, quiet_settles, clock_settles, stop_is}
 
 -- a state of a well-formed design, with a word for each net

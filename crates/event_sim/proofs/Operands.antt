@@ -1,5 +1,5 @@
 -- One word before another fits.
-use Rattle.std.proofs.Common.{ℕ, ◌+◌, ◌*◌, ◌^◌, ◌<◌, ◌≤◌, arith}
+use Rattle.std.proofs.Common.{◌+◌, ◌*◌, ◌^◌, ◌<◌, ◌≤◌, arith}
 use Rattle.std.proofs.Math.Nat.{pow-le-pow_right}
 use Rattle.net_core.specs.declared.tree.Word.{Word}
 use Rattle.net_core.proofs.LowBitsLaws.{concatenated_small}

@@ -1,15 +1,14 @@
 -- The right sides of a well-formed design depend on earlier nets alone, and values at which no net is active are those of a
 -- clock.
-use Rattle.std.specs.Prelude.{if◌then◌else◌, nat_lt}
-use Rattle.std.proofs.Common.{◌≡◌, ℕ, zero, suc, ◌+◌, ◌-◌, ◌<◌, ◌≤◌, Bool, true, false, Option, Some, None, List, [], ◌∷◌, ◌++◌, length, map, get_or, refl, sym, ap, ◌∙◌, subst, arith, inl, inr, append_assoc, length-append}
-use Rattle.std.proofs.lemmas.Bool.{and_parts, ltb-true, cases_lt, cond-true, cond-false}
+use Rattle.std.proofs.Common.{◌≡◌, ℕ, zero, suc, ◌-◌, ◌<◌, ◌≤◌, Bool, true, false, Some, None, List, [], ◌∷◌, ◌++◌, length, map, get_or, refl, sym, ap, ◌∙◌, subst, arith, inl, inr, append_assoc, length-append}
+use Rattle.std.proofs.lemmas.Bool.{ltb-true, cases_lt, cond-true, cond-false}
 use Rattle.std.proofs.lemmas.List.{append-nil, get_or_append_left, get_or-append_right, get_or_at, get_or_default, get_or_past, get_or-map, length-map, length_push}
 use Rattle.net_core.specs.declared.tree.Word.{Word}
 use Rattle.net_core.specs.declared.tree.Net.{Net}
 use Rattle.net_core.specs.declared.tree.Net.TheVariants.{Port, Register, Memory, Wire}
-use Rattle.net_core.specs.Nets.{Tree, TConst, RightTree, RPlain, WireTree, AssignTree, Netlist}
-use Rattle.net_core.specs.Value.{nothing, Env, value, right_value, stops}
-use Rattle.net_core.specs.Clock.{Stored, net_value, env, env_of, with_wires, rights, stopped_at, stopping}
+use Rattle.net_core.specs.Nets.{RightTree, RPlain, WireTree, AssignTree, Netlist}
+use Rattle.net_core.specs.Value.{nothing, value, right_value, stops}
+use Rattle.net_core.specs.Clock.{Stored, net_value, env, with_wires, rights, stopped_at, stopping}
 use Rattle.design_rules.specs.FormedScope.{sorts, is_value, reads_known, right_known}
 use Rattle.design_rules.specs.Formed.{IsWellFormed}
 use Rattle.design_rules.proofs.FormedItemLaws.{wire_kept, assign_kept}

@@ -1,6 +1,6 @@
 -- What a well-formed design can have between two events: all is readable and fits, and an event keeps it so.
 use Rattle.std.specs.Prelude.{nat_le, ◌==◌, nat_lt, if◌then◌else◌, slice_set}
-use Rattle.std.proofs.Common.{◌≡◌, ℕ, zero, suc, ◌+◌, ◌-◌, ◌^◌, ◌<◌, ◌≤◌, Bool, true, false, ◌&&◌, List, [], ◌∷◌, ◌++◌, length, map, take, get_or, refl, sym, ap, ◌∙◌, subst, arith, inl, inr}
+use Rattle.std.proofs.Common.{◌≡◌, ℕ, ◌+◌, ◌-◌, ◌^◌, ◌<◌, ◌≤◌, Bool, true, false, List, length, map, take, get_or, refl, sym, ap, ◌∙◌, subst, arith, inl, inr}
 use Rattle.std.proofs.lemmas.Bool.{and_parts, eqb-true, leb-true, ltb-true, ltb-false, false≢true, cases_lt, cases_eq}
 use Rattle.std.proofs.lemmas.List.{get_or_append_left, get_or-append_right, get_or_default, get_or_past, get_or-map, get_or-take, get_or-set_same, get_or-set_other, length-map, length-append, length-set, length-take, take_all}
 use Rattle.std.proofs.lemmas.Nat.{pow_pos}
@@ -9,13 +9,13 @@ use Rattle.net_core.specs.declared.ports.Inputs.{Inputs}
 use Rattle.net_core.specs.declared.tree.Word.{Word}
 use Rattle.net_core.specs.declared.tree.Net.{Net}
 use Rattle.net_core.specs.declared.tree.Net.TheVariants as net
-use Rattle.net_core.specs.Nets.{StatementTree, SBlock, SEnd, RightTree, RPlain, WireTree, AssignTree, Netlist}
+use Rattle.net_core.specs.Nets.{SBlock, SEnd, RightTree, RPlain, WireTree, AssignTree, Netlist}
 use Rattle.net_core.specs.Value.{Env, word, nothing, value, right_value, stops}
 use Rattle.net_core.specs.declared.design.Port as port
 use Rattle.net_core.specs.Clock.{Stored, first_stored, env, env_of, net_value, memory_word_value}
 use Rattle.net_core.specs.Names.{name_place}
-use Rattle.net_core.specs.Ports.{port_list, words_of, AreInputs, FitInputs}
-use Rattle.net_core.specs.Width.{Scope, port_width, output_width, register_widths, memory_widths, memory_width, net_width, scope, scope_before, full_scope, wire_widths, same, width_of, right_width}
+use Rattle.net_core.specs.Ports.{words_of, AreInputs, FitInputs}
+use Rattle.net_core.specs.Width.{port_width, register_widths, memory_widths, memory_width, net_width, scope, scope_before, full_scope, wire_widths, same, width_of, right_width}
 use Rattle.net_core.specs.Suits.{IsOfWidth, Suits}
 use Rattle.net_core.proofs.WireLaws.{width_at, length_widths}
 use Rattle.net_core.proofs.WidthLaws.{value_fits, right_fits}
@@ -29,7 +29,7 @@ use Rattle.clock_sim.proofs.FitLemmas.{ports_fit}
 use Rattle.clock_sim.proofs.StoredLemmas.{first_is_stored}
 use Rattle.clock_sim.proofs.ClockLemmas.{all_suit}
 use Rattle.event_sim.specs.Events.{State, right_sides, net_count, no_right, no_assign, net_named, event_value, value_at, right_side, fired}
-use Rattle.event_sim.specs.Readable.{IsReadable, IsRight, IsStatement, AreBlocks}
+use Rattle.event_sim.specs.Readable.{IsReadable, IsRight, AreBlocks}
 use Rattle.event_sim.specs.Inside.{assigned_width, net_widths, IsState}
 use Rattle.event_sim.proofs.Settling.{no_wire, wire_right, assign_right}
 use Rattle.event_sim.proofs.Ended.{IsFormed}
@@ -261,7 +261,7 @@ first_state d formed few ins nets t ports room stored zeros = record {
         (omega (arith, some.0, is), omega (arith, most, width, sides, is))
 
     width_fits : (n : ℕ) → n < net_count d → (0 < get_or (net_widths d) n 0) × (get_or (net_widths d) n 0 ≤ 64)
-    width_fits n l = elim (cases_lt n (length d.wires)) [ | inl below ↦ wire_fits_at n below | inr from ↦ assign_fits_at n from l ]
+    width_fits n l = elim (cases_lt n (length d.wires)) [ inl below ↦ wire_fits_at n below | inr from ↦ assign_fits_at n from l ]
 
 pub opened : (d : Netlist) → IsWellFormed d → net_count d ≤ 2 ^ 32 → (ins nets : List Word) (t : Stored) → FitInputs SILENT → ins ≡ words_of SILENT → t ≡ first_stored d → nets ≡ map (λ w. word w 0) (net_widths d) → IsState (record { netlist = d; ins = ins; stored = t; nets = nets })
 opened d formed few ins nets t fit inputs held zeros =

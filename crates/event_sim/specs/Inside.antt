@@ -2,7 +2,6 @@
 use Rattle.std.specs.Prelude.{◌≡◌, ℕ, ◌^◌, ◌<◌, ◌≤◌, false, List, ◌++◌, length, map}
 use Rattle.std.proofs.Common.{get_or}
 use Rattle.net_core.specs.declared.ports.TheConstants.{PORT_COUNT}
-use Rattle.net_core.specs.declared.tree.Word.{Word}
 use Rattle.net_core.specs.declared.design.Design.{Design}
 use Rattle.net_core.specs.Nets.{Netlist, AssignTree}
 use Rattle.net_core.specs.Value.{nothing}

@@ -83,10 +83,10 @@ impl Events {
     pub fn open(alloc: Global, design: Design) -> Result<Events, AllocError>
         requires { IsWellFormed (netlist_of design) }
         ensures { IfOk result (λ e. e ≡ record {
-            netlist = netlist_of design;
-            ins = words_of SILENT;
-            stored = first_stored (netlist_of design);
-            nets = map (λ w. word w 0) (net_widths (netlist_of design));
+          netlist = netlist_of design;
+          ins = words_of SILENT;
+          stored = first_stored (netlist_of design);
+          nets = map (λ w. word w 0) (net_widths (netlist_of design));
         }) }
     {
         let nets = zeros(alloc, &design)?;

@@ -1,4 +1,4 @@
-use Rattle.std.proofs.Common.{◌≡◌, ℕ, ◌^◌, ◌<◌, false, length, drop, get_or, sym, ap, ◌∙◌, subst}
+use Rattle.std.proofs.Common.{◌^◌, ◌<◌, false, length, drop, get_or, sym, ap, ◌∙◌, subst}
 use Rattle.net_core.specs.declared.tree.Word.{Word}
 use Rattle.net_core.specs.Ports.{port_list, output_width}
 use Rattle.net_core.proofs.PortLaws.{outputs_same}

@@ -2,7 +2,7 @@ use Rattle.std.specs.Prelude.{All}
 use Rattle.std.proofs.Common.{◌≡◌, ◌<◌, length, map, sym, ap, ◌∙◌, subst}
 use Rattle.std.proofs.lemmas.List.{length-map}
 use Rattle.net_core.specs.Clock.{edge, after}
-use Rattle.net_core.specs.View.{netlist_of, statement_of}
+use Rattle.net_core.specs.View.{statement_of}
 use Rattle.event_sim.specs.Orders.{blocks_in}
 use Rattle.event_sim.specs.Readable.{AreBlocks}
 use Rattle.event_sim.specs.Shapes.{HaveOneShape}

@@ -1,11 +1,11 @@
-use Rattle.std.proofs.Common.{refl, ap, sym, ◌∙◌, arith}
+use Rattle.std.proofs.Common.{ap, ◌∙◌, arith}
 use Rattle.net_core.specs.declared.tree.Net.{Net}
 use Rattle.net_core.specs.declared.tree.Word.{Word}
 use Rattle.net_core.specs.declared.tree.Stmt.TheViews.{sized-Then}
 use Rattle.net_core.specs.declared.tree.Stmts.{size-Stmts}
 use Rattle.net_core.specs.Value.{value}
-use Rattle.net_core.specs.Clock.{done, all_done}
-use Rattle.net_core.specs.View.{tree_of, statement_of, statements_of}
+use Rattle.net_core.specs.Clock.{done}
+use Rattle.net_core.specs.View.{tree_of, statement_of}
 use Rattle.event_sim.specs.Views.{env_in}
 use Rattle.event_sim.proofs.Choices.{done_first}
 use Rattle.event_sim.proofs.Reading.{first_statement, more_statements}

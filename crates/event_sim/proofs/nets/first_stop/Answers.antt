@@ -1,4 +1,4 @@
-use Rattle.std.proofs.Common.{◌≡◌, length, map, drop, ap, sym, ◌∙◌, arith}
+use Rattle.std.proofs.Common.{map, ap, sym, ◌∙◌, arith}
 use Rattle.net_core.specs.Clock.{rights, stopped_at}
 use Rattle.net_core.specs.View.{right_of, wire_of}
 use Rattle.event_sim.specs.Views.{env_in, state_of}

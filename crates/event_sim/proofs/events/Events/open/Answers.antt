@@ -1,6 +1,5 @@
-use Rattle.std.proofs.Common.{◌≡◌, length, sym, ap, ◌∙◌, arith}
+use Rattle.std.proofs.Common.{◌≡◌, length, sym, ◌∙◌, arith}
 use Rattle.std.proofs.lemmas.List.{with_items_is}
-use Rattle.net_core.specs.declared.ports.TheConstants.{SILENT}
 use Rattle.net_core.specs.Clock.{first_stored}
 use Rattle.net_core.specs.View.{netlist_of}
 use Rattle.design_rules.proofs.FormedWidthLaws.{typed}
