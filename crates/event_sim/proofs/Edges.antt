@@ -20,7 +20,7 @@ use Rattle.design_rules.proofs.FormedItemLaws.{block_kept}
 use Rattle.design_rules.proofs.FormedWidthLaws.{typed}
 use Rattle.design_rules.proofs.SolvedWires.SolvingLaws.{wires_counted}
 use Rattle.clock_sim.specs.Ready.{IsStored}
-use Rattle.clock_sim.proofs.ClockLemmas.{after_stored, outputs_fit}
+use Rattle.clock_sim.proofs.ReadableLaws.{after_stored, outputs_fit}
 use Rattle.event_sim.specs.declared.values.Values.{Values}
 use Rattle.event_sim.specs.Events.{State, IsQuiet}
 use Rattle.event_sim.specs.Orders.{IsOrder, blocks_in}

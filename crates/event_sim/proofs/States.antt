@@ -25,9 +25,9 @@ use Rattle.design_rules.proofs.FormedItemLaws.{wire_kept, assign_kept, block_kep
 use Rattle.design_rules.proofs.FormedWidthLaws.{typed, ports_listed, same_some}
 use Rattle.list_laws.proofs.PlaceLaws.{some_below}
 use Rattle.clock_sim.specs.Ready.{ArePorts, IsStored}
-use Rattle.clock_sim.proofs.FitLemmas.{ports_fit}
-use Rattle.clock_sim.proofs.StoredLemmas.{first_is_stored}
-use Rattle.clock_sim.proofs.ClockLemmas.{all_suit}
+use Rattle.clock_sim.proofs.FitLaws.{ports_fit}
+use Rattle.clock_sim.proofs.StoredLaws.{first_is_stored}
+use Rattle.clock_sim.proofs.ReadableLaws.{all_suit}
 use Rattle.event_sim.specs.Events.{State, right_sides, net_count, no_right, no_assign, net_named, event_value, value_at, right_side, fired}
 use Rattle.event_sim.specs.Readable.{IsReadable, IsRight, AreBlocks}
 use Rattle.event_sim.specs.Inside.{assigned_width, net_widths, IsState}
