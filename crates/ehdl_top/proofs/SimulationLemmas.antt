@@ -285,3 +285,7 @@ few_of d first ifindex timed clocks g (Err e) is few given = tt
 
 pub if_few : (d : Netlist) (first : MapState) (ifindex : ℕ) (timed : List Timed) (clocks : ℕ) (g : Driven) → length first.decls ≤ 16 → IsGiven (simulation d first ifindex timed clocks) g → IfOk g.end (λ maps. length maps.decls ≤ 16)
 if_few d first ifindex timed clocks g few given = few_of d first ifindex timed clocks g g.end refl few given
+
+-- of a design that was opened, which has the same netlist
+pub of_design : {E : Type 0} (maps : MapState) (ifindex : ℕ) (packets : List Timed) (clocks : ℕ) (o d : Netlist) (r : Result Driven E) → o ≡ d → IfOk r (IsGiven (simulation o maps ifindex packets clocks)) → IfOk r (IsGiven (simulation d maps ifindex packets clocks))
+of_design {E} maps ifindex packets clocks o d r same given = let P : Netlist → Type 0 = λ q. IfOk r (IsGiven (simulation q maps ifindex packets clocks)) in subst P same given
