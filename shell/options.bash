@@ -17,7 +17,7 @@ declare -gA _ehdl_required=(
 declare -gA _ehdl_optional=(
     [compile]='program hash-cap'
     [run]='maps program hash-cap ifindex'
-    [sim]='maps program hash-cap ifindex'
+    [sim]='events maps program hash-cap ifindex'
     [ref]='maps program hash-cap ifindex'
     [report]='program hash-cap'
     [demo]=''
@@ -38,6 +38,7 @@ declare -gA _ehdl_range=(
     [hash-cap]='1 1024'
     [ifindex]='0 4294967295'
     [clocks]='0 500000000'
+    [events]='0 4294967295'
     [seed]='0 4294967295'
     [packets]='0 100000'
 )

@@ -35,7 +35,7 @@ use Rattle.clock_sim.proofs.BuilderLemmas.{extends_more, numbers_later, knows_la
 use Rattle.clock_sim.proofs.WireLemmas.{width_get, word_get, index_get, scope_same, divisors_there, stops_all}
 use Rattle.clock_sim.proofs.StatementLemmas.{slots_more, leads_later}
 use Rattle.clock_sim.proofs.StepLemmas.{number_at}
-use Rattle.clock_sim.proofs.StoredLemmas.{same_sides, first_is_stored}
+use Rattle.clock_sim.proofs.StoredLaws.{same_sides, first_is_stored}
 use Rattle.clock_sim.proofs.RunLemmas.{with_words_length, with_words_above, with_words_at, stored_is}
 
 -- ---- what is typed can be compiled

@@ -1,4 +1,4 @@
-pub mod FitLemmas
+pub mod FitLaws
 pub mod NameLemmas
 pub mod BuilderLemmas
 pub mod StepLemmas
@@ -6,8 +6,8 @@ pub mod OperatorLemmas
 pub mod ValueLemmas
 pub mod StatementLemmas
 pub mod WireLemmas
-pub mod StoredLemmas
-pub mod ClockLemmas
+pub mod StoredLaws
+pub mod ReadableLaws
 pub mod RunLemmas
 pub mod Items
 pub mod CompiledLemmas

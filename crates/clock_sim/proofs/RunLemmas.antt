@@ -26,8 +26,8 @@ use Rattle.clock_sim.specs.Flat.{Situation, IsFine, numbers, contents_of, Starts
 use Rattle.clock_sim.specs.Edges.{first_zero, AreDivisors, AreSlots, AreStores, applied, taken, IsShown, shown_in}
 use Rattle.clock_sim.specs.Layouts.{with_words, words_from, cells_from, stored_in, stored_of, flat_with, IsReady}
 use Rattle.net_core.proofs.PortLaws.{outputs_same}
-use Rattle.clock_sim.proofs.FitLemmas.{ports_fit}
-use Rattle.clock_sim.proofs.ClockLemmas.{after_stored, outputs_fit}
+use Rattle.clock_sim.proofs.FitLaws.{ports_fit}
+use Rattle.clock_sim.proofs.ReadableLaws.{after_stored, outputs_fit}
 use Rattle.clock_sim.proofs.BuilderLemmas.{run_length, run_below, run_kept}
 use Rattle.clock_sim.proofs.StepLemmas.{number_at}
 use Rattle.clock_sim.proofs.StatementLemmas.{applied_length}

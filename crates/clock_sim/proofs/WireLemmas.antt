@@ -22,7 +22,7 @@ use Rattle.clock_sim.specs.declared.wires.Divisor.{Divisor}
 use Rattle.clock_sim.specs.Steps.{run}
 use Rattle.clock_sim.specs.Flat.{Flat, Situation, IsFine, contents_of, Starts, Gives, Extends, Adds, RightValues, AreOperands, no_operand, no_widths, operand_in, widths_in, scope_of, env_at, AreCells, Knows}
 use Rattle.clock_sim.specs.Edges.{Matches, widths_at, sizes_of, AreTyped, divisor_in, IsDivided, AreDivided, first_zero, AreDivisors, Stops, divisors_at, divisors_from}
-use Rattle.clock_sim.proofs.StoredLemmas.{same_sides}
+use Rattle.clock_sim.proofs.StoredLaws.{same_sides}
 use Rattle.clock_sim.proofs.BuilderLemmas.{extends_none, extends_more, gives_later}
 
 -- ---- scopes

@@ -3,6 +3,7 @@
 
 mod builder;
 mod clock;
+mod clocked;
 mod compile;
 mod edge;
 mod emit;
@@ -16,4 +17,5 @@ mod sim;
 mod step;
 mod wires;
 
+pub use clocked::Clocked;
 pub use sim::{Sim, XValue};

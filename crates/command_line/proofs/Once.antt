@@ -8,7 +8,7 @@ use Rattle.clap.specs.Simple.{subcommand_of}
 use Rattle.xdp_object.specs.Choice.{Chosen}
 use Rattle.command_line.specs.Request.{Names, Request, AskCompile, AskRun, AskSim, AskRef, AskReport, AskDemo, files_of}
 use Rattle.command_line.specs.Commands.{app}
-use Rattle.command_line.specs.Means.{AreDistinct, GivesFiles, GivesNames, GivesText, GivesNumber, GivesRun, GivesChosen, MayGiveNumber, Means, MeansCompile, MeansRun, MeansSim, MeansRef, MeansReport, MeansDemo, Values}
+use Rattle.command_line.specs.Means.{AreDistinct, GivesFiles, GivesNames, GivesText, GivesNumber, GivesRun, GivesChosen, MayGiveNumber, GivesNumberIfThere, Means, MeansCompile, MeansRun, MeansSim, MeansRef, MeansReport, MeansDemo, Values}
 use Rattle.command_line.specs.AsksFor.{AsksFor, values_in}
 
 -- ---- an option
@@ -27,6 +27,12 @@ one_optional_number values option low high usual a b small (inl g) (inl h) = one
 one_optional_number values option low high usual a b small (inl g) (inr h) = absent (values option) (decimal a) h.0 g.given
 one_optional_number values option low high usual a b small (inr g) (inl h) = absent (values option) (decimal b) g.0 h.given
 one_optional_number values option low high usual a b small (inr g) (inr h) = g.1 ∙ sym h.1
+
+one_number_if_there : (values : Values) (option : List ℕ) (low high : ℕ) (a b : Option ℕ) → high < 2 ^ 64 → GivesNumberIfThere values option low high a → GivesNumberIfThere values option low high b → a ≡ b
+one_number_if_there values option low high (Some a) (Some b) small g h = ap Some (one_number values option low high a b small g h)
+one_number_if_there values option low high (Some a) None small g h = absent (values option) (decimal a) h g.given
+one_number_if_there values option low high None (Some b) small g h = absent (values option) (decimal b) g h.given
+one_number_if_there values option low high None None small g h = refl
 
 -- ---- what is asked for
 made : (object capture answer verdicts final_maps : List ℕ) → Option (List ℕ) → Names
@@ -71,9 +77,9 @@ one_meant command values (AskCompile o v s) (AskCompile p w t) g h =
     λ i. AskCompile (same_value _ o p g.gives_object h.gives_object i) (same_value _ v w g.gives_verilog h.gives_verilog i) (one_selected values s t g.gives_selected h.gives_selected i)
 one_meant command values (AskRun n v s i) (AskRun m w t j) g h =
     λ k. AskRun (one_names values n m g.gives_run.gives_files.gives_names h.gives_run.gives_files.gives_names k) (same_value _ v w g.gives_text.given h.gives_text.given k) (one_selected values s t g.gives_run.gives_selected h.gives_run.gives_selected k) (one_ifindex values n m s t i j g.gives_run h.gives_run k)
-one_meant command values (AskSim n v s i c) (AskSim m w t j d) g h =
+one_meant command values (AskSim n v s i c e) (AskSim m w t j d f) g h =
     λ k. AskSim (one_names values n m g.gives_run.gives_files.gives_names h.gives_run.gives_files.gives_names k) (same_value _ v w g.gives_text.given h.gives_text.given k) (one_selected values s t g.gives_run.gives_selected h.gives_run.gives_selected k) (one_ifindex values n m s t i j g.gives_run h.gives_run k)
-    (one_number values _ 0 500000000 c d (omega arith) g.gives_clocks h.gives_clocks k)
+    (one_number values _ 0 500000000 c d (omega arith) g.gives_clocks h.gives_clocks k) (one_number_if_there values _ 0 4294967295 e f (omega arith) g.gives_events h.gives_events k)
 one_meant command values (AskRef n s i) (AskRef m t j) g h =
     λ k. AskRef (one_names values n m g.gives_run.gives_files.gives_names h.gives_run.gives_files.gives_names k) (one_selected values s t g.gives_run.gives_selected h.gives_run.gives_selected k) (one_ifindex values n m s t i j g.gives_run h.gives_run k)
 one_meant command values (AskReport o s) (AskReport p t) g h = λ i. AskReport (same_value _ o p g.gives_object h.gives_object i) (one_selected values s t g.gives_selected h.gives_selected i)
@@ -100,8 +106,8 @@ pub run_alone : (command : List ℕ) (values : Values) → command ≡ codes "ru
 run_alone command values is none (AskRun n v s i) means = none n v s i means
 run_alone command values is none other means = two_commands command _ _ is means.called refl
 
-pub sim_alone : (command : List ℕ) (values : Values) → command ≡ codes "sim" → ((n : Names) (v : List ℕ) (s : Chosen) (i c : ℕ) → ¬ MeansSim command values n v s i c) → (request : Request) → ¬ Means command values request
-sim_alone command values is none (AskSim n v s i c) means = none n v s i c means
+pub sim_alone : (command : List ℕ) (values : Values) → command ≡ codes "sim" → ((n : Names) (v : List ℕ) (s : Chosen) (i c : ℕ) (e : Option ℕ) → ¬ MeansSim command values n v s i c e) → (request : Request) → ¬ Means command values request
+sim_alone command values is none (AskSim n v s i c e) means = none n v s i c e means
 sim_alone command values is none other means = two_commands command _ _ is means.called refl
 
 pub ref_alone : (command : List ℕ) (values : Values) → command ≡ codes "ref" → ((n : Names) (s : Chosen) (i : ℕ) → ¬ MeansRef command values n s i) → (request : Request) → ¬ Means command values request

@@ -27,7 +27,7 @@ abbrev pub sim_form : CommandForm
 sim_form = record {
   name = codes "sim";
   required = codes "clocks" ∷ run_form.required;
-  optional = run_form.optional;
+  optional = codes "events" ∷ run_form.optional;
 }
 
 abbrev pub ref_form : CommandForm

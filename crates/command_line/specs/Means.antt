@@ -18,6 +18,11 @@ abbrev pub MayGiveNumber : Values → List ℕ → ℕ → ℕ → ℕ → ℕ �
 MayGiveNumber values option low high usual n =
     GivesNumber values option low high n ⊎ ((values option ≡ None) × (n ≡ usual))
 
+-- the same, or the option is not there, and neither is the number
+abbrev pub GivesNumberIfThere : Values → List ℕ → ℕ → ℕ → Option ℕ → Type 0
+GivesNumberIfThere values option low high (Some n) = GivesNumber values option low high n
+GivesNumberIfThere values option low high None = values option ≡ None
+
 -- no two are equal
 abbrev pub AreDistinct : List (List ℕ) → Type 0
 AreDistinct files = AllPairs (λ a b. a ≢ b) files
@@ -61,11 +66,12 @@ pub record MeansRun (command : List ℕ) (values : Values) (names : Names) (veri
   pub gives_run : GivesRun values names selected ifindex
   pub gives_text : GivesText values names verilog
 
-pub record MeansSim (command : List ℕ) (values : Values) (names : Names) (verilog : List ℕ) (selected : Chosen) (ifindex clocks : ℕ) : Type 0 where
+pub record MeansSim (command : List ℕ) (values : Values) (names : Names) (verilog : List ℕ) (selected : Chosen) (ifindex clocks : ℕ) (events : Option ℕ) : Type 0 where
   pub called : command ≡ codes "sim"
   pub gives_run : GivesRun values names selected ifindex
   pub gives_text : GivesText values names verilog
   pub gives_clocks : GivesNumber values (codes "clocks") 0 500000000 clocks
+  pub gives_events : GivesNumberIfThere values (codes "events") 0 4294967295 events
 
 pub record MeansRef (command : List ℕ) (values : Values) (names : Names) (selected : Chosen) (ifindex : ℕ) : Type 0 where
   pub called : command ≡ codes "ref"
@@ -85,7 +91,7 @@ pub record MeansDemo (command : List ℕ) (values : Values) (seed packets : ℕ)
 abbrev pub Means : List ℕ → Values → Request → Type 0
 Means command values (AskCompile object verilog selected) = MeansCompile command values object verilog selected
 Means command values (AskRun names verilog selected ifindex) = MeansRun command values names verilog selected ifindex
-Means command values (AskSim names verilog selected ifindex clocks) = MeansSim command values names verilog selected ifindex clocks
+Means command values (AskSim names verilog selected ifindex clocks events) = MeansSim command values names verilog selected ifindex clocks events
 Means command values (AskRef names selected ifindex) = MeansRef command values names selected ifindex
 Means command values (AskReport object selected) = MeansReport command values object selected
 Means command values (AskDemo seed packets) = MeansDemo command values seed packets

@@ -40,6 +40,8 @@ pub enum Command<'a> {
         ifindex: u32,
         /// How many clocks the text may take, at most 500,000,000.
         clocks: u32,
+        /// The seed of the order in which events settle, where the text is to be run by events.
+        events: Option<u32>,
     },
     /// To run the object's program, one instruction after another.
     Ref {

@@ -37,7 +37,7 @@ const COMMANDS: [CommandRow; 6] = [
         required: &[
             "clocks", "object", "capture", "verilog", "answer", "verdicts", "final",
         ],
-        optional: &["maps", "program", "hash-cap", "ifindex"],
+        optional: &["events", "maps", "program", "hash-cap", "ifindex"],
     },
     CommandRow {
         name: "ref",

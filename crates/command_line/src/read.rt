@@ -9,7 +9,9 @@ ghost use Rattle.command_line.specs.Rows.{values_from};
 use crate::command::Command;
 use crate::error::WordsError;
 use crate::parse::parse;
-use crate::values::{read_choice, read_files, read_ifindex, read_text, required, required_number};
+use crate::values::{
+    possible_number, read_choice, read_files, read_ifindex, read_text, required, required_number,
+};
 use crate::words::Words;
 use clap::ArgMatches;
 use std::alloc::Global;
@@ -22,7 +24,7 @@ const PACKET_LIMIT: u32 = 100_000;
 ///
 /// - `compile --object A --verilog B`
 /// - `run --object A --capture C --verilog D --answer E --verdicts F --final G`
-/// - `sim`, as `run`, and `--clocks N`, at most 500,000,000
+/// - `sim`, as `run`, and `--clocks N`, at most 500,000,000; it may have `--events N`, at most 4,294,967,295
 /// - `ref`, as `run` without `--verilog`
 /// - `report --object A`
 /// - `demo --seed N --packets N`, at most 4,294,967,295 and at most 100,000
@@ -131,12 +133,14 @@ fn read_sim<'a>(name: &str, matches: &ArgMatches<'a>) -> Option<Command<'a>>
     let choice = read_choice(matches)?;
     let ifindex = read_ifindex(matches)?;
     let clocks = required_number(matches, "clocks", 0, CLOCK_LIMIT)?;
+    let events = possible_number(matches, "events", 0, u32::MAX)?;
     Some(Command::Sim {
         files,
         verilog,
         choice,
         ifindex,
         clocks,
+        events,
     })
 }
 

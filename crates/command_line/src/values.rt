@@ -1,10 +1,10 @@
 // The values of options.
 
-ghost use Rattle.std.specs.Prelude.{◌≡◌, ◌≢◌, ◌↔◌, ◌≤◌, ◌∷◌, ℕ, List, Some, map, codes, IfSome, IfNone, IsTrue};
+ghost use Rattle.std.specs.Prelude.{◌≡◌, ◌≢◌, ◌↔◌, ◌≤◌, ◌∷◌, ℕ, List, Option, Some, map, codes, IfSome, IfNone, IsTrue};
 ghost use Rattle.std.specs.Option.{option_copied};
 ghost use Rattle.xdp_object.specs.Choice.{Chosen, chosen_of};
 ghost use Rattle.command_line.specs.Request.{Names, names_of, files_of};
-ghost use Rattle.command_line.specs.Means.{AreDistinct, GivesFiles, GivesText, GivesNumber, GivesChosen, MayGiveNumber};
+ghost use Rattle.command_line.specs.Means.{AreDistinct, GivesFiles, GivesText, GivesNumber, GivesChosen, MayGiveNumber, GivesNumberIfThere};
 ghost use Rattle.command_line.specs.Rows.{values_from};
 
 use crate::command::Files;
@@ -61,6 +61,22 @@ fn optional_number(
     match optional(matches, option) {
         Some(text) => number(text, low, high),
         None => Some(usual),
+    }
+}
+
+// The same, and where the option is not there no number.
+pub(crate) fn possible_number(
+    matches: &ArgMatches<'_>,
+    option: &str,
+    low: u32,
+    high: u32,
+) -> Option<Option<u32>>
+    ensures some { IfSome result (λ n. GivesNumberIfThere (values_from matches.now) option.now low high n) }
+    ensures none { IfNone result ((n : Option ℕ) → ¬ GivesNumberIfThere (values_from matches.now) option.now low high n) }
+{
+    match optional(matches, option) {
+        Some(text) => Some(Some(number(text, low, high)?)),
+        None => Some(None),
     }
 }
 

@@ -61,9 +61,9 @@ itself_written (AskRun names verilog chosen ifindex) s e = as_status AllWritten 
 itself_written (AskRef names chosen ifindex) s e = as_status AllWritten status.Done s (sym e) tt
 itself_written (AskReport object chosen) s e = as_status AllWritten status.Done s (sym e) tt
 itself_written (AskDemo seed packets) s e = as_status AllWritten status.Done s (sym e) tt
-itself_written (AskSim names verilog chosen ifindex clocks) s (inl e) = as_status AllWritten status.Done s (sym e) tt
-itself_written (AskSim names verilog chosen ifindex clocks) s (inr (inl e)) = as_status AllWritten status.XValue s (sym e) tt
-itself_written (AskSim names verilog chosen ifindex clocks) s (inr (inr e)) = as_status AllWritten status.Late s (sym e) tt
+itself_written (AskSim names verilog chosen ifindex clocks events) s (inl e) = as_status AllWritten status.Done s (sym e) tt
+itself_written (AskSim names verilog chosen ifindex clocks events) s (inr (inl e)) = as_status AllWritten status.XValue s (sym e) tt
+itself_written (AskSim names verilog chosen ifindex clocks events) s (inr (inr e)) = as_status AllWritten status.Late s (sym e) tt
 
 input_unwritten : (s : Status) → IsInputStatus s → ¬ AllWritten s
 input_unwritten status.Object i w = w

@@ -173,7 +173,7 @@ pub inputs_sound : (request : Request) (held : Holding) → AreSound (inputs_of 
 inputs_sound (AskCompile object verilog chosen) held = (program_sound chosen built built_apart, tt)
 inputs_sound (AskRun names verilog chosen ifindex) held =
     (program_sound chosen built built_apart, may_sound names.maps _ _ (maps_sound (held_decls chosen (held names.object))) (capture_sound, tt))
-inputs_sound (AskSim names verilog chosen ifindex clocks) held =
+inputs_sound (AskSim names verilog chosen ifindex clocks events) held =
     (object_sound chosen, (text_sound, may_sound names.maps _ _ (maps_sound (held_decls chosen (held names.object))) (capture_sound, tt)))
 inputs_sound (AskRef names chosen ifindex) held =
     (program_sound chosen accepted accepted_apart, may_sound names.maps _ _ (maps_sound (held_decls chosen (held names.object))) (capture_sound, tt))

@@ -22,7 +22,7 @@ text_apart names verilog apart = record {
 pub names_apart : (words : List (List ℕ)) (request : Request) → AsksFor words request → NamesApart request
 names_apart words (AskCompile object verilog chosen) asks = tt
 names_apart words (AskRun names verilog chosen ifindex) asks = (files_apart names asks.meant.gives_run.gives_files.apart, text_apart names verilog asks.meant.gives_text.apart)
-names_apart words (AskSim names verilog chosen ifindex clocks) asks = files_apart names asks.meant.gives_run.gives_files.apart
+names_apart words (AskSim names verilog chosen ifindex clocks events) asks = files_apart names asks.meant.gives_run.gives_files.apart
 names_apart words (AskRef names chosen ifindex) asks = files_apart names asks.meant.gives_run.gives_files.apart
 names_apart words (AskReport object chosen) asks = tt
 names_apart words (AskDemo seed packets) asks = tt

@@ -75,7 +75,7 @@ outcome_ready (AskRun names verilog chosen ifindex) held end outputs o = (
   ready_both _ _ held (may_ready names.maps o.1.program.decls _ held o.1.first (taken_decls chosen built o.1.program (held names.object) o.1.held_program) o.1.starts)
       (capture_ready held names.capture o.1.magic o.1.packets o.1.held_capture),
 )
-outcome_ready (AskSim names verilog chosen ifindex clocks) held end outputs o = (
+outcome_ready (AskSim names verilog chosen ifindex clocks events) held end outputs o = (
   holds_as OBJECT_LIMIT (held names.object) _ (object_form chosen).Fits (λ bytes is. (o.program, is)) o.held_object,
   (
     holds_as VERILOG_LIMIT (held verilog) _ text_form.Fits (λ bytes is. (o.design, is.spells)) o.held_text,
@@ -124,7 +124,7 @@ one_end names verilog chosen ifindex clocks held end end' outputs outputs' one a
 pub ends_one : (request : Request) (held : Holding) (end end' : Option CommandError) (outputs outputs' : Outputs) → HasOneMeaning → IsOutcome request held end outputs → IsOutcome request held end' outputs' → end ≡ end'
 ends_one (AskCompile object verilog chosen) held end end' outputs outputs' one a b = a.0 ∙ sym b.0
 ends_one (AskRun names verilog chosen ifindex) held end end' outputs outputs' one a b = a.0 ∙ sym b.0
-ends_one (AskSim names verilog chosen ifindex clocks) held end end' outputs outputs' one a b = one_end names verilog chosen ifindex clocks held end end' outputs outputs' one a b
+ends_one (AskSim names verilog chosen ifindex clocks events) held end end' outputs outputs' one a b = one_end names verilog chosen ifindex clocks held end end' outputs outputs' one a b
 ends_one (AskRef names chosen ifindex) held end end' outputs outputs' one a b = a.0 ∙ sym b.0
 ends_one (AskReport object chosen) held end end' outputs outputs' one a b = a.0 ∙ sym b.0
 ends_one (AskDemo seed packets) held end end' outputs outputs' one a b = a.0 ∙ sym b.0
@@ -241,10 +241,10 @@ run_makes names verilog chosen ifindex a b c object capture pipeline first magic
   of = run_of names verilog pipeline.text.items magic packets run.answers (text_of run.final);
 }
 
-pub sim_makes : (names : Names) (verilog : List ℕ) (chosen : Chosen) (ifindex clocks : ℕ) (a b c d : ShelfState) (object text capture : List ℕ) (program : XdpProgram) (design : Netlist) (first : MapState) (magic : ℕ) (packets : List Packet) (simulated : Simulated) → AreDistinct names → Changes [] a b → Changes [] a c → Changes [] a d
+pub sim_makes : (names : Names) (verilog : List ℕ) (chosen : Chosen) (ifindex clocks : ℕ) (events : Option ℕ) (a b c d : ShelfState) (object text capture : List ℕ) (program : XdpProgram) (design : Netlist) (first : MapState) (magic : ℕ) (packets : List Packet) (simulated : Simulated) → AreDistinct names → Changes [] a b → Changes [] a c → Changes [] a d
     → IsRead (object_form chosen) names.object a object → IsObject chosen object program → IsRead text_form verilog b text → IsTextOf text design → AreRead names.maps program.decls c first → IsRead capture_form names.capture d capture → IsCaptured capture magic packets
-    → IsSimOf names design first ifindex clocks magic packets simulated → IsTrue a.tells → Makes (AskSim names verilog chosen ifindex clocks) a.held simulated.end (map write_of simulated.writes.items)
-sim_makes names verilog chosen ifindex clocks a b c d object text capture program design first magic packets simulated apart same same' same'' read is read' spells starts read'' captured sim told = record {
+    → IsSimOf names design first ifindex clocks magic packets simulated → IsTrue a.tells → Makes (AskSim names verilog chosen ifindex clocks events) a.held simulated.end (map write_of simulated.writes.items)
+sim_makes names verilog chosen ifindex clocks events a b c d object text capture program design first magic packets simulated apart same same' same'' read is read' spells starts read'' captured sim told = record {
   outputs = sim_outputs names magic packets sim.given;
   outcome = record {
     program = program;

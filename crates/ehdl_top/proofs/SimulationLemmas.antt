@@ -241,9 +241,9 @@ shown_over d maps ifindex packets clocks =
     of_end (AreOver maps.decls) d maps.decls (λ ms. refl) (λ w. tt) (λ answers frames. tt) maps ifindex packets clocks (first_stop d (first_stored d) (load maps)) refl
 
 -- a status of its own
-pub sim_ends : (names : Names) (verilog : List ℕ) (chosen : Chosen) (n clocks : ℕ) (d : Netlist) (maps : MapState) (ifindex : ℕ) (packets : List Timed) → EndsItself (AskSim names verilog chosen n clocks) (ended (given_up (simulation d maps ifindex packets clocks).end))
-sim_ends names verilog chosen n clocks d maps ifindex packets =
-    let P : Result MapState CommandError → Type 0 = λ r. EndsItself (AskSim names verilog chosen n clocks) (ended (given_up r)) in
+pub sim_ends : (names : Names) (verilog : List ℕ) (chosen : Chosen) (n clocks : ℕ) (events : Option ℕ) (d : Netlist) (maps : MapState) (ifindex : ℕ) (packets : List Timed) → EndsItself (AskSim names verilog chosen n clocks events) (ended (given_up (simulation d maps ifindex packets clocks).end))
+sim_ends names verilog chosen n clocks events d maps ifindex packets =
+    let P : Result MapState CommandError → Type 0 = λ r. EndsItself (AskSim names verilog chosen n clocks events) (ended (given_up r)) in
     of_end P d maps.decls (λ ms. inl refl) (λ w. inr (inl refl)) (λ answers frames. inr (inr refl)) maps ifindex packets clocks (first_stop d (first_stored d) (load maps)) refl
 
 -- what is written of it
@@ -285,3 +285,7 @@ few_of d first ifindex timed clocks g (Err e) is few given = tt
 
 pub if_few : (d : Netlist) (first : MapState) (ifindex : ℕ) (timed : List Timed) (clocks : ℕ) (g : Driven) → length first.decls ≤ 16 → IsGiven (simulation d first ifindex timed clocks) g → IfOk g.end (λ maps. length maps.decls ≤ 16)
 if_few d first ifindex timed clocks g few given = few_of d first ifindex timed clocks g g.end refl few given
+
+-- of a design that was opened, which has the same netlist
+pub of_design : {E : Type 0} (maps : MapState) (ifindex : ℕ) (packets : List Timed) (clocks : ℕ) (o d : Netlist) (r : Result Driven E) → o ≡ d → IfOk r (IsGiven (simulation o maps ifindex packets clocks)) → IfOk r (IsGiven (simulation d maps ifindex packets clocks))
+of_design {E} maps ifindex packets clocks o d r same given = let P : Netlist → Type 0 = λ q. IfOk r (IsGiven (simulation q maps ifindex packets clocks)) in subst P same given

@@ -19,7 +19,7 @@ inputs_of (AskCompile object verilog chosen) held = input object (program_form c
 inputs_of (AskRun names verilog chosen ifindex) held =
     input names.object (program_form chosen built)
     ∷ (may_input names.maps (maps_form (held_decls chosen (held names.object))) ++ input names.capture capture_form ∷ [])
-inputs_of (AskSim names verilog chosen ifindex clocks) held =
+inputs_of (AskSim names verilog chosen ifindex clocks events) held =
     input names.object (object_form chosen) ∷ input verilog text_form
     ∷ (may_input names.maps (maps_form (held_decls chosen (held names.object))) ++ input names.capture capture_form ∷ [])
 inputs_of (AskRef names chosen ifindex) held =
@@ -32,7 +32,7 @@ inputs_of (AskDemo seed packets) held = []
 abbrev pub outputs_of : Request → List (List ℕ)
 outputs_of (AskCompile object verilog chosen) = verilog ∷ []
 outputs_of (AskRun names verilog chosen ifindex) = verilog ∷ names.answer ∷ names.verdicts ∷ names.final_maps ∷ []
-outputs_of (AskSim names verilog chosen ifindex clocks) = names.answer ∷ names.verdicts ∷ names.final_maps ∷ []
+outputs_of (AskSim names verilog chosen ifindex clocks events) = names.answer ∷ names.verdicts ∷ names.final_maps ∷ []
 outputs_of (AskRef names chosen ifindex) = names.answer ∷ names.verdicts ∷ names.final_maps ∷ []
 outputs_of (AskReport object chosen) = []
 outputs_of (AskDemo seed packets) = []
@@ -41,7 +41,7 @@ outputs_of (AskDemo seed packets) = []
 abbrev pub IsOutcome : Request → Holding → Option CommandError → Outputs → Type 0
 IsOutcome (AskCompile object verilog chosen) held end outputs = (end ≡ None) × IsCompiled object verilog chosen held outputs
 IsOutcome (AskRun names verilog chosen ifindex) held end outputs = (end ≡ None) × IsRun names verilog chosen ifindex held outputs
-IsOutcome (AskSim names verilog chosen ifindex clocks) held end outputs = IsSimulated names verilog chosen ifindex clocks held end outputs
+IsOutcome (AskSim names verilog chosen ifindex clocks events) held end outputs = IsSimulated names verilog chosen ifindex clocks held end outputs
 IsOutcome (AskRef names chosen ifindex) held end outputs = (end ≡ None) × IsReference names chosen ifindex held outputs
 IsOutcome (AskReport object chosen) held end outputs = (end ≡ None) × (outputs ≡ no_outputs) × (lines : List (List ℕ)) × IsReported object chosen held lines
 IsOutcome (AskDemo seed packets) held end outputs = (end ≡ None) × (outputs ≡ no_outputs) × (lines : List (List ℕ)) × IsDemo seed packets lines
@@ -66,7 +66,7 @@ OneUnwritten request old new before after = OneRose (outputs_of request) old.wri
 abbrev pub EndsItself : Request → Status → Type 0
 EndsItself (AskCompile object verilog chosen) s = s ≡ status.Done
 EndsItself (AskRun names verilog chosen ifindex) s = s ≡ status.Done
-EndsItself (AskSim names verilog chosen ifindex clocks) s = (s ≡ status.Done) ⊎ ((s ≡ status.XValue) ⊎ (s ≡ status.Late))
+EndsItself (AskSim names verilog chosen ifindex clocks events) s = (s ≡ status.Done) ⊎ ((s ≡ status.XValue) ⊎ (s ≡ status.Late))
 EndsItself (AskRef names chosen ifindex) s = s ≡ status.Done
 EndsItself (AskReport object chosen) s = s ≡ status.Done
 EndsItself (AskDemo seed packets) s = s ≡ status.Done

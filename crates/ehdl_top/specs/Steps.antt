@@ -232,7 +232,7 @@ pub record AreDistinct (names : Names) : Type 0 where
 abbrev pub NamesApart : Request → Type 0
 NamesApart (AskCompile object verilog chosen) = Unit {0}
 NamesApart (AskRun names verilog chosen ifindex) = AreDistinct names × IsTextApart names verilog
-NamesApart (AskSim names verilog chosen ifindex clocks) = AreDistinct names
+NamesApart (AskSim names verilog chosen ifindex clocks events) = AreDistinct names
 NamesApart (AskRef names chosen ifindex) = AreDistinct names
 NamesApart (AskReport object chosen) = Unit {0}
 NamesApart (AskDemo seed packets) = Unit {0}

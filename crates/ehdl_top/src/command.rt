@@ -69,9 +69,12 @@ fn run_command<S: Shelf>(
             choice,
             ifindex,
             clocks,
+            events,
         } => without_lines(
             alloc,
-            sim_files(alloc, shelf, files, verilog, *choice, *ifindex, *clocks),
+            sim_files(
+                alloc, shelf, files, verilog, *choice, *ifindex, *clocks, *events,
+            ),
         ),
         Command::Ref {
             files,
@@ -94,6 +97,7 @@ fn run_words<S: Shelf>(
     ensures usage { IsErrOf result CommandError.Usage → (request : Request) → ¬ AsksFor words.now request }
     ensures unread { ((request : Request) → ¬ AsksFor words.now request) → IsErrOf result CommandError.Usage ⊎ IsErrOf result CommandError.NoMemory }
     ensures untouched { IsErrOf result CommandError.Usage → shelf.new ≡ shelf.old }
+    ensures unasked { ((request : Request) → ¬ AsksFor words.now request) → shelf.new ≡ shelf.old }
     ensures early { IfErr result (λ e. IsEarly (status_of e) → SameHeld (S.held shelf.old) (S.held shelf.new)) }
     ensures later { IsLater (state_of S.Shelf shelf.old) (state_of S.Shelf shelf.new) }
 {
@@ -164,10 +168,11 @@ pub fn top<S: Shelf, O: Sink>(alloc: Global, words: &Words, shelf: &mut S, out: 
     // Where the inputs are there in their forms and no fault comes, all is written, want of memory aside.
     ensures complete { (request : Request) → AsksFor words.now request → IsTrue (S.tells shelf.old) → AreReady (inputs_of request (S.held shelf.old)) (S.held shelf.old) → ¬ OneRose (names_in (inputs_of request (S.held shelf.old))) (S.read_faults shelf.old) (S.read_faults shelf.new) → ¬ OneUnwritten request (state_of S.Shelf shelf.old) (state_of S.Shelf shelf.new) (sink_of O.Sink out.old) (sink_of O.Sink out.new) → AllWritten result ⊎ (result ≡ Status.NoMemory) }
 
-    // The causes: exactly where the words ask for nothing, want of memory aside, and then nothing is read;
+    // The causes: exactly where the words ask for nothing, want of memory aside, and then the shelf is as it was, whatever is answered;
     ensures usage { result ≡ Status.Usage → (request : Request) → ¬ AsksFor words.now request }
     ensures unread { ((request : Request) → ¬ AsksFor words.now request) → (result ≡ Status.Usage) ⊎ (result ≡ Status.NoMemory) }
     ensures untouched { result ≡ Status.Usage → shelf.new ≡ shelf.old }
+    ensures unasked { ((request : Request) → ¬ AsksFor words.now request) → shelf.new ≡ shelf.old }
     // exactly where an input is not in its form and those before it are, want of memory aside, and a fault of a read up to it;
     ensures inputs { (request : Request) → AsksFor words.now request → IsTrue (S.tells shelf.old) → (e : CommandError) → FirstStop (inputs_of request (S.held shelf.old)) (S.held shelf.old) e → (result ≡ status_of e) ⊎ ((result ≡ Status.ReadFault) ⊎ (result ≡ Status.NoMemory)) }
     // exactly where a simulation is given up, faults and want of memory aside.

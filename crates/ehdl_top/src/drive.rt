@@ -2,6 +2,7 @@
 
 ghost use Rattle.std.specs.Prelude.{◌≡◌, ◌≤◌, ◌<◌, ◌^◌, List, Some, All, length, map, drop, IfOk};
 ghost use Rattle.net_core.specs.View.{netlist_of};
+ghost use Rattle.net_core.specs.Clock.{first_stored};
 ghost use Rattle.verilog_read.specs.design_rules.Formed.{IsWellFormed};
 ghost use Rattle.xdp_maps.specs.Contents.{IsWithinLimits};
 ghost use Rattle.port_drive.specs.realization.Bounds.{clock_bound, most_beats};
@@ -9,8 +10,9 @@ ghost use Rattle.ehdl_top.specs.Simulation.{dumped, driven, simulation};
 ghost use Rattle.ehdl_top.specs.Steps.{StopsInside, error_of, IsGiven};
 
 use crate::error::{CommandError, NetName};
+use crate::events::open_events;
 use beat_core::Timed;
-use clock_sim::Sim;
+use clock_sim::{Clocked, Sim};
 use net_core::design::Design;
 use port_drive::{Answers, DriveError, drive, dump, load};
 use std::alloc::{AllocError, Global};
@@ -25,9 +27,13 @@ pub(crate) struct Driven {
 }
 
 // What a simulation is given up for, with the name of the net where a clock stopped.
-fn give_up(alloc: Global, sim: &Sim, error: DriveError) -> Result<CommandError, AllocError>
-    requires { StopsInside sim.now.netlist error }
-    ensures { IfOk result (λ e. error_of sim.now.netlist error ≡ Some e) }
+fn give_up<C: Clocked>(
+    alloc: Global,
+    sim: &C,
+    error: DriveError,
+) -> Result<CommandError, AllocError>
+    requires { StopsInside (C.netlist sim.now) error }
+    ensures { IfOk result (λ e. error_of (C.netlist sim.now) error ≡ Some e) }
 {
     match error {
         DriveError::X(x) => {
@@ -44,15 +50,15 @@ fn give_up(alloc: Global, sim: &Sim, error: DriveError) -> Result<CommandError, 
 }
 
 // The maps that a design shows the host, unless a clock stops.
-fn dump_design(
+fn dump_design<C: Clocked>(
     alloc: Global,
-    sim: &mut Sim,
+    sim: &mut C,
     decls: &[MapDecl],
 ) -> Result<Result<Maps, CommandError>, AllocError>
-    requires formed { IsWellFormed sim.old.netlist }
+    requires formed { IsWellFormed (C.netlist sim.old) }
     requires limits { All IsWithinLimits decls.now }
     requires few { length decls.now ≤ 16 }
-    ensures { IfOk result (λ end. end ≡ dumped sim.old.netlist sim.old.stored decls.now) }
+    ensures { IfOk result (λ end. end ≡ dumped (C.netlist sim.old) (C.stored sim.old) decls.now) }
 {
     match dump(alloc, sim, decls) {
         Ok(maps) => Ok(Ok(maps)),
@@ -65,18 +71,18 @@ fn dump_design(
 
 // Drives a design by packets whose beats are offered, and those of answers taken, at every clock, in at most so many clocks. After the
 // last answer its maps are dumped.
-fn drive_design(
+fn drive_design<C: Clocked>(
     alloc: Global,
-    sim: &mut Sim,
+    sim: &mut C,
     decls: &[MapDecl],
     packets: &[Timed],
     ifindex: u32,
     clocks: u64,
 ) -> Result<Driven, AllocError>
-    requires formed { IsWellFormed sim.old.netlist }
+    requires formed { IsWellFormed (C.netlist sim.old) }
     requires limits { All IsWithinLimits decls.now }
     requires few { length decls.now ≤ 16 }
-    ensures { IfOk result (IsGiven (driven sim.old.netlist sim.old.stored decls.now ifindex packets.now clocks)) }
+    ensures { IfOk result (IsGiven (driven (C.netlist sim.old) (C.stored sim.old) decls.now ifindex packets.now clocks)) }
 {
     let mut answers = Answers::new(alloc);
     match drive(alloc, sim, packets, ifindex, clocks, &mut answers) {
@@ -94,8 +100,37 @@ fn drive_design(
     }
 }
 
+// Simulates a design that stores its first values over packets: these maps are loaded, the packets are driven through in at most so many
+// clocks, and the maps are dumped.
+fn simulate_from_first<C: Clocked>(
+    alloc: Global,
+    sim: &mut C,
+    maps: &Maps,
+    packets: &[Timed],
+    ifindex: u32,
+    clocks: u64,
+) -> Result<Driven, AllocError>
+    requires formed { IsWellFormed (C.netlist sim.old) }
+    requires first { C.stored sim.old ≡ first_stored (C.netlist sim.old) }
+    requires limits { All IsWithinLimits maps.now.decls }
+    requires few { length maps.now.decls ≤ 16 }
+    ensures { IfOk result (IsGiven (simulation (C.netlist sim.old) maps.now ifindex packets.now clocks)) }
+{
+    let decls = maps.decls();
+    match load(sim, maps) {
+        Ok(()) => drive_design(alloc, sim, decls, packets, ifindex, clocks),
+        Err(error) => {
+            let error = give_up(alloc, sim, error)?;
+            Ok(Driven {
+                answers: Answers::new(alloc),
+                end: Err(error),
+            })
+        }
+    }
+}
+
 /// Simulates a design over packets: these maps are loaded, the packets are driven through in at most so many clocks, and the maps are
-/// dumped.
+/// dumped. Where a seed is given, a clock is settled by events, in the order of its draws, which gives the same.
 pub(crate) fn simulate_design(
     alloc: Global,
     design: Design,
@@ -103,22 +138,21 @@ pub(crate) fn simulate_design(
     packets: &[Timed],
     ifindex: u32,
     clocks: u64,
+    events: Option<u32>,
 ) -> Result<Driven, AllocError>
     requires formed { IsWellFormed (netlist_of design) }
     requires limits { All IsWithinLimits maps.now.decls }
     requires few { length maps.now.decls ≤ 16 }
     ensures { IfOk result (IsGiven (simulation (netlist_of design) maps.now ifindex packets.now clocks)) }
 {
-    let decls = maps.decls();
-    let mut sim = Sim::open(alloc, design)?;
-    match load(&mut sim, maps) {
-        Ok(()) => drive_design(alloc, &mut sim, decls, packets, ifindex, clocks),
-        Err(error) => {
-            let error = give_up(alloc, &sim, error)?;
-            Ok(Driven {
-                answers: Answers::new(alloc),
-                end: Err(error),
-            })
+    match events {
+        None => {
+            let mut sim = Sim::open(alloc, design)?;
+            simulate_from_first(alloc, &mut sim, maps, packets, ifindex, clocks)
+        }
+        Some(seed) => {
+            let mut sim = open_events(alloc, design, seed)?;
+            simulate_from_first(alloc, &mut sim, maps, packets, ifindex, clocks)
         }
     }
 }

@@ -7,6 +7,7 @@ mod compile;
 mod demo;
 mod drive;
 mod error;
+mod events;
 mod form;
 mod limits;
 mod line;

@@ -65,7 +65,7 @@ fn sim_writes<'a>(
     }
 }
 
-// Simulates a design over a capture in at most so many clocks, from these maps on.
+// Simulates a design over a capture in at most so many clocks, from these maps on, by events where a seed of their order is given.
 fn simulate<'a>(
     alloc: Global,
     files: &Files<'a>,
@@ -74,6 +74,7 @@ fn simulate<'a>(
     capture: &Captured,
     ifindex: u32,
     clocks: u32,
+    events: Option<u32>,
 ) -> Result<Simulated<'a>, AllocError>
     requires formed { IsWellFormed (netlist_of design) }
     requires limits { All IsWithinLimits maps.now.decls }
@@ -82,12 +83,21 @@ fn simulate<'a>(
     ensures { IfOk result (λ simulated. (packets : List Packet) → IsCaptureOf capture.now packets → IsSimOf (names_of files.now) (netlist_of design) maps.now ifindex clocks capture.now.magic packets simulated) }
 {
     let clocks = u64::from(clocks);
-    let driven = simulate_design(alloc, design, maps, &capture.packets, ifindex, clocks)?;
+    let driven = simulate_design(
+        alloc,
+        design,
+        maps,
+        &capture.packets,
+        ifindex,
+        clocks,
+        events,
+    )?;
     sim_writes(alloc, files, capture, driven)
 }
 
 /// Simulates a Verilog text over a capture in at most so many clocks, from the maps of a text if one is named, and writes what its ports
-/// gave and the maps in the end. Of the object only the declarations of its maps count.
+/// gave and the maps in the end. Of the object only the declarations of its maps count. Where a seed is given it simulates by events, in
+/// the order that is drawn from the seed, and what is written is the same.
 pub(crate) fn sim_files<S: Shelf>(
     alloc: Global,
     shelf: &mut S,
@@ -96,15 +106,18 @@ pub(crate) fn sim_files<S: Shelf>(
     choice: Choice,
     ifindex: u32,
     clocks: u32,
+    events: Option<u32>,
 ) -> Result<(), CommandError>
     requires { AreDistinct (names_of files.now) }
-    ensures { EndsIn (AskSim (names_of files.now) verilog.now (chosen_of choice.entry) ifindex clocks) (state_of S.Shelf shelf.old) (state_of S.Shelf shelf.new) result }
+    ensures { EndsIn (AskSim (names_of files.now) verilog.now (chosen_of choice.entry) ifindex clocks events) (state_of S.Shelf shelf.old) (state_of S.Shelf shelf.new) result }
 {
     let program = read_input(alloc, shelf, files.object, &ObjectForm { choice })?;
     let design = read_input(alloc, shelf, verilog, &TextForm)?;
     let maps = read_maps(alloc, shelf, files.maps, program.decls())?;
     let capture = read_input(alloc, shelf, files.capture, &CaptureForm)?;
-    let simulated = simulate(alloc, files, design, &maps, &capture, ifindex, clocks)?;
+    let simulated = simulate(
+        alloc, files, design, &maps, &capture, ifindex, clocks, events,
+    )?;
     let Simulated { writes, end } = simulated;
     write_all(shelf, &writes)?;
     match end {

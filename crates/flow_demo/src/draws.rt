@@ -1,8 +1,9 @@
 //! The generator of numbers.
 
-ghost use Rattle.std.specs.Prelude.{◌≡◌};
-ghost use Rattle.flow_demo.specs.Draws.{drawn, next_state};
+ghost use Rattle.std.specs.Prelude.{◌≡◌, IfOk};
+ghost use Rattle.flow_demo.specs.Draws.{drawn, next_state, first_draws};
 
+use std::alloc::{AllocError, Global};
 use std::marker::Model;
 
 /// A linear congruential generator. Contracts see its state.
@@ -41,4 +42,16 @@ impl Draws {
             .wrapping_add(1442695040888963407);
         (self.state >> 33) as u32
     }
+}
+
+/// The first draws of a seed, so many, each of 31 bits.
+pub fn first_draws(alloc: Global, seed: u32, count: usize) -> Result<Vec<u32>, AllocError>
+    ensures { IfOk result (λ draws. draws.items ≡ first_draws seed count) }
+{
+    let mut generator = Draws::new(seed);
+    let mut draws = Vec::new(alloc);
+    for _ in 0..count {
+        draws.push(generator.draw())?;
+    }
+    Ok(draws)
 }

@@ -1,5 +1,5 @@
 //! An object and a capture that are made from a number: a program that counts packets by flow, and packets for it.
-//! `demo_graph` says that this program is accepted.
+//! `demo_graph` says that this program is accepted. The generator of its numbers draws for others, too.
 #![tactic(auto)]
 
 mod capture;
@@ -11,3 +11,4 @@ mod listing;
 mod object;
 
 pub use demo::{Demo, make};
+pub use draws::first_draws;

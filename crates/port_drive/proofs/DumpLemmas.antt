@@ -5,14 +5,11 @@ use Rattle.std.proofs.lemmas.List.{append-nil, take-take, length-map, take-appen
 use Rattle.std.proofs.lemmas.List.Concat.{flat_map-append}
 use Rattle.std.proofs.lemmas.Bool.{lt-leb}
 use Rattle.std.specs.List.{flat_map}
-use Rattle.std.specs.declared.cmp.Ordering.{Ordering}
-use Rattle.std.specs.declared.cmp.Ordering.TheVariants.{Less, Equal, Greater}
-use Rattle.std.specs.Ordering.{nat_cmp, eq_by_cmp, is_eq}
+use Rattle.std.specs.Ordering.{nat_cmp, eq_by_cmp}
 use Rattle.std.specs.Cmp.Lexicographic.{slice_cmp}
 use Rattle.std.proofs.lemmas.Cmp.{nat_list_cmp_total}
 use Rattle.std.specs.FinMap as finite
 use Rattle.std.specs.FinMap.{IsAntisymmetric, nat_cmp-IsAntisymmetric, slice_cmp-IsAntisymmetric, find, get-from_entries, get-insert, same_map, from_entries_push, len-insert, len-empty}
-use Rattle.byteorder.specs.Numbers.{little_number-reads_back}
 use Rattle.beat_core.specs.Words.{low_bytes}
 use Rattle.beat_core.specs.Beats.{beat_count}
 use Rattle.xdp_maps.specs.declared.decl.MapKind.{MapKind}

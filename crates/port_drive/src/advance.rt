@@ -9,7 +9,7 @@ ghost use Rattle.clock_sim.specs.Running.{stopped_net};
 ghost use Rattle.port_drive.specs.Offering.{offered_of};
 
 use crate::left::{Left, Offer};
-use clock_sim::{Sim, XValue};
+use clock_sim::{Clocked, XValue};
 use net_core::ports::{Inputs, Outputs, SILENT};
 
 // What stands at the inputs while a beat is offered, or none.
@@ -35,15 +35,15 @@ fn inputs_with(offer: Option<Offer>) -> Inputs
 }
 
 /// One clock, in which the first beat that is left is offered. It is taken where it goes over. A clock that stops
-/// changes nothing.
-pub(crate) fn advance(sim: &mut Sim, left: &mut Left<'_>) -> Result<Outputs, XValue>
-    ensures netlist { sim.new.netlist ≡ sim.old.netlist }
-    ensures runs { OnOk result (stopping sim.old.netlist (words_of (drive_inputs left.old)) sim.old.stored ≡ None) }
-    ensures stored { OnOk result (sim.new.stored ≡ after sim.old.netlist (words_of (drive_inputs left.old)) sim.old.stored) }
-    ensures outputs { IfOk result (λ o. o ≡ outputs_of sim.old.netlist (drive_inputs left.old) sim.old.stored) }
-    ensures left { OnOk result (left.new ≡ left_after (cycle_of sim.old.netlist sim.old.stored (drive_inputs left.old)) left.old) }
-    ensures stops { IfErr result (λ x. stopped_net sim.old.netlist (words_of (drive_inputs left.old)) sim.old.stored ≡ Some x.net) }
-    ensures unchanged { OnErr result (sim.new ≡ sim.old) }
+/// leaves what is stored.
+pub(crate) fn advance<C: Clocked>(sim: &mut C, left: &mut Left<'_>) -> Result<Outputs, XValue>
+    ensures netlist { C.netlist sim.new ≡ C.netlist sim.old }
+    ensures runs { OnOk result (stopping (C.netlist sim.old) (words_of (drive_inputs left.old)) (C.stored sim.old) ≡ None) }
+    ensures stored { OnOk result (C.stored sim.new ≡ after (C.netlist sim.old) (words_of (drive_inputs left.old)) (C.stored sim.old)) }
+    ensures outputs { IfOk result (λ o. o ≡ outputs_of (C.netlist sim.old) (drive_inputs left.old) (C.stored sim.old)) }
+    ensures left { OnOk result (left.new ≡ left_after (cycle_of (C.netlist sim.old) (C.stored sim.old) (drive_inputs left.old)) left.old) }
+    ensures stops { IfErr result (λ x. stopped_net (C.netlist sim.old) (words_of (drive_inputs left.old)) (C.stored sim.old) ≡ Some x.net) }
+    ensures unchanged { OnErr result (C.stored sim.new ≡ C.stored sim.old) }
 {
     let inputs = inputs_with(left.first());
     let shown = match sim.clock(&inputs) {

@@ -9,7 +9,7 @@ use crate::answers::{Answers, take_shown};
 use crate::left::Left;
 use crate::report::{Drive, DriveError};
 use beat_core::{Bytes, Timed};
-use clock_sim::Sim;
+use clock_sim::Clocked;
 use std::alloc::Global;
 
 /// Drives a design by these frames, in at most `limit` clocks. At each clock the next beat is offered while one is
@@ -17,18 +17,18 @@ use std::alloc::Global;
 /// and the host is silent. The drive ends with the clock
 /// that takes the last beat of as many answers as there are frames, even where beats are left to offer. What was given is
 /// added to the answers, after an error too.
-pub fn drive(
+pub fn drive<C: Clocked>(
     alloc: Global,
-    sim: &mut Sim,
+    sim: &mut C,
     frames: &[Timed],
     ifindex: u32,
     limit: u64,
     answers: &mut Answers,
 ) -> Result<Drive, DriveError>
-    ensures netlist { sim.new.netlist ≡ sim.old.netlist }
-    ensures reports { Reports (full_drive sim.old.netlist ifindex sim.old.stored frames.now limit) (length frames.now) result }
-    ensures answers { Gives result answers.old answers.new (answers_given [] (full_drive sim.old.netlist ifindex sim.old.stored frames.now limit).trace) }
-    ensures stored { Leaves result sim.old.netlist sim.old.stored (full_drive sim.old.netlist ifindex sim.old.stored frames.now limit).trace sim.new.stored }
+    ensures netlist { C.netlist sim.new ≡ C.netlist sim.old }
+    ensures reports { Reports (full_drive (C.netlist sim.old) ifindex (C.stored sim.old) frames.now limit) (length frames.now) result }
+    ensures answers { Gives result answers.old answers.new (answers_given [] (full_drive (C.netlist sim.old) ifindex (C.stored sim.old) frames.now limit).trace) }
+    ensures stored { Leaves result (C.netlist sim.old) (C.stored sim.old) (full_drive (C.netlist sim.old) ifindex (C.stored sim.old) frames.now limit).trace (C.stored sim.new) }
 {
     let mut left = Left::new(frames, ifindex);
     let mut begun = Bytes::new(alloc);

@@ -17,7 +17,7 @@ use crate::answers::bytes_of_word;
 use crate::host_clock::read_word;
 use crate::report::DriveError;
 use byteorder::{ByteOrder, LittleEndian};
-use clock_sim::{Sim, XValue};
+use clock_sim::{Clocked, XValue};
 use std::alloc::Global;
 use xdp_maps::decl::{MapDecl, MapKind};
 use xdp_maps::state::Maps;
@@ -43,12 +43,12 @@ fn row_length(decl: &MapDecl) -> usize
 }
 
 // Reads the words under an index.
-fn read_row(sim: &mut Sim, map: u8, index: u16, row: &mut [u64]) -> Result<(), XValue>
+fn read_row<C: Clocked>(sim: &mut C, map: u8, index: u16, row: &mut [u64]) -> Result<(), XValue>
     requires map { map < 16 }
     requires words { length row.old ≤ 16 }
-    ensures netlist { sim.new.netlist ≡ sim.old.netlist }
-    ensures clocks { Clocks sim.old.netlist sim.old.stored (map_list (asked map index) (range_with_len 0 (length row.old))) result sim.new.stored }
-    ensures shown { OnOk result (row.new ≡ shown_words (trace sim.old.netlist sim.old.stored (map_list (asked map index) (range_with_len 0 (length row.old))))) }
+    ensures netlist { C.netlist sim.new ≡ C.netlist sim.old }
+    ensures clocks { Clocks (C.netlist sim.old) (C.stored sim.old) (map_list (asked map index) (range_with_len 0 (length row.old))) result (C.stored sim.new) }
+    ensures shown { OnOk result (row.new ≡ shown_words (trace (C.netlist sim.old) (C.stored sim.old) (map_list (asked map index) (range_with_len 0 (length row.old))))) }
 {
     for word in 0..row.len() {
         match read_word(sim, map, index, word as u8) {
@@ -136,13 +136,13 @@ fn take_row(maps: &mut Maps, map: u32, index: u32, row: &[u64])
 }
 
 // Reads what one map holds, of which nothing was taken yet.
-fn dump_map(sim: &mut Sim, maps: &mut Maps, map: u32) -> Result<(), XValue>
+fn dump_map<C: Clocked>(sim: &mut C, maps: &mut Maps, map: u32) -> Result<(), XValue>
     requires map { map < length maps.old.decls }
     requires few { map < 16 }
     requires opened { contents_at maps.old map ≡ opened (decl_at maps.old map) }
-    ensures netlist { sim.new.netlist ≡ sim.old.netlist }
-    ensures clocks { Clocks sim.old.netlist sim.old.stored (map_reads map (decl_at maps.old map)) result sim.new.stored }
-    ensures maps { OnOk result (maps.new ≡ with_contents maps.old map (contents_of (decl_at maps.old map) (cut_in_rows (decl_at maps.old map).cap (row_length (decl_at maps.old map)) (shown_words (trace sim.old.netlist sim.old.stored (map_reads map (decl_at maps.old map))))))) }
+    ensures netlist { C.netlist sim.new ≡ C.netlist sim.old }
+    ensures clocks { Clocks (C.netlist sim.old) (C.stored sim.old) (map_reads map (decl_at maps.old map)) result (C.stored sim.new) }
+    ensures maps { OnOk result (maps.new ≡ with_contents maps.old map (contents_of (decl_at maps.old map) (cut_in_rows (decl_at maps.old map).cap (row_length (decl_at maps.old map)) (shown_words (trace (C.netlist sim.old) (C.stored sim.old) (map_reads map (decl_at maps.old map))))))) }
 {
     let decl = &maps.decls()[map as usize];
     let (cap, words) = (decl.cap, row_length(decl));
@@ -162,14 +162,14 @@ fn dump_map(sim: &mut Sim, maps: &mut Maps, map: u32) -> Result<(), XValue>
 /// indexes and words ascending. Of a hash the used slots count, and of slots with one key the first; a last word's filling does
 /// not. Of a clock whose divisor is zero it gives the net, and no further clock comes. All memory is taken before the first clock.
 /// A design has four bits for the number of a map.
-pub fn dump(alloc: Global, sim: &mut Sim, decls: &[MapDecl]) -> Result<Maps, DriveError>
+pub fn dump<C: Clocked>(alloc: Global, sim: &mut C, decls: &[MapDecl]) -> Result<Maps, DriveError>
     requires limits { All IsWithinLimits decls.now }
     requires few { length decls.now ≤ 16 }
-    ensures netlist { sim.new.netlist ≡ sim.old.netlist }
-    ensures clocks { ClocksOrNone sim.old.netlist sim.old.stored (dump decls.now) result sim.new.stored }
-    ensures maps { IfOk result (λ maps. maps ≡ shown_maps decls.now (trace sim.old.netlist sim.old.stored (dump decls.now))) }
+    ensures netlist { C.netlist sim.new ≡ C.netlist sim.old }
+    ensures clocks { ClocksOrNone (C.netlist sim.old) (C.stored sim.old) (dump decls.now) result (C.stored sim.new) }
+    ensures maps { IfOk result (λ maps. maps ≡ shown_maps decls.now (trace (C.netlist sim.old) (C.stored sim.old) (dump decls.now))) }
     // Where a design shows maps, these are the ones.
-    ensures shown { (maps : MapState) → maps.decls ≡ decls.now → ShowsMaps sim.old.netlist sim.old.stored maps → AreGiven maps result }
+    ensures shown { (maps : MapState) → maps.decls ≡ decls.now → ShowsMaps (C.netlist sim.old) (C.stored sim.old) maps → AreGiven maps result }
 {
     let Ok(mut maps) = Maps::new(alloc, decls) else {
         return Err(DriveError::NoMemory);

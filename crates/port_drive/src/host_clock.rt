@@ -5,7 +5,7 @@ ghost use Rattle.net_core.specs.Ports.{outputs_of};
 ghost use Rattle.realization.specs.HostHistory.Host.{asked, written};
 ghost use Rattle.port_drive.specs.Hosting.{Clocks};
 
-use clock_sim::{Sim, XValue};
+use clock_sim::{Clocked, XValue};
 use net_core::ports::{Inputs, SILENT};
 
 fn asked(map: u8, index: u16, word: u8) -> Inputs
@@ -20,8 +20,8 @@ fn asked(map: u8, index: u16, word: u8) -> Inputs
 }
 
 /// A clock in which the host writes a word under an index of a map.
-pub(crate) fn write_word(
-    sim: &mut Sim,
+pub(crate) fn write_word<C: Clocked>(
+    sim: &mut C,
     map: u8,
     index: u16,
     word: u8,
@@ -29,8 +29,8 @@ pub(crate) fn write_word(
 ) -> Result<(), XValue>
     requires map { map < 16 }
     requires word { word < 16 }
-    ensures netlist { sim.new.netlist ≡ sim.old.netlist }
-    ensures clocks { Clocks sim.old.netlist sim.old.stored (written map index word number ∷ []) result sim.new.stored }
+    ensures netlist { C.netlist sim.new ≡ C.netlist sim.old }
+    ensures clocks { Clocks (C.netlist sim.old) (C.stored sim.old) (written map index word number ∷ []) result (C.stored sim.new) }
 {
     let inputs = Inputs {
         host_write: true,
@@ -44,12 +44,17 @@ pub(crate) fn write_word(
 }
 
 /// A clock in which the host reads a word under an index of a map.
-pub(crate) fn read_word(sim: &mut Sim, map: u8, index: u16, word: u8) -> Result<u64, XValue>
+pub(crate) fn read_word<C: Clocked>(
+    sim: &mut C,
+    map: u8,
+    index: u16,
+    word: u8,
+) -> Result<u64, XValue>
     requires map { map < 16 }
     requires word { word < 16 }
-    ensures netlist { sim.new.netlist ≡ sim.old.netlist }
-    ensures clocks { Clocks sim.old.netlist sim.old.stored (asked map index word ∷ []) result sim.new.stored }
-    ensures shown { IfOk result (λ shown. shown ≡ (outputs_of sim.old.netlist (asked map index word) sim.old.stored).host_value) }
+    ensures netlist { C.netlist sim.new ≡ C.netlist sim.old }
+    ensures clocks { Clocks (C.netlist sim.old) (C.stored sim.old) (asked map index word ∷ []) result (C.stored sim.new) }
+    ensures shown { IfOk result (λ shown. shown ≡ (outputs_of (C.netlist sim.old) (asked map index word) (C.stored sim.old)).host_value) }
 {
     match sim.clock(&asked(map, index, word)) {
         Ok(shown) => Ok(shown.host_value),

@@ -15,7 +15,7 @@ ghost use Rattle.port_drive.specs.declared.report.DriveError.TheVariants.{NoMemo
 use crate::host_clock::write_word;
 use crate::report::DriveError;
 use byteorder::{ByteOrder, LittleEndian};
-use clock_sim::{Sim, XValue};
+use clock_sim::{Clocked, XValue};
 use xdp_maps::decl::MapKind;
 use xdp_maps::laws::pair_laws;
 use xdp_maps::state::Maps;
@@ -29,11 +29,17 @@ fn first_word(rest: &[u8]) -> u64
 }
 
 // Writes bytes from a word on.
-fn write_bytes(sim: &mut Sim, map: u8, index: u16, first: u8, bytes: &[u8]) -> Result<(), XValue>
+fn write_bytes<C: Clocked>(
+    sim: &mut C,
+    map: u8,
+    index: u16,
+    first: u8,
+    bytes: &[u8],
+) -> Result<(), XValue>
     requires map { map < 16 }
     requires room { first + beat_count (length bytes.now) ≤ 16 }
-    ensures netlist { sim.new.netlist ≡ sim.old.netlist }
-    ensures clocks { Clocks sim.old.netlist sim.old.stored (row_writes map index first (words_of bytes.now)) result sim.new.stored }
+    ensures netlist { C.netlist sim.new ≡ C.netlist sim.old }
+    ensures clocks { Clocks (C.netlist sim.old) (C.stored sim.old) (row_writes map index first (words_of bytes.now)) result (C.stored sim.new) }
 {
     let mut rest = bytes;
     let mut word = first;
@@ -49,11 +55,17 @@ fn write_bytes(sim: &mut Sim, map: u8, index: u16, first: u8, bytes: &[u8]) -> R
 }
 
 // Writes an entry into a slot.
-fn write_slot(sim: &mut Sim, map: u8, index: u16, key: &[u8], value: &[u8]) -> Result<(), XValue>
+fn write_slot<C: Clocked>(
+    sim: &mut C,
+    map: u8,
+    index: u16,
+    key: &[u8],
+    value: &[u8],
+) -> Result<(), XValue>
     requires map { map < 16 }
     requires room { 1 + beat_count (length key.now) + beat_count (length value.now) ≤ 16 }
-    ensures netlist { sim.new.netlist ≡ sim.old.netlist }
-    ensures clocks { Clocks sim.old.netlist sim.old.stored (row_writes map index 0 (slot_of (key.now, value.now))) result sim.new.stored }
+    ensures netlist { C.netlist sim.new ≡ C.netlist sim.old }
+    ensures clocks { Clocks (C.netlist sim.old) (C.stored sim.old) (row_writes map index 0 (slot_of (key.now, value.now))) result (C.stored sim.new) }
 {
     match write_word(sim, map, index, 0, 1) {
         Ok(()) => {}
@@ -68,8 +80,8 @@ fn write_slot(sim: &mut Sim, map: u8, index: u16, key: &[u8], value: &[u8]) -> R
 }
 
 // Writes what there is under an index: of a hash a used slot or an unused one, of an array a value.
-fn write_row(
-    sim: &mut Sim,
+fn write_row<C: Clocked>(
+    sim: &mut C,
     map: u8,
     index: u16,
     kind: MapKind,
@@ -79,8 +91,8 @@ fn write_row(
     requires map { map < 16 }
     requires key { length key.now ≤ 40 }
     requires value { IfSome (option_copied value) (λ v. length v ≤ 64) }
-    ensures netlist { sim.new.netlist ≡ sim.old.netlist }
-    ensures clocks { Clocks sim.old.netlist sim.old.stored (row_writes map index 0 (row_with kind key.now (option_copied value.entry))) result sim.new.stored }
+    ensures netlist { C.netlist sim.new ≡ C.netlist sim.old }
+    ensures clocks { Clocks (C.netlist sim.old) (C.stored sim.old) (row_writes map index 0 (row_with kind key.now (option_copied value.entry))) result (C.stored sim.new) }
 {
     match (kind, value) {
         (MapKind::Hash, Some(value)) => write_slot(sim, map, index, key, value),
@@ -91,11 +103,11 @@ fn write_row(
 }
 
 // Writes what one map holds.
-fn load_map(sim: &mut Sim, maps: &Maps, map: u32) -> Result<(), XValue>
+fn load_map<C: Clocked>(sim: &mut C, maps: &Maps, map: u32) -> Result<(), XValue>
     requires map { map < length maps.now.decls }
     requires few { map < 16 }
-    ensures netlist { sim.new.netlist ≡ sim.old.netlist }
-    ensures clocks { Clocks sim.old.netlist sim.old.stored (map_writes map 0 (rows_of (decl_at maps.now map) (contents_at maps.now map))) result sim.new.stored }
+    ensures netlist { C.netlist sim.new ≡ C.netlist sim.old }
+    ensures clocks { Clocks (C.netlist sim.old) (C.stored sim.old) (map_writes map 0 (rows_of (decl_at maps.now map) (contents_at maps.now map))) result (C.stored sim.new) }
 {
     pair_laws();
     let decl = &maps.decls()[map as usize];
@@ -115,10 +127,10 @@ fn load_map(sim: &mut Sim, maps: &Maps, map: u32) -> Result<(), XValue>
 /// ascending. An array's entries stand under their indexes; a hash's stand in the first slots in the order of their keys, and
 /// the other slots are written as unused. Of a clock whose divisor is zero it gives the net, and no further clock comes. It takes
 /// no memory. A design has four bits for the number of a map.
-pub fn load(sim: &mut Sim, maps: &Maps) -> Result<(), DriveError>
+pub fn load<C: Clocked>(sim: &mut C, maps: &Maps) -> Result<(), DriveError>
     requires few { length maps.now.decls ≤ 16 }
-    ensures netlist { sim.new.netlist ≡ sim.old.netlist }
-    ensures clocks { ClocksOrNone sim.old.netlist sim.old.stored (load maps.now) result sim.new.stored }
+    ensures netlist { C.netlist sim.new ≡ C.netlist sim.old }
+    ensures clocks { ClocksOrNone (C.netlist sim.old) (C.stored sim.old) (load maps.now) result (C.stored sim.new) }
     ensures memory { IfErr result (λ e. e ≢ NoMemory) }
 {
     for map in 0..maps.decls().len() {

@@ -32,6 +32,9 @@ returns-in-Ok-clause-early g c = early_of (request_of c.in-Ok.command) (state_of
 pub returns-in-Ok-clause-unread : goal.returns-in-Ok-clause-unread
 returns-in-Ok-clause-unread g c = λ none. absurd (none (request_of c.in-Ok.command) c.in-Ok.ensures.ok)
 
+pub returns-in-Ok-clause-unasked : goal.returns-in-Ok-clause-unasked
+returns-in-Ok-clause-unasked g c = λ none. absurd (none (request_of c.in-Ok.command) c.in-Ok.ensures.ok)
+
 pub returns-in-Err-NoMemory-clause-ends : goal.returns-in-Err-NoMemory-clause-ends
 returns-in-Err-NoMemory-clause-ends g c = λ request asks. out_of_memory request (state_of g.S.Shelf c.args.shelf.now)
 

@@ -52,6 +52,9 @@ returns-clause-untouched g c = finished_usage c.args.words.now (state_of g.S.She
 pub returns-clause-unread : goal.returns-clause-unread
 returns-clause-unread g c = λ none. finished_unread c.args.words.now (state_of g.S.Shelf c.args.shelf.now) (state_of g.S.Shelf c.run_words-end.new.shelf) (sink_of g.O.Sink c.args.out.now) (sink_of g.O.Sink c.finish.new.out) c.finish.result c.run_words-end.result (c.run_words-end.ensures.unread none) c.finish.ensures.finished
 
+pub returns-clause-unasked : goal.returns-clause-unasked
+returns-clause-unasked g c = c.run_words-end.ensures.unasked
+
 pub returns-clause-early : goal.returns-clause-early
 returns-clause-early g c = finished_early c.args.words.now (state_of g.S.Shelf c.args.shelf.now) (state_of g.S.Shelf c.run_words-end.new.shelf) (sink_of g.O.Sink c.args.out.now) (sink_of g.O.Sink c.finish.new.out) c.finish.result c.run_words-end.result c.run_words-end.ensures.early c.finish.ensures.finished
 

@@ -40,7 +40,7 @@ returns-in_err-design g c =
     let first = state_of g.S.Shelf c.read_input.new.shelf in
     let new = state_of g.S.Shelf c.read_input-2.new.shelf in
     let object = c.in_ok-program.ensures.read in
-    ends_unread (AskSim names c.args.verilog.now choice c.args.ifindex c.args.clocks) old first new c.in_err-design.field-0.0 c.read_input.ensures.kept c.read_input-2.ensures.kept c.from_residual-in_err-design.result
+    ends_unread (AskSim names c.args.verilog.now choice c.args.ifindex c.args.clocks c.args.events) old first new c.in_err-design.field-0.0 c.read_input.ensures.kept c.read_input-2.ensures.kept c.from_residual-in_err-design.result
     (input names.object (object_form choice) ∷ []) (input c.args.verilog.now text_form) (may_input names.maps (maps_form (held_decls choice (old.held names.object))) ++ input names.capture capture_form ∷ []) c.from_residual-in_err-design.ensures.1 refl
     (λ told. (was_ready (object_form choice) names.object old old object.0 (changes_none old) object.1 told, tt)) c.in_err-design.ensures.unread
 
@@ -54,7 +54,7 @@ returns-in_err-maps g c =
     let new = state_of g.S.Shelf c.read_maps.new.shelf in
     let object = c.in_ok-program.ensures.read in
     let text = c.in_ok-design.ensures.read in
-    ends_mapless (AskSim names c.args.verilog.now choice c.args.ifindex c.args.clocks) old second new c.in_err-maps.field-0.0 (changes_then [] old first second c.read_input.ensures.kept c.read_input-2.ensures.kept) c.read_maps.ensures.kept c.from_residual-in_err-maps.result
+    ends_mapless (AskSim names c.args.verilog.now choice c.args.ifindex c.args.clocks c.args.events) old second new c.in_err-maps.field-0.0 (changes_then [] old first second c.read_input.ensures.kept c.read_input-2.ensures.kept) c.read_maps.ensures.kept c.from_residual-in_err-maps.result
     (input names.object (object_form choice) ∷ input c.args.verilog.now text_form ∷ []) (input names.capture capture_form ∷ []) names.maps c.decls.result.now (held_decls choice (old.held names.object)) c.from_residual-in_err-maps.ensures.1 refl
     (λ told. (
       was_ready (object_form choice) names.object old old object.0 (changes_none old) object.1 told,
@@ -75,7 +75,7 @@ returns-in_err-capture g c =
     let text = c.in_ok-design.ensures.read in
     let both = changes_then [] old first second c.read_input.ensures.kept c.read_input-2.ensures.kept in
     let declared = held_decls choice (old.held names.object) in
-    ends_unread (AskSim names c.args.verilog.now choice c.args.ifindex c.args.clocks) old third new c.in_err-capture.field-0.0 (changes_then [] old second third both c.read_maps.ensures.kept) c.read_input-3.ensures.kept c.from_residual-in_err-capture.result
+    ends_unread (AskSim names c.args.verilog.now choice c.args.ifindex c.args.clocks c.args.events) old third new c.in_err-capture.field-0.0 (changes_then [] old second third both c.read_maps.ensures.kept) c.read_input-3.ensures.kept c.from_residual-in_err-capture.result
     (input names.object (object_form choice) ∷ input c.args.verilog.now text_form ∷ may_input names.maps (maps_form declared)) (input names.capture capture_form) [] c.from_residual-in_err-capture.ensures.1 refl
     (λ told. (
       was_ready (object_form choice) names.object old old object.0 (changes_none old) object.1 told,
@@ -90,7 +90,7 @@ returns-in_err-capture g c =
 pub returns-in_err-write_all : goal.returns-in_err-write_all
 returns-in_err-write_all g c =
     let names = names_of c.args.files.now in
-    let request = AskSim names c.args.verilog.now (chosen_of c.args.choice) c.args.ifindex c.args.clocks in
+    let request = AskSim names c.args.verilog.now (chosen_of c.args.choice) c.args.ifindex c.args.clocks c.args.events in
     let old = state_of g.S.Shelf c.args.shelf.now in
     let first = state_of g.S.Shelf c.read_input.new.shelf in
     let second = state_of g.S.Shelf c.read_input-2.new.shelf in
@@ -107,7 +107,7 @@ returns-in_err-write_all g c =
     let same = changes_then [] old third mid all c.read_input-3.ensures.kept in
     let of = of_as (outputs_of request) (map write_of simulated.writes.items) (sim_outputs names c.in_ok-capture.capture.magic capture.2.packets sim.given).writes sim.writes_are
     (result_outputs_of names c.in_ok-capture.capture.magic capture.2.packets sim.given.answers (final_text sim.given.end)) in
-    let makes = sim_makes names c.args.verilog.now (chosen_of c.args.choice) c.args.ifindex c.args.clocks old first second third object.0 text.0 capture.0 c.in_ok-program.program (netlist_of c.in_ok-design.design) c.in_ok-maps.maps c.in_ok-capture.capture.magic capture.2.packets simulated c.requires c.read_input.ensures.kept both all
+    let makes = sim_makes names c.args.verilog.now (chosen_of c.args.choice) c.args.ifindex c.args.clocks c.args.events old first second third object.0 text.0 capture.0 c.in_ok-program.program (netlist_of c.in_ok-design.design) c.in_ok-maps.maps c.in_ok-capture.capture.magic capture.2.packets simulated c.requires c.read_input.ensures.kept both all
     object.1 object.2 text.1 text.2 (read_as names.maps _ _ second c.in_ok-maps.maps c.decls.ensures.decls c.in_ok-maps.ensures.read) capture.1 capture.2.is sim in
     let P : List code.Write → Type 0 = λ ws. OneFailed (map write_of ws) mid new in
     ends_unwritten request simulated.end old mid new (map write_of simulated.writes.items) c.from_residual-in_err-write_all.result c.from_residual-in_err-write_all.ensures.1 of same makes (subst P c.deref.ensures.value c.in_err-write_all.ensures.failed)
@@ -115,7 +115,7 @@ returns-in_err-write_all g c =
 pub returns-in-None : goal.returns-in-None
 returns-in-None g c =
     let names = names_of c.args.files.now in
-    let request = AskSim names c.args.verilog.now (chosen_of c.args.choice) c.args.ifindex c.args.clocks in
+    let request = AskSim names c.args.verilog.now (chosen_of c.args.choice) c.args.ifindex c.args.clocks c.args.events in
     let old = state_of g.S.Shelf c.args.shelf.now in
     let first = state_of g.S.Shelf c.read_input.new.shelf in
     let second = state_of g.S.Shelf c.read_input-2.new.shelf in
@@ -132,7 +132,7 @@ returns-in-None g c =
     let same = changes_then [] old third mid all c.read_input-3.ensures.kept in
     let of = of_as (outputs_of request) (map write_of simulated.writes.items) (sim_outputs names c.in_ok-capture.capture.magic capture.2.packets sim.given).writes sim.writes_are
     (result_outputs_of names c.in_ok-capture.capture.magic capture.2.packets sim.given.answers (final_text sim.given.end)) in
-    let makes = sim_makes names c.args.verilog.now (chosen_of c.args.choice) c.args.ifindex c.args.clocks old first second third object.0 text.0 capture.0 c.in_ok-program.program (netlist_of c.in_ok-design.design) c.in_ok-maps.maps c.in_ok-capture.capture.magic capture.2.packets simulated c.requires c.read_input.ensures.kept both all
+    let makes = sim_makes names c.args.verilog.now (chosen_of c.args.choice) c.args.ifindex c.args.clocks c.args.events old first second third object.0 text.0 capture.0 c.in_ok-program.program (netlist_of c.in_ok-design.design) c.in_ok-maps.maps c.in_ok-capture.capture.magic capture.2.packets simulated c.requires c.read_input.ensures.kept both all
     object.1 object.2 text.1 text.2 (read_as names.maps _ _ second c.in_ok-maps.maps c.decls.ensures.decls c.in_ok-maps.ensures.read) capture.1 capture.2.is sim in
     let P : List code.Write → Type 0 = λ ws. AreDone (map write_of ws) mid new in
     let Q : Option CommandError → Type 0 = λ end. Makes request old.held end (map write_of simulated.writes.items) in
@@ -141,7 +141,7 @@ returns-in-None g c =
 pub returns : goal.returns
 returns g c =
     let names = names_of c.args.files.now in
-    let request = AskSim names c.args.verilog.now (chosen_of c.args.choice) c.args.ifindex c.args.clocks in
+    let request = AskSim names c.args.verilog.now (chosen_of c.args.choice) c.args.ifindex c.args.clocks c.args.events in
     let old = state_of g.S.Shelf c.args.shelf.now in
     let first = state_of g.S.Shelf c.read_input.new.shelf in
     let second = state_of g.S.Shelf c.read_input-2.new.shelf in
@@ -158,11 +158,11 @@ returns g c =
     let same = changes_then [] old third mid all c.read_input-3.ensures.kept in
     let of = of_as (outputs_of request) (map write_of simulated.writes.items) (sim_outputs names c.in_ok-capture.capture.magic capture.2.packets sim.given).writes sim.writes_are
     (result_outputs_of names c.in_ok-capture.capture.magic capture.2.packets sim.given.answers (final_text sim.given.end)) in
-    let makes = sim_makes names c.args.verilog.now (chosen_of c.args.choice) c.args.ifindex c.args.clocks old first second third object.0 text.0 capture.0 c.in_ok-program.program (netlist_of c.in_ok-design.design) c.in_ok-maps.maps c.in_ok-capture.capture.magic capture.2.packets simulated c.requires c.read_input.ensures.kept both all
+    let makes = sim_makes names c.args.verilog.now (chosen_of c.args.choice) c.args.ifindex c.args.clocks c.args.events old first second third object.0 text.0 capture.0 c.in_ok-program.program (netlist_of c.in_ok-design.design) c.in_ok-maps.maps c.in_ok-capture.capture.magic capture.2.packets simulated c.requires c.read_input.ensures.kept both all
     object.1 object.2 text.1 text.2 (read_as names.maps _ _ second c.in_ok-maps.maps c.decls.ensures.decls c.in_ok-maps.ensures.read) capture.1 capture.2.is sim in
     let P : List code.Write → Type 0 = λ ws. AreDone (map write_of ws) mid new in
     let Q : Option CommandError → Type 0 = λ end. Makes request old.held end (map write_of simulated.writes.items) in
     ends_driven request c.in-Some.error old mid new (map write_of simulated.writes.items)
     (subst (λ (end : Option CommandError). EndsItself request (ended end)) (sym (ap (λ (given : Simulation). given_up given.end) sim.is_given) ∙ sym sim.end_is ∙ c.in-Some.is)
-    (sim_ends names c.args.verilog.now (chosen_of c.args.choice) c.args.ifindex c.args.clocks (netlist_of c.in_ok-design.design) c.in_ok-maps.maps c.args.ifindex (timed_packets c.in_ok-capture.capture.magic capture.2.packets)))
+    (sim_ends names c.args.verilog.now (chosen_of c.args.choice) c.args.ifindex c.args.clocks c.args.events (netlist_of c.in_ok-design.design) c.in_ok-maps.maps c.args.ifindex (timed_packets c.in_ok-capture.capture.magic capture.2.packets)))
     of same (λ told. subst Q c.in-Some.is (makes told)) (subst P c.deref.ensures.value c.in_ok-write_all.ensures.done)

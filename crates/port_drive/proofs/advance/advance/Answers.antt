@@ -7,48 +7,48 @@ use Rattle.port_drive.proofs.BeatLemmas.{inputs_are, left_gone, left_stays}
 use Rattle.port_drive.proofs.advance.advance.Goals as goal
 
 pub returns-in-Err-clause-stops : goal.returns-in-Err-clause-stops
-returns-in-Err-clause-stops c =
+returns-in-Err-clause-stops g c =
     let is : c.inputs_with-inputs.result ≡ drive_inputs c.args.left.now = c.inputs_with-inputs.ensures ∙ ap inputs_with c.first.ensures.first ∙ inputs_are c.args.left.now in
     rw (← is) c.in-Err.ensures.stops
 
 pub returns-then-shown-clause-runs : goal.returns-then-shown-clause-runs
-returns-then-shown-clause-runs c =
+returns-then-shown-clause-runs g c =
     let is : c.inputs_with-inputs.result ≡ drive_inputs c.args.left.now = c.inputs_with-inputs.ensures ∙ ap inputs_with c.first.ensures.first ∙ inputs_are c.args.left.now in
     rw (← is) c.in-Ok.ensures.runs
 
 pub returns-then-shown-clause-stored : goal.returns-then-shown-clause-stored
-returns-then-shown-clause-stored c =
+returns-then-shown-clause-stored g c =
     let is : c.inputs_with-inputs.result ≡ drive_inputs c.args.left.now = c.inputs_with-inputs.ensures ∙ ap inputs_with c.first.ensures.first ∙ inputs_are c.args.left.now in
-    rw (← is) (clock_leaves c.args.sim.now.netlist (words_of c.inputs_with-inputs.result) c.args.sim.now.stored _ c.in-Ok.ensures.runs c.in-Ok.ensures.stored)
+    rw (← is) (clock_leaves (g.C.Clocked.netlist c.args.sim.now) (words_of c.inputs_with-inputs.result) (g.C.Clocked.stored c.args.sim.now) _ c.in-Ok.ensures.runs c.in-Ok.ensures.stored)
 
 pub returns-then-shown-clause-outputs : goal.returns-then-shown-clause-outputs
-returns-then-shown-clause-outputs c =
+returns-then-shown-clause-outputs g c =
     let is : c.inputs_with-inputs.result ≡ drive_inputs c.args.left.now = c.inputs_with-inputs.ensures ∙ ap inputs_with c.first.ensures.first ∙ inputs_are c.args.left.now in
     rw (← is) c.in-Ok.ensures.outputs
 
 pub returns-then-shown-clause-left : goal.returns-then-shown-clause-left
-returns-then-shown-clause-left c =
+returns-then-shown-clause-left g c =
     let is : c.inputs_with-inputs.result ≡ drive_inputs c.args.left.now = c.inputs_with-inputs.ensures ∙ ap inputs_with c.first.ensures.first ∙ inputs_are c.args.left.now in
     let shown = ap (λ o. o.in_ready) (rw is at c.in-Ok.ensures.outputs) in
-    c.take.ensures ∙ ap (λ l. drop 1 l) c.first.ensures.same ∙ sym (left_gone (cycle_of c.args.sim.now.netlist c.args.sim.now.stored (drive_inputs c.args.left.now)) c.args.left.now refl (sym shown ∙ c.if-shown.true))
+    c.take.ensures ∙ ap (λ l. drop 1 l) c.first.ensures.same ∙ sym (left_gone (cycle_of (g.C.Clocked.netlist c.args.sim.now) (g.C.Clocked.stored c.args.sim.now) (drive_inputs c.args.left.now)) c.args.left.now refl (sym shown ∙ c.if-shown.true))
 
 pub returns-else-shown-clause-runs : goal.returns-else-shown-clause-runs
-returns-else-shown-clause-runs c =
+returns-else-shown-clause-runs g c =
     let is : c.inputs_with-inputs.result ≡ drive_inputs c.args.left.now = c.inputs_with-inputs.ensures ∙ ap inputs_with c.first.ensures.first ∙ inputs_are c.args.left.now in
     rw (← is) c.in-Ok.ensures.runs
 
 pub returns-else-shown-clause-stored : goal.returns-else-shown-clause-stored
-returns-else-shown-clause-stored c =
+returns-else-shown-clause-stored g c =
     let is : c.inputs_with-inputs.result ≡ drive_inputs c.args.left.now = c.inputs_with-inputs.ensures ∙ ap inputs_with c.first.ensures.first ∙ inputs_are c.args.left.now in
-    rw (← is) (clock_leaves c.args.sim.now.netlist (words_of c.inputs_with-inputs.result) c.args.sim.now.stored _ c.in-Ok.ensures.runs c.in-Ok.ensures.stored)
+    rw (← is) (clock_leaves (g.C.Clocked.netlist c.args.sim.now) (words_of c.inputs_with-inputs.result) (g.C.Clocked.stored c.args.sim.now) _ c.in-Ok.ensures.runs c.in-Ok.ensures.stored)
 
 pub returns-else-shown-clause-outputs : goal.returns-else-shown-clause-outputs
-returns-else-shown-clause-outputs c =
+returns-else-shown-clause-outputs g c =
     let is : c.inputs_with-inputs.result ≡ drive_inputs c.args.left.now = c.inputs_with-inputs.ensures ∙ ap inputs_with c.first.ensures.first ∙ inputs_are c.args.left.now in
     rw (← is) c.in-Ok.ensures.outputs
 
 pub returns-else-shown-clause-left : goal.returns-else-shown-clause-left
-returns-else-shown-clause-left c =
+returns-else-shown-clause-left g c =
     let is : c.inputs_with-inputs.result ≡ drive_inputs c.args.left.now = c.inputs_with-inputs.ensures ∙ ap inputs_with c.first.ensures.first ∙ inputs_are c.args.left.now in
     let shown = ap (λ o. o.in_ready) (rw is at c.in-Ok.ensures.outputs) in
-    c.first.ensures.same ∙ sym (left_stays (cycle_of c.args.sim.now.netlist c.args.sim.now.stored (drive_inputs c.args.left.now)) c.args.left.now (sym shown ∙ c.if-shown.false))
+    c.first.ensures.same ∙ sym (left_stays (cycle_of (g.C.Clocked.netlist c.args.sim.now) (g.C.Clocked.stored c.args.sim.now) (drive_inputs c.args.left.now)) c.args.left.now (sym shown ∙ c.if-shown.false))

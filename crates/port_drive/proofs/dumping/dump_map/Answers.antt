@@ -10,13 +10,13 @@ use Rattle.port_drive.proofs.DumpSteps.{read_first, read_on, rows_from, rows-nex
 use Rattle.port_drive.proofs.dumping.dump_map.Goals as goal
 
 pub loop-index-init : goal.loop-index-init
-loop-index-init c = record {
+loop-index-init g c = record {
   netlist = refl;
-  read = read_first c.args.sim.now.netlist c.args.sim.now.stored c.args.maps.now c.args.map (decl_at c.args.maps.now c.args.map) c.requires.opened;
+  read = read_first (g.C.Clocked.netlist c.args.sim.now) (g.C.Clocked.stored c.args.sim.now) c.args.maps.now c.args.map (decl_at c.args.maps.now c.args.map) c.requires.opened;
 }
 
 pub returns-in-Err-clause-clocks : goal.returns-in-Err-clause-clocks
-returns-in-Err-clause-clocks c =
+returns-in-Err-clause-clocks g c =
     let old = c.args.maps.now in
     let m = c.args.map in
     let i = c.loop-index.index in
@@ -24,10 +24,10 @@ returns-in-Err-clause-clocks c =
     let n = length c.loop-index.row in
     let words : n ≡ row_length (decl_at old m) = c.loop-index.auto.row ∙ length-take-le c.row_length-words.result _ c.row_length-words.ensures.few ∙ c.row_length-words.ensures.words ∙ ap row_length decl in
     let lt : i < (decl_at old m).cap = omega (arith, c.loop-index-test.true, ap (λ d. d.cap) decl) in
-    stops_in c.args.sim.now.netlist c.args.sim.now.stored _ (map (asked m i) (range_with_len 0 n)) (rows_from m (decl_at old m) (i + 1)) _ c.loop-index.sim.stored c.read_row.new.sim.stored c.in-Err.stopped.net c.loop-index.invariant.read.way (rows-next m (decl_at old m) i lt ∙ ap (λ k. map (asked m i) (range_with_len 0 k) ++ rows_from m (decl_at old m) (i + 1)) (sym words)) (rw c.loop-index.invariant.netlist at c.in-Err.ensures.clocks)
+    stops_in (g.C.Clocked.netlist c.args.sim.now) (g.C.Clocked.stored c.args.sim.now) _ (map (asked m i) (range_with_len 0 n)) (rows_from m (decl_at old m) (i + 1)) _ (g.C.Clocked.stored c.loop-index.sim) (g.C.Clocked.stored c.read_row.new.sim) c.in-Err.stopped.net c.loop-index.invariant.read.way (rows-next m (decl_at old m) i lt ∙ ap (λ k. map (asked m i) (range_with_len 0 k) ++ rows_from m (decl_at old m) (i + 1)) (sym words)) (rw c.loop-index.invariant.netlist at c.in-Err.ensures.clocks)
 
 pub loop-index-preserved : goal.loop-index-preserved
-loop-index-preserved c =
+loop-index-preserved g c =
     let old = c.args.maps.now in
     let m = c.args.map in
     let i = c.loop-index.index in
@@ -38,5 +38,5 @@ loop-index-preserved c =
     let room : m < length old.contents = omega (arith, c.decls.ensures.sound.beside, c.requires.map) in
     record {
       netlist = c.in-Ok.ensures.netlist ∙ c.loop-index.invariant.netlist;
-      read = read_on c.args.sim.now.netlist c.args.sim.now.stored old m i c.loop-index.sim.stored c.loop-index.maps c.loop-index.invariant.read room n c.read_row.new.row c.read_row.new.sim.stored c.take_row.new.maps words lt c.read_row.auto.row (rw c.loop-index.invariant.netlist at c.in-Ok.ensures.shown) (rw c.loop-index.invariant.netlist at c.in-Ok.ensures.clocks) c.take_row.ensures;
+      read = read_on (g.C.Clocked.netlist c.args.sim.now) (g.C.Clocked.stored c.args.sim.now) old m i (g.C.Clocked.stored c.loop-index.sim) c.loop-index.maps c.loop-index.invariant.read room n c.read_row.new.row (g.C.Clocked.stored c.read_row.new.sim) c.take_row.new.maps words lt c.read_row.auto.row (rw c.loop-index.invariant.netlist at c.in-Ok.ensures.shown) (rw c.loop-index.invariant.netlist at c.in-Ok.ensures.clocks) c.take_row.ensures;
     }

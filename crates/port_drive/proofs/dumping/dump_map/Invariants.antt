@@ -4,7 +4,7 @@ use Rattle.port_drive.proofs.DumpSteps.{ReadSoFar}
 use Rattle.port_drive.proofs.dumping.dump_map.Given as goal
 
 abbrev pub invariant-loop-index : goal.invariant-loop-index
-invariant-loop-index l = record {
-  netlist : l.sim.netlist ≡ l.initial.sim.netlist;
-  read : ReadSoFar l.initial.sim.netlist l.initial.sim.stored l.initial.maps l.map (decl_at l.initial.maps l.map) l.index l.sim.stored l.maps;
+invariant-loop-index g l = record {
+  netlist : g.C.Clocked.netlist l.sim ≡ g.C.Clocked.netlist l.initial.sim;
+  read : ReadSoFar (g.C.Clocked.netlist l.initial.sim) (g.C.Clocked.stored l.initial.sim) l.initial.maps l.map (decl_at l.initial.maps l.map) l.index (g.C.Clocked.stored l.sim) l.maps;
 }

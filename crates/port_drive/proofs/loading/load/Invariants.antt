@@ -4,7 +4,7 @@ use Rattle.port_drive.proofs.HostClocks.{UnderWay}
 use Rattle.port_drive.proofs.loading.load.Given as goal
 
 abbrev pub invariant-loop-map : goal.invariant-loop-map
-invariant-loop-map l = record {
-  netlist : l.sim.netlist ≡ l.initial.sim.netlist;
-  way : UnderWay l.initial.sim.netlist l.initial.sim.stored (load l.maps) (writes l.map (drop l.map l.maps.decls) (drop l.map l.maps.contents)) l.sim.stored;
+invariant-loop-map g l = record {
+  netlist : g.C.Clocked.netlist l.sim ≡ g.C.Clocked.netlist l.initial.sim;
+  way : UnderWay (g.C.Clocked.netlist l.initial.sim) (g.C.Clocked.stored l.initial.sim) (load l.maps) (writes l.map (drop l.map l.maps.decls) (drop l.map l.maps.contents)) (g.C.Clocked.stored l.sim);
 }

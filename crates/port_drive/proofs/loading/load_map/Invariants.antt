@@ -6,7 +6,7 @@ use Rattle.port_drive.proofs.HostClocks.{UnderWay}
 use Rattle.port_drive.proofs.loading.load_map.Given as goal
 
 abbrev pub invariant-loop-index : goal.invariant-loop-index
-invariant-loop-index l = record {
-  netlist : l.sim.netlist ≡ l.initial.sim.netlist;
-  way : UnderWay l.initial.sim.netlist l.initial.sim.stored (map_writes l.map 0 (rows_of (decl_at l.maps l.map) (contents_at l.maps l.map))) (map_writes l.map l.index (drop l.index (rows_of (decl_at l.maps l.map) (contents_at l.maps l.map)))) l.sim.stored;
+invariant-loop-index g l = record {
+  netlist : g.C.Clocked.netlist l.sim ≡ g.C.Clocked.netlist l.initial.sim;
+  way : UnderWay (g.C.Clocked.netlist l.initial.sim) (g.C.Clocked.stored l.initial.sim) (map_writes l.map 0 (rows_of (decl_at l.maps l.map) (contents_at l.maps l.map))) (map_writes l.map l.index (drop l.index (rows_of (decl_at l.maps l.map) (contents_at l.maps l.map)))) (g.C.Clocked.stored l.sim);
 }

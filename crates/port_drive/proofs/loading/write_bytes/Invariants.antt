@@ -6,11 +6,11 @@ use Rattle.port_drive.proofs.HostClocks.{UnderWay}
 use Rattle.port_drive.proofs.loading.write_bytes.Given as goal
 
 abbrev pub invariant-loop-rest : goal.invariant-loop-rest
-invariant-loop-rest l = record {
-  netlist : l.sim.netlist ≡ l.initial.sim.netlist;
-  way : UnderWay l.initial.sim.netlist l.initial.sim.stored (row_writes l.map l.index l.first (words_of l.bytes)) (row_writes l.map l.index l.word (words_of l.rest)) l.sim.stored;
+invariant-loop-rest g l = record {
+  netlist : g.C.Clocked.netlist l.sim ≡ g.C.Clocked.netlist l.initial.sim;
+  way : UnderWay (g.C.Clocked.netlist l.initial.sim) (g.C.Clocked.stored l.initial.sim) (row_writes l.map l.index l.first (words_of l.bytes)) (row_writes l.map l.index l.word (words_of l.rest)) (g.C.Clocked.stored l.sim);
   room : l.word + beat_count (length l.rest) ≤ 16;
 }
 
 abbrev pub decreases-loop-rest : goal.decreases-loop-rest
-decreases-loop-rest l = length l.rest
+decreases-loop-rest g l = length l.rest

@@ -16,7 +16,7 @@ use Rattle.net_core.specs.Suits.{IsOfWidth, Suits}
 use Rattle.net_core.proofs.WidthLaws.{value_fits, right_fits}
 use Rattle.list_laws.proofs.PlaceLaws.{some_below}
 use Rattle.clock_sim.specs.Ready.{ArePorts, IsStored}
-use Rattle.clock_sim.proofs.StoredLemmas.{same_sides, done_kept}
+use Rattle.clock_sim.proofs.StoredLaws.{same_sides, done_kept}
 
 -- what has a width is there
 pair_there : (ns : List (ℕ × ℕ)) (i : ℕ) → 0 < (get_or ns i (0, 0)).1 → i < length ns

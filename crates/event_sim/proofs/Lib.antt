@@ -1,0 +1,12 @@
+pub mod Locality
+pub mod Ending
+pub mod Settling
+pub mod Ended
+pub mod Blocks
+pub mod Operands
+pub mod Reading
+pub mod States
+pub mod Choices
+pub mod Walks
+pub mod Edges
+pub mod Clocking

@@ -1,0 +1,9 @@
+pub mod Events
+pub mod Orders
+pub mod Ends
+pub mod Readable
+pub mod Shapes
+pub mod Showing
+pub mod Refusals
+pub mod Views
+pub mod Inside
