@@ -1,9 +1,8 @@
 //! The calls that know no shelf and no sink.
 
-use crate::beats;
 use crate::known::Known;
-use crate::readers;
 use crate::words::words_of;
+use crate::{beats, readers};
 use anyhow::{Result, bail};
 use command_line::read_words;
 use std::alloc::Global;
