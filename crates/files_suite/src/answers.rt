@@ -1,8 +1,8 @@
 //! The calls that know no shelf and no sink.
 
-use crate::beats;
 use crate::known::Known;
 use crate::words::words_of;
+use crate::{beats, readers};
 use anyhow::{Result, bail};
 use command_line::read_words;
 use std::alloc::Global;
@@ -16,6 +16,8 @@ pub(crate) fn answer(alloc: Global, known: &Known, line: &[&str]) -> Result<Stri
             Ok(format!(in alloc; "{command:?}")?)
         }
         ["frames", full, last, next] => beats::framed(alloc, full, last, next),
+        ["fields", bytes, id] => readers::fields(alloc, known.get(bytes)?, id.parse()?),
+        ["next", count, bytes] => readers::packets(alloc, known.get(bytes)?, count.parse()?),
         _ => bail!("no such line"),
     }
 }

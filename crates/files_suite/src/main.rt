@@ -34,6 +34,8 @@
 //! | Lines that make a call | what is printed after the line |
 //! |---|---|
 //! | `top WORD..` | of `top`: status, code, and what the sink has taken |
+//! | `each read N NAMES top WORD..` | of `top`, and then of `top` with each of its first N reads failing |
+//! | `each write LEFT N NAMES top WORD..`, `each put LEFT N NAMES top WORD..` | the same with begins and appends, and with puts, each of which leaves its first LEFT bytes |
 //! | `begin NAME`, `append NAME BYTES` | the result of `begin` or `append` |
 //! | `read NAME PLACE ROOM` | of `read_at` with a buffer of ROOM bytes: what was read, or the error |
 //! | `fetch NAME LIMIT BYTES` | of `fetch_all`: whether these were fetched, or the error |
@@ -43,7 +45,13 @@
 //! | `show NAME` | what the shelf holds there, or `absent` |
 //! | `show NAME length`, `show NAME is BYTES`, `show NAME starts BYTES`, `show NAME count BYTES` | how many bytes that has; whether it is these, or begins with these; how often these stand in it |
 //! | `ask WORD..` | what `read_words` says of them |
+//! | `fields BYTES ID` | what `map_fields` says of a variable of these types |
+//! | `next N BYTES` | of a capture: its magic number, and what `next` gives N times; or the fault of its header |
 //! | `frames BEAT BEAT BEAT` | of `frames_of` in five clocks, none, a full beat, none and two last ones: how many frames, and each |
+//!
+//! A call of `each` has a sink of its own, and a shelf that holds of NAMES, with a comma between two, what that of the case holds.
+//! Printed are status, code, what the sink has taken, how many reads were made and how many begins and appends, and what each name
+//! holds: `Kept` is what it held, `Whole` what it holds where no call fails, and `First(N)` so many bytes from the front of that.
 //!
 //! A WORD `@BYTES` stands for the words of this text, with one space between any two: of no bytes for one empty word. A beat is
 //! `WORD:COUNT` or `WORD:COUNT:last`, its word in hexadecimal. Bytes are printed in quotes, with the escapes of `text`, and those of
@@ -53,7 +61,9 @@
 mod answers;
 mod beats;
 mod escapes;
+mod faults;
 mod known;
+mod readers;
 mod said;
 mod shelves;
 mod suite;

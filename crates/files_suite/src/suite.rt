@@ -1,6 +1,7 @@
 //! The lines of the cases, one at a time.
 
 use crate::answers::answer;
+use crate::faults::each;
 use crate::known::Known;
 use crate::said::{ended, number, quoted, truth};
 use crate::shelves::call;
@@ -98,6 +99,7 @@ impl Suite {
     fn say<R: Print + Files>(&mut self, rt: &R, words: &[&str]) -> Result<String> {
         match words {
             ["top", row @ ..] => self.top(row),
+            ["each", row @ ..] => each(self.alloc, &self.shelf, &self.known, row),
             ["show", name, form @ ..] => self.show(name, form),
             ["reads"] => number(self.alloc, self.shelf.reads()),
             ["writes"] => number(self.alloc, self.shelf.writes()),
