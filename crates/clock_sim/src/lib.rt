@@ -18,4 +18,5 @@ mod step;
 mod wires;
 
 pub use clocked::Clocked;
+pub use names::place_in;
 pub use sim::{Sim, XValue};

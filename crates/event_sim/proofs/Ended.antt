@@ -8,7 +8,7 @@ use Rattle.net_core.specs.Value.{number_of}
 use Rattle.net_core.specs.Clock.{Stored, env, rights, stopped_at, stopping}
 use Rattle.design_rules.specs.Formed.{IsWellFormed}
 use Rattle.event_sim.specs.Events.{State, value_at, net_count, passed, ran, events_in, swept, IsQuiet, Happen}
-use Rattle.event_sim.specs.Ends.{settled, IsSettled, Ends}
+use Rattle.event_sim.specs.Ends.{settled, IsSettled, Ends, EndsFromAny}
 use Rattle.event_sim.specs.Orders.{IsOrder}
 use Rattle.event_sim.proofs.Ending.{active, fire, pass, passes, turns, Happens, Quiets, happens_length, few, turns_few, passes_gain, none_fires, none_active}
 use Rattle.event_sim.proofs.Settling.{rights_local, quiet_settles, clock_settles, stop_is}
@@ -87,7 +87,7 @@ module _ (d : Netlist) (ins : List Word) (stored : Stored) where
         passes_gain f (rights_local d ins stored formed) order (sweeps ws order k) k place.0 place.1 place.2 (omega (arith, sweeps_length order k ws, count)) (sweeps_quiet order is ws count k (omega arith))
 
 -- ---- states
-pub ends : (s : State) → IsFormed s → Ends s
+ends : (s : State) → IsFormed s → Ends s
 ends s f0 = record {
   short = λ ns t h.
       let c = comes s.netlist s.ins s.stored ns s.nets t f0.count h in
@@ -97,6 +97,9 @@ ends s f0 = record {
       subst IsSettled (sym c.is)
       (settled_at s.netlist s.ins s.stored f0.formed t.nets (happens_length (value_at s.netlist s.ins s.stored) (rights_local s.netlist s.ins s.stored f0.formed) ns s.nets t.nets c.happens ∙ f0.count) (subst IsQuiet c.is quiet));
 }
+
+pub ends_from_any : (s : State) → IsFormed s → EndsFromAny s
+ends_from_any s f0 nets count = ends (record s { nets = nets }) (record { formed = f0.formed; count = count })
 
 pub quiet_settled : (s : State) → IsFormed s → IsQuiet s → IsSettled s
 quiet_settled s f0 quiet = settled_at s.netlist s.ins s.stored f0.formed s.nets f0.count quiet

@@ -25,8 +25,12 @@ pub record IsSettled (s : State) : Type 0 where
   pub values : s.nets ≡ settled s
   pub clock : stopping s.netlist s.ins s.stored ≡ None → s.nets ≡ clock_values s.netlist s.ins s.stored
 
--- Every order of events ends, since fewer than 2 to the number of nets can happen, and where no net is active any more the
--- nets have the values of a clock.
+-- Every order of events from here on ends, since fewer than 2 to the number of nets can happen, and where no net is active
+-- any more the nets have the values of a clock.
 pub record Ends (s : State) : Type 0 where
   pub short : (ns : List ℕ) (t : State) → Happen s ns t → length ns < 2 ^ net_count s.netlist
   pub settles : (ns : List ℕ) (t : State) → Happen s ns t → IsQuiet t → IsSettled t
+
+-- the same from any values of nets on
+abbrev pub EndsFromAny : State → Type 0
+EndsFromAny s = (nets : List Word) → length nets ≡ net_count s.netlist → Ends (record s { nets = nets })

@@ -11,8 +11,8 @@ use Rattle.net_core.specs.Value.{word, nothing, number_of, Env, right_value, sto
 use Rattle.net_core.specs.Clock.{Stored, env, rights}
 use Rattle.net_core.specs.Codes.{coded_netlist, coded_stored}
 
--- What stands at the inputs of a design, what its registers and memories store, and what its nets do: the wires, and then
--- the assigns of outputs, in text order.
+-- What stands at the inputs of a design, what its registers and memories store, and what each net stores. Nets are the wires,
+-- and then the assigns of outputs, in text order.
 pub record State : Type 0 where
   pub netlist : Netlist
   pub ins : List Word

@@ -1,5 +1,5 @@
 -- Orders of nets and of always blocks.
-use Rattle.std.specs.Prelude.{◌≡◌, ℕ, ◌+◌, ◌*◌, ◌<◌, List, length, map, Contains}
+use Rattle.std.specs.Prelude.{◌≡◌, ℕ, ◌+◌, ◌*◌, ◌^◌, ◌<◌, List, length, map, Contains}
 use Rattle.std.specs.List.Sorted.{IsNonDecreasingBy}
 use Rattle.std.proofs.Common.{get_or}
 use Rattle.net_core.specs.declared.tree.Word.{Word}
@@ -22,7 +22,7 @@ ClocksInAnyOrder d ins s = (order : List ℕ) → IsOrder (length d.always) orde
 
 -- the draw of a place, and then the place
 abbrev pub rank : List ℕ → ℕ → ℕ
-rank draws place = get_or draws place 0 * 4294967296 + place
+rank draws place = get_or draws place 0 * 2 ^ 32 + place
 
 -- places by their draws, and those of one draw as they stand
 abbrev pub IsByDraws : List ℕ → List ℕ → Type 0

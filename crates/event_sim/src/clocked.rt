@@ -2,16 +2,17 @@
 
 ghost use Rattle.std.specs.Prelude.{◌≡◌, ◌+◌, Ok, Some, None, OnOk, IfOk, OnErr, IfErr, length};
 ghost use Rattle.net_core.specs.Clock.{clock, stopping, first_stored};
+ghost use Rattle.net_core.specs.Names.{name_of};
 ghost use Rattle.net_core.specs.Ports.{AreInputs, words_of, outputs_of};
 ghost use Rattle.net_core.specs.View.{netlist_of};
 ghost use Rattle.design_rules.specs.Formed.{IsWellFormed};
-ghost use Rattle.clock_sim.specs.Running.{stopped_net};
+ghost use Rattle.clock_sim.specs.Running.{stopped_net, IsNamed};
 ghost use Rattle.event_sim.specs.Events.{net_count, block_count};
 
 use crate::events::Events;
 use crate::order::order_of;
 use crate::refusal::EdgeError;
-use clock_sim::XValue;
+use clock_sim::{Clocked, XValue};
 use net_core::design::Design;
 use net_core::ports::{Inputs, Outputs};
 use net_core::tree::Net;
@@ -82,5 +83,27 @@ impl EventSim {
             }
             Err(EdgeError::Busy { .. } | EdgeError::Order) => unreachable!(),
         }
+    }
+
+    /// The name of a net of the design.
+    pub fn name(&self, net: Net) -> &str
+        requires { IsNamed self.now.netlist net }
+        ensures { result.now ≡ name_of self.now.netlist net }
+    {
+        self.events.name_of(net)
+    }
+}
+
+impl Clocked for EventSim {
+    ghost netlist = { λ s. s.netlist };
+
+    ghost stored = { λ s. s.stored };
+
+    fn clock(&mut self, inputs: &Inputs) -> Result<Outputs, XValue> {
+        EventSim::clock(self, inputs)
+    }
+
+    fn name(&self, net: Net) -> &str {
+        EventSim::name(self, net)
     }
 }

@@ -1,29 +1,31 @@
 //! A design that is run by events.
 
-ghost use Rattle.std.specs.Prelude.{◌≡◌, ◌^◌, ◌<◌, ◌≤◌, ◌↔◌, true, false, None, Ok, All, length, map, IfOk, IfErr, OnOk, OnErr, IsTrue};
+ghost use Rattle.std.specs.Prelude.{◌≡◌, ℕ, ◌^◌, ◌<◌, ◌≤◌, ◌↔◌, true, false, None, Ok, All, length, map, IfOk, IfErr, OnOk, OnErr, IsTrue};
 ghost use Rattle.net_core.specs.Clock.{clock, first_stored, stopping, shown};
 ghost use Rattle.net_core.specs.Names.{name_of};
 ghost use Rattle.net_core.specs.Ports.{AreInputs, words_of, outputs_at};
 ghost use Rattle.net_core.specs.Value.{word, number_of};
 ghost use Rattle.net_core.specs.View.{netlist_of};
 ghost use Rattle.design_rules.specs.Formed.{IsWellFormed};
+ghost use Rattle.clock_sim.specs.Running.{IsNamed};
 ghost use Rattle.event_sim.specs.Events.{is_active, fired, passed, ran, events_in, swept, net_count, net_named, block_count, IsQuiet};
-ghost use Rattle.event_sim.specs.Ends.{Ends, IsSettled, settled};
+ghost use Rattle.event_sim.specs.Ends.{EndsFromAny, IsSettled, settled};
 ghost use Rattle.event_sim.specs.Orders.{IsOrder, ClocksInAnyOrder};
 ghost use Rattle.event_sim.specs.Refusals.{MayEdge, IsRefused};
 ghost use Rattle.event_sim.specs.Inside.{net_widths};
 
 use crate::edge::step;
 use crate::held::Held;
-use crate::names::place_of;
+use crate::names::net_named;
 use crate::nets::{first_active, is_active, net_count, right_side, same_word};
 use crate::outputs::write_inputs;
 use crate::refusal::{EdgeError, refusal};
 use crate::values::{NOTHING, Values};
+use clock_sim::place_in;
 use net_core::design::Design;
 use net_core::ports::{Inputs, Outputs, PORT_COUNT, SILENT};
 use net_core::scope::output_width;
-use net_core::tree::Word;
+use net_core::tree::{Net, Word};
 use std::alloc::{AllocError, Global};
 use std::marker::Model;
 use thiserror::Error;
@@ -42,7 +44,8 @@ pub struct Events {
 }
 
 impl Model for Events {
-    ghost use Rattle.event_sim.specs.Events.{State, coded_state};
+    ghost use Rattle.clock_sim.specs.Running.{IsNamed};
+ghost use Rattle.event_sim.specs.Events.{State, coded_state};
 
     ghost Value = { State };
 
@@ -79,7 +82,8 @@ fn zeros(alloc: Global, design: &Design) -> Result<Vec<Word>, AllocError>
 }
 
 impl Events {
-    /// All nets store 0, and registers and memories their declared values; nothing stands at the inputs.
+    /// All nets store 0, and registers and memories their declared values; nothing is offered at the inputs. A design of more
+    /// than 2 to the power 32 nets is refused as too large for memory. Nothing else takes memory.
     pub fn open(alloc: Global, design: Design) -> Result<Events, AllocError>
         requires { IsWellFormed (netlist_of design) }
         ensures { IfOk result (λ e. e ≡ record {
@@ -122,7 +126,16 @@ impl Events {
         requires { net < net_count self.now.netlist }
         ensures { result.now ≡ name_of self.now.netlist (net_named self.now.netlist net) }
     {
-        self.design.names[place_of(&self.design, net as usize)].as_str()
+        let named = net_named(&self.design, net);
+        self.design.names[place_in(&self.design, named)].as_str()
+    }
+
+    /// The name of any net of the design.
+    pub fn name_of(&self, net: Net) -> &str
+        requires { IsNamed self.now.netlist net }
+        ensures { result.now ≡ name_of self.now.netlist net }
+    {
+        self.design.names[place_in(&self.design, net)].as_str()
     }
 
     /// Other inputs. Nets keep their values.
@@ -159,7 +172,7 @@ impl Events {
         ensures fires { OnOk result (self.new ≡ fired self.old net) }
         ensures quiet { OnErr result (is_active self.old net ≡ false) }
         ensures unchanged { OnErr result (self.new ≡ self.old) }
-        ensures ends { Ends self.old }
+        ensures ends { EndsFromAny self.old }
     {
         let word = right_side(&self.design, &self.values, net as usize);
         if same_word(self.values.nets[net as usize], word) {
@@ -188,6 +201,7 @@ impl Events {
         ensures fired { result ≡ events_in self.old picks.now }
         ensures few { result < 2 ^ net_count self.old.netlist }
     {
+        // What holds inside bounds the events.
         let _ = &self.design;
         let mut fired = 0;
         for pick in picks {
@@ -196,14 +210,15 @@ impl Events {
         fired
     }
 
-    /// Sweeps over all nets, in this order, until none fires. It gives the number of sweeps, which is that of nets at most;
-    /// in text order the second one fires none.
+    /// Sweeps over all nets, in this order, until none fires. It gives the number of sweeps in which a net fires, which is
+    /// the number of nets at most: in text order it is 1 at most, and a second sweep finds that none fires.
     pub fn settle(&mut self, order: &[u32]) -> usize
         requires { IsOrder (net_count self.old.netlist) order.now }
         ensures settles { self.new ≡ record self.old { nets = settled self.old } }
         ensures quiet { IsQuiet self.new }
         ensures settled { IsSettled self.new }
         ensures sweeps { self.new ≡ swept self.old order.now result }
+        ensures busy { (k : ℕ) → k < result → 0 < events_in (swept self.old order.now k) order.now }
         ensures few { result ≤ net_count self.old.netlist }
     {
         let count = net_count(&self.design);

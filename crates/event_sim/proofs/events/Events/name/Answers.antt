@@ -8,17 +8,19 @@ use Rattle.event_sim.specs.Views.{state_of}
 use Rattle.event_sim.proofs.States.{named}
 use Rattle.event_sim.proofs.events.Events.name.Goals as goal
 
-pub place_of-requires-clause-named : goal.place_of-requires-clause-named
-place_of-requires-clause-named c =
+pub place_in-requires : goal.place_in-requires
+place_in-requires c =
     let there = subst (λ (s : State). c.args.net < net_count s.netlist) (sym c.self.view_is) c.requires in
     let is = named (state_of c.self.inside.design c.self.inside.values) c.self.invariant.state c.args.net there in
-    omega (arith, is, length-map c.self.inside.design.names.items string_bytes)
+    let place = ap (name_place (netlist_of c.self.inside.design)) c.net_named-named.ensures in
+    omega (arith, is, place, length-map c.self.inside.design.names.items string_bytes)
 
 pub index-requires : goal.index-requires
 index-requires c =
     let there = subst (λ (s : State). c.args.net < net_count s.netlist) (sym c.self.view_is) c.requires in
     let is = named (state_of c.self.inside.design c.self.inside.values) c.self.invariant.state c.args.net there in
-    omega (arith, is, length-map c.self.inside.design.names.items string_bytes, c.place_of.ensures, c.self.inside.design.names.ok.0)
+    let place = ap (name_place (netlist_of c.self.inside.design)) c.net_named-named.ensures in
+    omega (arith, is, place, length-map c.self.inside.design.names.items string_bytes, c.place_in.ensures, c.self.inside.design.names.ok.0)
 
 pub returns : goal.returns
 returns c =
@@ -28,5 +30,6 @@ returns c =
     let d = netlist_of c.self.inside.design in
     let inside : name_place d (net_named d c.args.net) < length names = omega (arith, is, length-map names string_bytes) in
     subst (λ (s : State). c.as_str.result.now ≡ name_of s.netlist (net_named s.netlist c.args.net)) c.self.view_is
-    (c.as_str.ensures.value ∙ ap string_bytes (c.index.ensures ∙ ap (λ i. get_or names i c.index.result.now) c.place_of.ensures)
+    (c.as_str.ensures.value
+    ∙ ap string_bytes (c.index.ensures ∙ ap (λ i. get_or names i c.index.result.now) (c.place_in.ensures ∙ ap (name_place d) c.net_named-named.ensures))
     ∙ sym (get_or-map string_bytes names (name_place d (net_named d c.args.net)) c.index.result.now [] inside))
