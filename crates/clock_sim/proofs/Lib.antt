@@ -9,7 +9,7 @@ pub mod WireLemmas
 pub mod StoredLaws
 pub mod ReadableLaws
 pub mod RunLemmas
-pub mod Items
+pub mod ItemLaws
 pub mod CompiledLemmas
 pub mod OutputLemmas
 pub mod LayoutLemmas

@@ -38,9 +38,6 @@ use Rattle.event_sim.proofs.Ended.{IsFormed}
 sides_same : (a b : ℕ) → same a b ≡ true → a ≡ b
 sides_same a b h = eqb-true a b (and_parts (nat_lt 0 a) (a == b) h).1
 
-pair_there : (ns : List (ℕ × ℕ)) (i : ℕ) → 0 < (get_or ns i (0, 0)).1 → i < length ns
-pair_there ns i h = some_below (λ (p : ℕ × ℕ). p.1) (0, 0) ns i refl h
-
 -- ---- the widths of nets
 pub widths_counted : (d : Netlist) → length (net_widths d) ≡ net_count d
 widths_counted d = omega (arith, length-append (wire_widths d.wires) (map (assigned_width d) d.assigns), length_widths d.wires, length-map d.assigns (assigned_width d))
@@ -91,7 +88,7 @@ module _ (s : State) (is : IsState s) where
   memory_word_at : (m : Net) (a : ℕ) → 0 < (memory_width s.netlist m).1 → a < 2 ^ (memory_width s.netlist m).0 → IsOfWidth (memory_width s.netlist m).1 (memory_word_value s.stored m a)
   memory_word_at (net.Port k) a h lt = absurd (omega (arith, h))
   memory_word_at (net.Register k) a h lt = absurd (omega (arith, h))
-  memory_word_at (net.Memory k) a h lt = (is.stored.memory k (pair_there (memory_widths s.netlist.declared) k h)).fit a lt
+  memory_word_at (net.Memory k) a h lt = (is.stored.memory k (some_below (λ (p : ℕ × ℕ). p.1) (0, 0) (memory_widths s.netlist.declared) k refl h)).fit a lt
   memory_word_at (net.Wire k) a h lt = absurd (omega (arith, h))
 
   -- what can be read where so many wires stand before

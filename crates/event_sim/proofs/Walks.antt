@@ -23,10 +23,6 @@ use Rattle.event_sim.specs.Showing.{stored_for}
 use Rattle.event_sim.specs.Orders.{IsOrder}
 use Rattle.event_sim.proofs.Settling.{length_rights, right_in}
 
--- one element of what is made of each
-pub drop_item : {X Y : Type 0} (f : X → Y) (xs : List X) (i : ℕ) (x : X) → i < length xs → x ≡ get_or xs i x → drop i (map f xs) ≡ f x ∷ drop (i + 1) (map f xs)
-drop_item f xs i x l e = drop_more (map f xs) i (f x) (omega (arith, l, length-map xs f)) ∙ ap (λ y. y ∷ drop (i + 1) (map f xs)) (get_or-map f xs i x (f x) l ∙ ap f (sym e))
-
 -- ---- wires
 pub drop_right : (ws : List Wire) (i : ℕ) (x : Wire) → i < length ws → x ≡ get_or ws i x → drop i (rights (map wire_of ws)) ≡ right_of x.right ∷ drop (i + 1) (rights (map wire_of ws))
 drop_right ws i x l e =

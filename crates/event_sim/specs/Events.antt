@@ -41,7 +41,7 @@ net_count d = length d.wires + length d.assigns
 abbrev pub block_count : Netlist → ℕ
 block_count d = length d.always
 
--- what is assigned where no net is
+-- where there is no net
 abbrev pub no_right : RightTree Net
 no_right = RPlain (TConst nothing)
 
@@ -66,10 +66,10 @@ is_active s n = not (same_word (get_or s.nets n nothing) (right_side s n))
 abbrev pub IsQuiet : State → Type 0
 IsQuiet s = (n : ℕ) → n < net_count s.netlist → is_active s n ≡ false
 
--- a wire, or the output of an assign
 abbrev pub no_assign : AssignTree
 no_assign = record { port = 0; value = TConst nothing }
 
+-- what has the name of a net: a wire, or the output of an assign
 abbrev pub net_named : Netlist → ℕ → Net
 net_named d n = if nat_lt n (length d.wires) then Wire n else Port (get_or d.assigns (n - length d.wires) no_assign).port
 

@@ -1,20 +1,24 @@
 //! Designs that run, clock by clock.
 
-ghost use Rattle.std.specs.Prelude.{IfSome};
+ghost use Rattle.std.specs.Prelude.{◌≡◌, ◌+◌, length, IfSome, IfOk};
 ghost use Rattle.net_core.specs.Ports.{AreInputs};
+ghost use Rattle.net_core.specs.View.{netlist_of};
+ghost use Rattle.event_sim.specs.Events.{net_count, block_count};
 
 use crate::designs::design_of;
 use anyhow::{Context, Result};
 use clock_sim::Sim;
+use event_sim::{EventSim, draw_count};
 use net_core::design::Design;
 use net_core::ports::{Inputs, Outputs};
 use net_core::tree::Net;
 use std::alloc::{AllocError, Global};
 
-/// A simulator, and the names of its wires.
+/// A simulator, one that goes by events in an order of its own, and the names of the wires.
 #[derive(Drop)]
 pub(crate) struct Running {
     sim: Sim,
+    events: EventSim,
     wires: Vec<String>,
 }
 
@@ -26,6 +30,19 @@ fn wire_names(alloc: Global, design: &Design) -> Result<Vec<String>, AllocError>
         names.push(name.clone()?)?;
     }
     Ok(names)
+}
+
+// Draws in no order.
+fn draws_of(alloc: Global, design: &Design) -> Result<Vec<u32>, AllocError>
+    ensures { IfOk result (λ v. length v.items ≡ net_count (netlist_of design.now) + block_count (netlist_of design.now)) }
+{
+    let count = draw_count(design);
+    let mut draws = Vec::new(alloc);
+    for place in 0..count {
+        let number = (place % 4294967296) as u32;
+        draws.push(number.wrapping_mul(2654435769))?;
+    }
+    Ok(draws)
 }
 
 /// The inputs that twelve numbers stand for, in the order of the ports, each cut to the width of its port. Of another number
@@ -90,7 +107,10 @@ impl Running {
         let design = design_of(alloc, text)?;
         let wires = wire_names(alloc, &design)?;
         let sim = Sim::open(alloc, design)?;
-        Ok(Running { sim, wires })
+        let again = design_of(alloc, text)?;
+        let draws = draws_of(alloc, &again)?;
+        let events = EventSim::open(alloc, again, &draws)?;
+        Ok(Running { sim, events, wires })
     }
 
     // The name of a net that is a wire.
@@ -101,14 +121,19 @@ impl Running {
         }
     }
 
-    /// One clock: prints what the outputs show, or the wire whose divisor is zero.
+    /// One clock: prints what the outputs show, or the wire whose divisor is zero, and whether events show otherwise.
     pub(crate) fn show_clock(&mut self, rt: &impl Print, alloc: Global, row: &str) -> Result<()> {
         let mut numbers = Vec::new(alloc);
         for word in row.split_whitespace() {
             numbers.push(word.parse::<u64>()?)?;
         }
         let inputs = inputs_of(&numbers).context("twelve numbers")?;
-        match self.sim.clock(&inputs) {
+        let by_events = self.events.clock(&inputs);
+        let clocked = self.sim.clock(&inputs);
+        if by_events != clocked {
+            println!(rt; "otherwise by events")?;
+        }
+        match clocked {
             Ok(outputs) => show_outputs(rt, &outputs),
             Err(stopped) => {
                 let name = self.name(stopped.net);

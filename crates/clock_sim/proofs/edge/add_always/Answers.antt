@@ -2,7 +2,7 @@ use Rattle.std.proofs.Common.{◌≡◌, [], map, drop, arith}
 use Rattle.std.proofs.lemmas.List.{drop_all, length-map}
 use Rattle.net_core.specs.declared.tree.Net.{Net}
 use Rattle.net_core.specs.View.{statement_of}
-use Rattle.clock_sim.proofs.Items.{at_item}
+use Rattle.clock_sim.proofs.ItemLaws.{at_item}
 use Rattle.clock_sim.proofs.StatementLemmas.{acting_none, acting_first, acting_more, acting_all}
 use Rattle.clock_sim.proofs.edge.add_always.Goals as goal
 

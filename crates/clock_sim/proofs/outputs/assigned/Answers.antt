@@ -2,7 +2,7 @@ use Rattle.std.proofs.Common.{◌≡◌, [], length, map, drop, sym, subst, arit
 use Rattle.std.proofs.lemmas.List.{drop_all, length-map}
 use Rattle.net_core.specs.View.{assign_of}
 use Rattle.clock_sim.specs.Flat.{AreOperands, Adds, Values}
-use Rattle.clock_sim.proofs.Items.{at_item}
+use Rattle.clock_sim.proofs.ItemLaws.{at_item}
 use Rattle.clock_sim.proofs.OutputLemmas.{shown_first, shown_rest, assigned_here, assigned_later, assigned_none, shows_value, shows_nothing}
 use Rattle.clock_sim.proofs.outputs.assigned.Goals as goal
 

@@ -1,6 +1,6 @@
 use Rattle.std.proofs.Common.{refl}
 use Rattle.net_core.specs.View.{wire_of}
-use Rattle.clock_sim.proofs.Items.{at_item, take_item}
+use Rattle.clock_sim.proofs.ItemLaws.{at_item, take_item}
 use Rattle.clock_sim.proofs.WireLemmas.{AddsOne, wiring_none, wiring_first, wiring_more}
 use Rattle.clock_sim.proofs.wires.add_wires.Goals as goal
 

@@ -1,6 +1,6 @@
 use Rattle.std.proofs.Common.{rules}
 use Rattle.net_core.specs.View.{wire_of}
-use Rattle.clock_sim.proofs.Items.{at_item}
+use Rattle.clock_sim.proofs.ItemLaws.{at_item}
 use Rattle.clock_sim.proofs.WireLemmas.{divided_first, divided_rest, divisors_more}
 use Rattle.clock_sim.proofs.wires.divisors_of.Goals as goal
 
