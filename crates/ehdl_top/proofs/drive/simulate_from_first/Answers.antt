@@ -22,8 +22,8 @@ returns-in-Ok g c =
     refl c.requires.first c.load.ensures.netlist c.decls-decls.ensures.decls)
     c.drive_design.ensures
 
-pub returns : goal.returns
-returns g c =
+pub returns-in_ok-error-in-Err : goal.returns-in_ok-error-in-Err
+returns-in_ok-error-in-Err g c =
     let d = g.C.Clocked.netlist c.args.sim.now in
     load_given_up d c.args.maps.now c.args.ifindex c.args.packets.now c.args.clocks d (g.C.Clocked.netlist c.load.new.sim) (g.C.Clocked.stored c.args.sim.now) (g.C.Clocked.stored c.load.new.sim) c.new.result c.load.result c.in-Err.error c.in_ok-error-in-Err.error
     c.new.ensures c.in-Err.is c.load.ensures.clocks refl c.requires.first c.load.ensures.netlist c.in_ok-error-in-Err.ensures
