@@ -25,11 +25,7 @@ fn draw_count(design: &Design) -> Result<usize, AllocError>
 
 /// Opens a design whose nets settle, and whose always blocks run, in the order of the draws of a seed: the first draws are for the nets,
 /// and those after them for the blocks.
-pub(crate) fn open_events(
-    alloc: Global,
-    design: Design,
-    seed: u32,
-) -> Result<EventSim, AllocError>
+pub(crate) fn open_events(alloc: Global, design: Design, seed: u32) -> Result<EventSim, AllocError>
     requires { IsWellFormed (netlist_of design) }
     ensures netlist { IfOk result (λ sim. sim.netlist ≡ netlist_of design) }
     ensures stored { IfOk result (λ sim. sim.stored ≡ first_stored (netlist_of design)) }

@@ -12,21 +12,23 @@ open-requires c = typed _ c.requires.formed
 pub simulate_from_first-requires-clause-formed : goal.simulate_from_first-requires-clause-formed
 simulate_from_first-requires-clause-formed c =
     let P : Netlist → Type 0 = IsWellFormed in
-    subst P (sym c.in_ok-sim.ensures.netlist) c.requires.formed
+    subst P (sym c.in_ok-sim-in-None.ensures.netlist) c.requires.formed
 
 pub simulate_from_first-requires-clause-first : goal.simulate_from_first-requires-clause-first
-simulate_from_first-requires-clause-first c = c.in_ok-sim.ensures.stored ∙ sym (ap (λ (d : Netlist). first_stored d) c.in_ok-sim.ensures.netlist)
+simulate_from_first-requires-clause-first c = c.in_ok-sim-in-None.ensures.stored ∙ sym (ap (λ (d : Netlist). first_stored d) c.in_ok-sim-in-None.ensures.netlist)
 
-pub returns-in-None : goal.returns-in-None
-returns-in-None c = of_design c.args.maps.now c.args.ifindex c.args.packets.now c.args.clocks _ _ c.simulate_from_first.result c.in_ok-sim.ensures.netlist c.simulate_from_first.ensures
+pub returns-in_ok-sim-in-None : goal.returns-in_ok-sim-in-None
+returns-in_ok-sim-in-None c =
+    of_design c.args.maps.now c.args.ifindex c.args.packets.now c.args.clocks _ _ c.simulate_from_first.result c.in_ok-sim-in-None.ensures.netlist c.simulate_from_first.ensures
 
-pub simulate_from_first-2-requires-clause-formed : goal.simulate_from_first-2-requires-clause-formed
-simulate_from_first-2-requires-clause-formed c =
+pub simulate_from_first-requires-in-Some-clause-formed : goal.simulate_from_first-requires-in-Some-clause-formed
+simulate_from_first-requires-in-Some-clause-formed c =
     let P : Netlist → Type 0 = IsWellFormed in
-    subst P (sym c.in_ok-sim-2.ensures.netlist) c.requires.formed
+    subst P (sym c.in_ok-sim-in-Some.ensures.netlist) c.requires.formed
 
-pub simulate_from_first-2-requires-clause-first : goal.simulate_from_first-2-requires-clause-first
-simulate_from_first-2-requires-clause-first c = c.in_ok-sim-2.ensures.stored ∙ sym (ap (λ (d : Netlist). first_stored d) c.in_ok-sim-2.ensures.netlist)
+pub simulate_from_first-requires-in-Some-clause-first : goal.simulate_from_first-requires-in-Some-clause-first
+simulate_from_first-requires-in-Some-clause-first c = c.in_ok-sim-in-Some.ensures.stored ∙ sym (ap (λ (d : Netlist). first_stored d) c.in_ok-sim-in-Some.ensures.netlist)
 
-pub returns : goal.returns
-returns c = of_design c.args.maps.now c.args.ifindex c.args.packets.now c.args.clocks _ _ c.simulate_from_first-2.result c.in_ok-sim-2.ensures.netlist c.simulate_from_first-2.ensures
+pub returns-in_ok-sim-in-Some : goal.returns-in_ok-sim-in-Some
+returns-in_ok-sim-in-Some c =
+    of_design c.args.maps.now c.args.ifindex c.args.packets.now c.args.clocks _ _ c.simulate_from_first-in-Some.result c.in_ok-sim-in-Some.ensures.netlist c.simulate_from_first-in-Some.ensures
