@@ -1,4 +1,5 @@
 pub use Rattle.bits_core.specs as bits_core
+pub mod Helpers
 pub mod Laid
 pub mod Opcode
 pub mod Rules

@@ -12,6 +12,7 @@
 mod decode;
 mod encode;
 mod fields;
+mod helper;
 mod instruction;
 mod opcode;
 mod operation;
@@ -19,6 +20,7 @@ mod unit;
 
 pub use decode::{DecodeError, decode_all, decode_one};
 pub use encode::encode_one;
+pub use helper::Helper;
 pub use instruction::{BadInsn, Insn};
 pub use operation::{AluCode, JumpCode, Op, Size, Src, Width};
 

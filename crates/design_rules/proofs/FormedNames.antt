@@ -1,9 +1,14 @@
 -- Names, read from their first letter.
-use Rattle.std.specs.Prelude.{◌≡◌, ℕ, ◌<◌, ◌≤◌, Bool, false, ◌&&◌, ◌||◌, List, [], ◌∷◌, length, map, take, drop, String, string_bytes}
+use Rattle.std.specs.Prelude.{◌≡◌, ℕ, ◌+◌, ◌<◌, ◌≤◌, ◌⊎◌, Bool, true, false, if◌then◌else◌, ◌&&◌, ◌||◌, List, [], ◌∷◌, ◌++◌, length, map, take, drop, String, string_bytes}
 use Rattle.std.specs.Str.{bytes_eq}
 use Rattle.std.specs.List.{list_any, list_all}
-use Rattle.std.proofs.Common.{get_or, refl, ap, sym, ◌∙◌, arith, Global}
-use Rattle.std.proofs.lemmas.List.{get_or-map, take-map, get_or_past}
+use Rattle.std.specs.Borrow.{Bor}
+use Rattle.std.proofs.Common.{get_or, inl, inr, not, refl, ap, sym, ◌∙◌, arith, length-append, Global}
+use Rattle.std.proofs.lemmas.Bool.{cases_lt}
+use Rattle.std.proofs.lemmas.List.{length-map, get_or-map, take-map, get_or_past, get_or_push, get_or_append_left}
+use Rattle.std.proofs.lemmas.List.Folds.{list_any_more}
+use Rattle.std.proofs.lemmas.Slice.Eq.{bytes_eq-Decides}
+use Rattle.design_rules.specs.Formed.{is_new_in, TellNew}
 use Rattle.design_rules.specs.FormedSyntax.{begins_name, continues_name, is_identifier, is_name}
 
 pub identifier_at : (cs : List ℕ) → 0 < length cs → is_identifier cs ≡ (begins_name (get_or cs 0 0) && list_all continues_name (drop 1 cs))
@@ -25,3 +30,64 @@ is_new_at names place s h e =
 -- where no name stands, the list gives none
 pub name_past : (names : List (List ℕ)) (place : ℕ) → length names ≤ place → is_name (get_or names place []) ≡ false
 name_past names place h = ap is_name (get_or_past names place [] h)
+
+-- ---- names and flags, one after another
+
+-- after the first names: a flag of each that tells whether it is a new one, and which names are among the keys
+pub record Noted (names : List (List ℕ)) (i : ℕ) (keys : List (Bor (List ℕ))) (flags : List Bool) : Type 0 where
+  pub count : length flags ≡ i
+  pub each : (place : ℕ) → place < i → get_or flags place false ≡ is_new_in names place
+  pub seen : (q : Bor (List ℕ)) → list_any (λ k. bytes_eq q.now k.now) keys ≡ list_any (bytes_eq q.now) (take i names)
+
+pub none_noted : (names : List (List ℕ)) (keys : List (Bor (List ℕ))) → keys ≡ [] → Noted names 0 keys []
+none_noted names keys e = record { count = refl; each = λ place l. absurd (omega (arith, l)); seen = λ q. ap (list_any (λ k. bytes_eq q.now k.now)) e }
+
+bytes_turn : (a b : List ℕ) → bytes_eq a b ≡ bytes_eq b a
+bytes_turn a b = by (bytes_eq a b) (bytes_eq b a) refl refl
+  where
+    by : (s t : Bool) → bytes_eq a b ≡ s → bytes_eq b a ≡ t → s ≡ t
+    by true true e f = refl
+    by true false e f = let g : true ≡ false = sym ((bytes_eq-Decides b a).1 (sym ((bytes_eq-Decides a b).0 e))) ∙ f in absurd (cc)
+    by false true e f = let g : true ≡ false = sym ((bytes_eq-Decides a b).1 (sym ((bytes_eq-Decides b a).0 f))) ∙ e in absurd (cc)
+    by false false e f = refl
+
+or_cond : (t a : Bool) → (if t then true else a) ≡ (a || t)
+or_cond true true = refl
+or_cond true false = refl
+or_cond false true = refl
+or_cond false false = refl
+
+pub noted_more : (names : List (List ℕ)) (i : ℕ) (keys more : List (Bor (List ℕ))) (flags : List Bool) (key : Bor (List ℕ)) (added : Bool) → i < length names → key.now ≡ get_or names i []
+    → added ≡ not (list_any (λ k. bytes_eq key.now k.now) keys)
+    → ((q : Bor (List ℕ)) → list_any (λ k. bytes_eq q.now k.now) more ≡ (if bytes_eq key.now q.now then true else list_any (λ k. bytes_eq q.now k.now) keys))
+    → Noted names i keys flags → Noted names (i + 1) more (flags ++ added ∷ [])
+noted_more names i keys more flags key added below name is_added grows n = record {
+  count = length-append flags (added ∷ []) ∙ omega (arith, n.count);
+  each = λ place l. by place (cases_lt place i) l;
+  seen = λ q.
+      grows q
+      ∙ ap (λ (a : Bool). if bytes_eq key.now q.now then true else a) (n.seen q)
+      ∙ ap (λ (t : Bool). if t then true else list_any (bytes_eq q.now) (take i names)) (bytes_turn key.now q.now ∙ ap (bytes_eq q.now) name)
+      ∙ or_cond (bytes_eq q.now (get_or names i [])) (list_any (bytes_eq q.now) (take i names))
+      ∙ sym (list_any_more (bytes_eq q.now) names i [] below);
+}
+  where
+    here : added ≡ is_new_in names i
+    here = is_added ∙ ap not (n.seen key ∙ ap (λ (s : List ℕ). list_any (bytes_eq s) (take i names)) name)
+
+    by : (place : ℕ) → (place < i) ⊎ (i ≤ place) → place < i + 1 → get_or (flags ++ added ∷ []) place false ≡ is_new_in names place
+    by place (inl lt) l = get_or_append_left flags (added ∷ []) false place (omega (arith, lt, n.count)) ∙ n.each place lt
+    by place (inr le) l =
+        let same : i ≡ place = omega (arith, le, l) in
+        get_or_push flags added false place (n.count ∙ same) ∙ here ∙ ap (is_new_in names) same
+
+-- after all of them
+pub all_noted : (names : List (String Global)) (i : ℕ) (keys : List (Bor (List ℕ))) (flags : List Bool) → i ≡ length names → Noted (map string_bytes names) i keys flags → TellNew (map string_bytes names) flags
+all_noted names i keys flags e n = record {
+  count = n.count ∙ e ∙ sym (length-map names string_bytes);
+  each = λ place l. n.each place (omega (arith, l, e, length-map names string_bytes));
+}
+
+-- the bytes of a name are those at its place
+pub name_at : (names : List (String Global)) (i : ℕ) (s : String Global) → i < length names → s ≡ get_or names i s → string_bytes s ≡ get_or (map string_bytes names) i []
+name_at names i s below e = sym (get_or-map string_bytes names i s [] below ∙ ap string_bytes (sym e))

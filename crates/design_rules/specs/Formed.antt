@@ -2,7 +2,7 @@
 --
 -- The items of a design are counted through its sections, as a text has them: what is declared, wires, assigns, always
 -- blocks. So no item can stand after one of a later section, and that rule has no test here.
-use Rattle.std.specs.Prelude.{◌≡◌, ℕ, suc, ◌+◌, ◌==◌, nat_lt, nat_le, Bool, true, false, ◌&&◌, if◌then◌else◌, Option, Some, None, Result, Ok, Err, List, [], ◌∷◌, length, take}
+use Rattle.std.specs.Prelude.{◌≡◌, ℕ, suc, ◌+◌, ◌<◌, ◌==◌, nat_lt, nat_le, Bool, true, false, ◌&&◌, if◌then◌else◌, Option, Some, None, Result, Ok, Err, List, [], ◌∷◌, length, take}
 use Rattle.std.specs.Str.{bytes_eq}
 use Rattle.std.specs.List.{list_any, list_all}
 use Rattle.std.specs.Cmp.Lexicographic.{pointwise}
@@ -29,9 +29,18 @@ abbrev pub first_broken : List Rule → Option Why
 first_broken [] = None
 first_broken (r ∷ rest) = if r.0 then first_broken rest else Some r.1
 
+-- the name at a place stands at no place before
+abbrev pub is_new_in : List (List ℕ) → ℕ → Bool
+is_new_in names place = not (list_any (bytes_eq (get_or names place [])) (take place names))
+
 -- the name at a place is a new one
 abbrev pub is_new : Netlist → ℕ → Bool
-is_new d place = not (list_any (bytes_eq (get_or d.names place [])) (take place d.names))
+is_new d place = is_new_in d.names place
+
+-- flags that tell of each name whether it is a new one
+pub record TellNew (names : List (List ℕ)) (flags : List Bool) : Type 0 where
+  pub count : length flags ≡ length names
+  pub each : (place : ℕ) → place < length names → get_or flags place false ≡ is_new_in names place
 
 abbrev pub has_name : Netlist → ℕ → Bool
 has_name d place = is_name (get_or d.names place [])

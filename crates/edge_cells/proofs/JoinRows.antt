@@ -13,6 +13,10 @@ use Rattle.cell_core.specs.Rows.{AreRows, greatest}
 use Rattle.operator_cells.specs.Rising.{GrowsTo, Rises}
 use Rattle.operator_cells.proofs.RisingLaws.{stand_none, stand_more, grown_to}
 use Rattle.operator_cells.specs.row_rules.PlaceRows.Origins.{is_open}
+use Rattle.operator_cells.specs.row_rules.declared.place_rows.location.Location.{Location}
+use Rattle.operator_cells.specs.row_rules.declared.place_rows.location.Location.TheVariants as location
+use Rattle.operator_cells.specs.row_rules.PlaceRows.Locations.{target_number, first_pending, location_number, location_at, IsHeld}
+use Rattle.operator_cells.proofs.row_rules_laws.PlaceRows.LocationLaws.{numbered_as, held_there}
 use Rattle.operator_cells.proofs.row_rules_laws.PlaceRows.PlaceLaws.{greatest_above, greatest_within}
 use Rattle.operator_cells.specs.declared.held_cells.machine_cells.RegisterCells.{RegisterCells}
 use Rattle.operator_cells.specs.declared.held_cells.way.Way.{Way}
@@ -30,21 +34,22 @@ use Rattle.edge_cells.proofs.PartRows.{number_there, row_there}
 
 -- ---- places
 
-place_inside : (part : Part) → IsPart part → data_place part < 332
+place_inside : (part : Part) → IsPart part → data_place part < first_pending
 place_inside (Register r) l = omega (arith, l)
 place_inside (Slot s) l = omega (arith, l)
 place_inside (Byte i) l = omega (arith, l)
 place_inside Target l = omega arith
 
 -- every place is that of a part
-pub part_at : (place : ℕ) → place < 332 → (part : Part) × IsPart part × (data_place part ≡ place)
-part_at place l = by (cases_lt place 11) (cases_lt place 75) (cases_lt place 331)
+pub part_at : (place : ℕ) → place < first_pending → (part : Part) × IsPart part × (data_place part ≡ place)
+part_at place l = by (location_at place) (held_there place l) (numbered_as place (location_at place) refl)
   where
-    by : (place < 11) ⊎ (11 ≤ place) → (place < 75) ⊎ (75 ≤ place) → (place < 331) ⊎ (331 ≤ place) → (part : Part) × IsPart part × (data_place part ≡ place)
-    by (inl a) b c = (Register place, omega (arith, a), refl)
-    by (inr a) (inl b) c = (Slot (place - 11), omega (arith, a, b), omega (arith, a))
-    by (inr a) (inr b) (inl c) = (Byte (place - 75), omega (arith, b, c), omega (arith, b))
-    by (inr a) (inr b) (inr c) = (Target, tt, omega (arith, c, l))
+    by : (x : Location) → IsHeld x → place ≡ location_number x → (part : Part) × IsPart part × (data_place part ≡ place)
+    by (location.Register r) there e = (Register r, (let small : r < 11 = there in omega (arith, small)), sym e)
+    by (location.StackSlot s) there e = (Slot s, there, sym e)
+    by (location.PacketByte i) there e = (Byte i, there, sym e)
+    by location.Target there e = (Target, tt, sym e)
+    by (location.PendingWrites q) there e = absurd there
 
 -- ---- more pointers
 
@@ -79,9 +84,9 @@ choosing_later decls cells row ps qs k part here p e ways =
 
 -- ---- all places
 
-choosing_within : (row : ℕ → ℕ) (ps : List PointerView) (here : List Way) (k : Kinds) (place : ℕ) → place < 332 → choosing_row row ps here k place ≤ choosing_rows row ps here k
+choosing_within : (row : ℕ → ℕ) (ps : List PointerView) (here : List Way) (k : Kinds) (place : ℕ) → place < first_pending → choosing_row row ps here k place ≤ choosing_rows row ps here k
 unfolding choosing_rows
-choosing_within row ps here k place l = greatest_above (choosing_row row ps here k) 0 332 place zero_first l
+choosing_within row ps here k place l = greatest_above (choosing_row row ps here k) 0 first_pending place zero_first l
   where
     zero_first : 0 ≤ place
     zero_first = omega arith
@@ -92,16 +97,16 @@ trans_le p q = omega (arith, p, q)
 same_le : {a b : ℕ} → a ≡ b → a ≤ b
 same_le e = omega (arith, e)
 
-choosing_again : (decls : List MapDecl) (cells : List CellView) (row : ℕ → ℕ) (ps qs : List PointerView) (here : List Way) (k : Kinds) → Extends ps qs → AreWays decls cells ps here → (place : ℕ) → place < 332
+choosing_again : (decls : List MapDecl) (cells : List CellView) (row : ℕ → ℕ) (ps qs : List PointerView) (here : List Way) (k : Kinds) → Extends ps qs → AreWays decls cells ps here → (place : ℕ) → place < first_pending
     → choosing_row row qs here k place ≤ choosing_rows row ps here k
 choosing_again decls cells row ps qs here k e ways place l =
     let at = part_at place l in
     subst (λ (n : ℕ). choosing_row row qs here k n ≤ choosing_rows row ps here k) at.2
     (trans_le (same_le (choosing_later decls cells row ps qs k at.0 here at.1 e ways)) (choosing_within row ps here k (data_place at.0) (place_inside at.0 at.1)))
 
-choosing_all : (row : ℕ → ℕ) (qs : List PointerView) (here : List Way) (k : Kinds) (most : ℕ) → ((place : ℕ) → place < 332 → choosing_row row qs here k place ≤ most) → choosing_rows row qs here k ≤ most
+choosing_all : (row : ℕ → ℕ) (qs : List PointerView) (here : List Way) (k : Kinds) (most : ℕ) → ((place : ℕ) → place < first_pending → choosing_row row qs here k place ≤ most) → choosing_rows row qs here k ≤ most
 unfolding choosing_rows
-choosing_all row qs here k most h = greatest_within (choosing_row row qs here k) most 0 332 (λ i low high. h i high)
+choosing_all row qs here k most h = greatest_within (choosing_row row qs here k) most 0 first_pending (λ i low high. h i high)
 
 -- ---- what is met stays, and is met by the pointers that the edges had
 
@@ -161,11 +166,11 @@ joined_to old mid new ps qs here k guard h guarded grows before met = record {
   same = same_places;
 }
   where
-    held_places : (row : ℕ → ℕ) → AreRows new row → (place : ℕ) → place < 332 → held_row row qs h k place ≤ met_row row ps here place
+    held_places : (row : ℕ → ℕ) → AreRows new row → (place : ℕ) → place < first_pending → held_row row qs h k place ≤ met_row row ps here place
     held_places row rows place l = let at = part_at place l in
         subst (λ (n : ℕ). held_row row qs h k n ≤ met_row row ps here n) at.2 (trans_le (same_le (row_there row qs h k at.0 at.1)) ((met at.0 at.1).value row rows))
 
-    same_places : (place : ℕ) → place < 332 → hold_one here place ≡ true → All (λ e. number_at h place ≡ number_at e.held place) here
+    same_places : (place : ℕ) → place < first_pending → hold_one here place ≡ true → All (λ e. number_at h place ≡ number_at e.held place) here
     same_places place l one i d m = let at = part_at place l in
         ap (number_at h) (sym at.2) ∙ number_there h at.0 at.1
         ∙ (met at.0 at.1).same (ap (hold_one here) at.2 ∙ one) i d m ∙ ap (number_at (get_or here i d).held) at.2
@@ -198,7 +203,7 @@ joins_to decls a b c d e f p q r s t here k guard h ways guarded registers regis
     own_window = row_from decls a d e p r s here k Byte 256 h.window to_slots ways (λ i l. l) window_to
 
     last : GrowsTo e f (λ row. choosing_rows row p here k)
-    last = grows_by target_to.grows (λ row. choosing_again decls a row p s here k to_window ways 331 (omega arith))
+    last = grows_by target_to.grows (λ row. choosing_again decls a row p s here k to_window ways target_number (omega arith))
 
     behind_slots : GrowsTo d f (λ row. choosing_rows row p here k)
     behind_slots = grown_to (so_far own_window.grows) last (λ row u. same_le refl)

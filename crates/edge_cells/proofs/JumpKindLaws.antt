@@ -1,5 +1,5 @@
 -- The kinds along the edges of a jump.
-use Rattle.std.proofs.Common.{◌≡◌, ℕ, pos, zero, suc, ◌-◌, ◌==◌, nat_lt, ◌⊎◌, inl, inr, Bool, true, false, if◌then◌else◌, List, [], ◌∷◌, length, get_or, refl, ◌∙◌, sym, ap, subst}
+use Rattle.std.proofs.Common.{◌≡◌, ℕ, pos, zero, suc, ◌-◌, ◌==◌, ◌⊎◌, inl, inr, Bool, true, false, if◌then◌else◌, List, [], ◌∷◌, length, get_or, refl, ◌∙◌, sym, ap, subst}
 use Rattle.std.specs.Prelude.{Option, Some, None, Ok, Err}
 use Rattle.std.proofs.lemmas.Bool.{eqb-true}
 use Rattle.xdp_machine.specs.bpf_isa.declared.operation.Width.{Width}
@@ -22,8 +22,11 @@ use Rattle.kind_core.specs.Kinds.{register}
 use Rattle.kind_core.specs.Profile.{profiled}
 use Rattle.kind_core.specs.Effects.{effect_of, effect_as, operand}
 use Rattle.kind_core.specs.Edges.{decided, decided_as, changed_if, transferred}
-use Rattle.operator_cells.specs.HeldCells.Rows.{kind_at}
+use Rattle.operator_cells.specs.HeldCells.Rows.{kind_by, kind_at}
 use Rattle.edge_cells.specs.Testing.{is_equality, null_holds}
+use Rattle.operator_cells.specs.row_rules.declared.place_rows.location.Location.{Location}
+use Rattle.operator_cells.specs.row_rules.declared.place_rows.location.Location.TheVariants as location
+use Rattle.operator_cells.specs.row_rules.PlaceRows.Locations.{location_at}
 
 -- What an edge makes of a kind: what a lookup answered is null, or an entry if its node is one of these.
 pub data Along (Enter : ℕ → Type 0) : Kind → Kind → Type 0 where
@@ -38,12 +41,14 @@ pub record IsEdge (Enter : ℕ → Type 0) (k j : Kinds) : Type 0 where
   pub slot_count : length j.slots ≡ length k.slots
 
 pub along_at : {Enter : ℕ → Type 0} (k j : Kinds) (place : ℕ) → IsEdge Enter k j → Along Enter (kind_at k place) (kind_at j place)
-along_at {Enter} k j place e = by (nat_lt place 11) refl (nat_lt place 75) refl
+along_at {Enter} k j place e = by (location_at place)
   where
-    by : (a : Bool) → nat_lt place 11 ≡ a → (b : Bool) → nat_lt place 75 ≡ b → Along Enter (kind_at k place) (kind_at j place)
-    by true f b g = rw f (e.registers place)
-    by false f true g = rw (f, g) (e.slots (place - 11))
-    by false f false g = rw (f, g) (same _)
+    by : (l : Location) → Along Enter (kind_by k l) (kind_by j l)
+    by (location.Register r) = e.registers r
+    by (location.StackSlot s) = e.slots s
+    by (location.PacketByte i) = same _
+    by location.Target = same _
+    by (location.PendingWrites q) = same _
 
 -- on this edge of a test against null what the lookup of node n answered is an entry
 pub record Enters (taken : Bool) (w : Width) (c : JumpCode) (a b : Kind) (n : ℕ) : Type 0 where

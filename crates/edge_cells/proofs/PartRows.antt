@@ -1,7 +1,7 @@
 -- The rows of what meets at a part.
-use Rattle.std.proofs.Common.{◌≡◌, ℕ, ◌+◌, ◌-◌, ◌≤◌, ◌==◌, Bool, true, false, not, ◌&&◌, if◌then◌else◌, List, [], ◌∷◌, get_or, All, refl, sym, ◌∙◌, ap, subst, arith}
+use Rattle.std.proofs.Common.{◌≡◌, ℕ, ◌-◌, ◌≤◌, ◌==◌, Bool, true, false, not, ◌&&◌, if◌then◌else◌, List, [], ◌∷◌, get_or, All, refl, sym, ◌∙◌, ap, subst, arith}
 use Rattle.std.specs.Prelude.{Some, None}
-use Rattle.std.proofs.lemmas.Bool.{lt-ltb, le-ltb, eq-eqb, eqb-true}
+use Rattle.std.proofs.lemmas.Bool.{eq-eqb, eqb-true}
 use Rattle.std.proofs.lemmas.List.Sums.{AllPass-from_list_all, list_all-from_AllPass}
 use Rattle.xdp_machine.specs.xdp_maps.declared.decl.MapDecl.{MapDecl}
 use Rattle.kind_core.specs.declared.number.Number.{Number}
@@ -15,39 +15,48 @@ use Rattle.operator_cells.specs.Rising.{Rises, RiseAll}
 use Rattle.operator_cells.proofs.RisingLaws.{stand_none}
 use Rattle.operator_cells.specs.row_rules.PlaceRows.Origins.{is_open}
 use Rattle.operator_cells.specs.row_rules.PlaceRows.Reading as reading
+use Rattle.operator_cells.specs.row_rules.PlaceRows.Locations.{IsLocation}
+use Rattle.operator_cells.proofs.row_rules_laws.PlaceRows.LocationLaws.{at_number}
 use Rattle.operator_cells.specs.declared.held_cells.machine_cells.RegisterCells.{RegisterCells}
 use Rattle.operator_cells.specs.declared.held_cells.way.Way.{Way}
 use Rattle.operator_cells.specs.HeldCells.RegisterCells.{PointerView, pointer_at}
 use Rattle.operator_cells.specs.HeldCells.Rows as places
-use Rattle.operator_cells.specs.HeldCells.Rows.{cells_of_pointer, number_row, value_row, number_at, held_row, bits_row, brought_row, holds_at, hold_one, chosen_row, met_row, choosing_row}
+use Rattle.operator_cells.specs.HeldCells.Rows.{cells_of_pointer, number_row, value_row, number_at, held_row, brought_row, holds_at, hold_one, chosen_row, met_row, choosing_row}
 use Rattle.operator_cells.proofs.HeldCells.RowLaws.{grows_by}
 use Rattle.edge_cells.specs.declared.part.Part.{Part}
 use Rattle.edge_cells.specs.declared.part.Part.TheVariants.{Register, Slot, Byte, Target}
 use Rattle.edge_cells.specs.Widening.{Widens}
 use Rattle.edge_cells.specs.Meeting.{IsPart, held_at, kind_at, number_in, is_known, is_unknown, map_of}
-use Rattle.edge_cells.specs.Rows.{data_place, choice_row, number_row_brought, pointer_row_brought, MeetsTo}
+use Rattle.edge_cells.specs.Rows.{location_of, data_place, choice_row, number_row_brought, pointer_row_brought, MeetsTo}
 use Rattle.edge_cells.proofs.PartsMet.{AreAt, part_wider}
 use Rattle.edge_cells.proofs.ChoiceRows.{brought_above, choice_chosen}
 
 -- ---- a part by its place
 
+-- there is such a location
+pub part_located : (part : Part) → IsPart part → IsLocation (location_of part)
+part_located (Register r) l = omega (arith, l)
+part_located (Slot s) l = l
+part_located (Byte i) l = l
+part_located Target l = tt
+
+kind_located : (k : Kinds) (part : Part) → places.kind_by k (location_of part) ≡ kind_at part k
+kind_located k (Register r) = refl
+kind_located k (Slot s) = refl
+kind_located k (Byte i) = refl
+kind_located k Target = refl
+
+number_located : (h : RegisterCells) (part : Part) → places.number_by h (location_of part) ≡ held_at part h
+number_located h (Register r) = refl
+number_located h (Slot s) = refl
+number_located h (Byte i) = refl
+number_located h Target = refl
+
 pub kind_there : (k : Kinds) (part : Part) → IsPart part → places.kind_at k (data_place part) ≡ kind_at part k
-kind_there k (Register r) l = rw (lt-ltb r 11 (omega (arith, l))) refl
-kind_there k (Slot s) l =
-    let same : 11 + s - 11 ≡ s = omega arith in
-    rw (le-ltb (11 + s) 11 (omega arith), lt-ltb (11 + s) 75 (omega (arith, l)), same) refl
-kind_there k (Byte i) l = rw (le-ltb (75 + i) 11 (omega arith), le-ltb (75 + i) 75 (omega arith), lt-ltb (75 + i) 332 (omega (arith, l))) refl
-kind_there k Target l = refl
+kind_there k part l = ap (places.kind_by k) (at_number (location_of part) (part_located part l)) ∙ kind_located k part
 
 pub number_there : (h : RegisterCells) (part : Part) → IsPart part → number_at h (data_place part) ≡ held_at part h
-number_there h (Register r) l = rw (lt-ltb r 11 (omega (arith, l))) refl
-number_there h (Slot s) l =
-    let same : 11 + s - 11 ≡ s = omega arith in
-    rw (le-ltb (11 + s) 11 (omega arith), lt-ltb (11 + s) 75 (omega (arith, l)), same) refl
-number_there h (Byte i) l =
-    let same : 75 + i - 75 ≡ i = omega arith in
-    rw (le-ltb (75 + i) 11 (omega arith), le-ltb (75 + i) 75 (omega arith), lt-ltb (75 + i) 331 (omega (arith, l)), same) refl
-number_there h Target l = refl
+number_there h part l = ap (places.number_by h) (at_number (location_of part) (part_located part l)) ∙ number_located h part
 
 pub row_there : (row : ℕ → ℕ) (ps : List PointerView) (h : RegisterCells) (k : Kinds) (part : Part) → IsPart part → held_row row ps h k (data_place part) ≡ value_row row ps (kind_at part k) (held_at part h)
 row_there row ps h k part p = ap (λ (x : Kind). value_row row ps x (number_at h (data_place part))) (kind_there k part p) ∙ ap (value_row row ps (kind_at part k)) (number_there h part p)

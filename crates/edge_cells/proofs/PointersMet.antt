@@ -2,7 +2,7 @@
 use Rattle.std.proofs.Common.{◌≡◌, ℕ, ◌+◌, ◌<◌, ◌≤◌, ◌≢◌, ◌⊎◌, inl, inr, false, List, length, get_or, All, refl, sym, ◌∙◌, ap, subst, arith, get_or-set_other, get_or-set_same}
 use Rattle.std.specs.Prelude.{Option, Some, None, slice_index}
 use Rattle.std.proofs.Math.ListN.{set}
-use Rattle.std.proofs.lemmas.Bool.{cases_lt, le-ltb}
+use Rattle.std.proofs.lemmas.Bool.{cases_lt}
 use Rattle.xdp_machine.specs.xdp_maps.declared.decl.MapDecl.{MapDecl}
 use Rattle.kind_core.specs.declared.number.Number.TheVariants.{Unknown}
 use Rattle.kind_core.specs.declared.kind.Kind.{Kind}
@@ -29,6 +29,8 @@ use Rattle.edge_cells.proofs.PartsMet.{AreAt, widened, same_kind, keys_same}
 use Rattle.edge_cells.proofs.PartRows.{kind_there, number_there}
 use Rattle.edge_cells.proofs.JoinRows.{part_at}
 use Rattle.edge_cells.proofs.WayLaws.{first_below}
+use Rattle.operator_cells.specs.row_rules.PlaceRows.Locations.{first_pending}
+use Rattle.operator_cells.proofs.row_rules_laws.PlaceRows.LocationLaws.{pending_there}
 
 -- ---- one part
 
@@ -145,13 +147,13 @@ rows_points decls a b c d e f p q r s t here k h some ways registers registers_p
 rows_points decls a b c d e f p q r s t here k h some ways registers registers_point slots slots_point window target (Byte i) l = points_none (Num Unknown) refl
 rows_points decls a b c d e f p q r s t here k h some ways registers registers_point slots slots_point window target Target l = points_none (Num Unknown) refl
 
-nowhere : (k : Kinds) (place : ℕ) → 332 ≤ place → places.kind_at k place ≡ Unset
-nowhere k place l = rw (le-ltb place 11 (omega (arith, l)), le-ltb place 75 (omega (arith, l)), le-ltb place 332 l) refl
+nowhere : (k : Kinds) (place : ℕ) → first_pending ≤ place → places.kind_at k place ≡ Unset
+nowhere k place l = ap (places.kind_by k) (pending_there place l)
 
-place_of : (k : Kinds) (h : RegisterCells) (y : Pointing) (place : ℕ) → pointing_at k h place ≡ Some y → place < 332
-place_of k h y place is = by (cases_lt place 332)
+place_of : (k : Kinds) (h : RegisterCells) (y : Pointing) (place : ℕ) → pointing_at k h place ≡ Some y → place < first_pending
+place_of k h y place is = by (cases_lt place first_pending)
   where
-    by : (place < 332) ⊎ (332 ≤ place) → place < 332
+    by : (place < first_pending) ⊎ (first_pending ≤ place) → place < first_pending
     by (inl l) = l
     by (inr l) = let bad : None ≡ Some y = ap (λ (a : Kind). pointing_as a (number_at h place)) (sym (nowhere k place l)) ∙ is in absurd (cc bad)
 

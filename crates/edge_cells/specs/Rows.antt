@@ -4,7 +4,9 @@ use Rattle.kind_core.specs.declared.kind.Kinds.{Kinds}
 use Rattle.cell_core.specs.Cells.{CellView}
 use Rattle.cell_core.specs.Rows.{AreRows, greatest, numbers}
 use Rattle.operator_cells.specs.Rising.{GrowsTo}
-use Rattle.operator_cells.specs.row_rules.PlaceRows.Spans.{slot, byte}
+use Rattle.operator_cells.specs.row_rules.declared.place_rows.location.Location.{Location}
+use Rattle.operator_cells.specs.row_rules.declared.place_rows.location.Location.TheVariants as location
+use Rattle.operator_cells.specs.row_rules.PlaceRows.Locations.{first_pending, location_number}
 use Rattle.operator_cells.specs.declared.held_cells.way.Way.{Way}
 use Rattle.operator_cells.specs.HeldCells.RegisterCells.{PointerView, pointer_at}
 use Rattle.operator_cells.specs.HeldCells.Rows.{cells_of_pointer, number_row, value_row, number_at, hold_one, met_row, choosing_row}
@@ -12,12 +14,15 @@ use Rattle.edge_cells.specs.declared.part.Part.{Part}
 use Rattle.edge_cells.specs.declared.part.Part.TheVariants.{Register, Slot, Byte, Target}
 use Rattle.edge_cells.specs.Meeting.{held_at, kind_at, number_in}
 
--- the data place of a part
+-- the location of a part, and its number
+abbrev pub location_of : Part → Location
+location_of (Register r) = location.Register r
+location_of (Slot s) = location.StackSlot s
+location_of (Byte i) = location.PacketByte i
+location_of Target = location.Target
+
 abbrev pub data_place : Part → ℕ
-data_place (Register r) = r
-data_place (Slot s) = slot s
-data_place (Byte i) = byte i
-data_place Target = 331
+data_place part = location_number (location_of part)
 
 -- the greatest row of the bits of edges and of what they bring
 abbrev pub choice_row : (ℕ → ℕ) → ((ℕ → ℕ) → Way → ℕ) → List Way → ℕ
@@ -43,7 +48,7 @@ pub record MeetsTo (old new : List CellView) (ps qs : List PointerView) (here : 
 
 -- the greatest row of what is chosen at any place
 unfoldable pub choosing_rows : (ℕ → ℕ) → List PointerView → List Way → Kinds → ℕ
-choosing_rows row ps here k = greatest (choosing_row row ps here k) (numbers 0 332)
+choosing_rows row ps here k = greatest (choosing_row row ps here k) (numbers 0 first_pending)
 
 -- The same of n parts of one sort.
 pub record MeetRowTo (old new : List CellView) (ps qs : List PointerView) (here : List Way) (k : Kinds) (part : ℕ → Part) (n : ℕ) (held : List ℕ) : Type 0 where

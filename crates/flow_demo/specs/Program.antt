@@ -11,6 +11,9 @@ use Rattle.bpf_isa.specs.declared.operation.Size.TheVariants.{B, Dw, W}
 use Rattle.bpf_isa.specs.declared.operation.Src.TheVariants.{K, X}
 use Rattle.bpf_isa.specs.declared.operation.Width.TheVariants.{Bits64}
 use Rattle.bpf_isa.specs.declared.instruction.Insn.{Insn}
+use Rattle.bpf_isa.specs.declared.helper.Helper.{Helper}
+use Rattle.bpf_isa.specs.declared.helper.Helper.TheVariants.{Lookup, Update}
+use Rattle.bpf_isa.specs.Helpers.{helper_number}
 use Rattle.xdp_object.specs.xdp_maps.declared.decl.MapDecl.{MapDecl}
 use Rattle.xdp_object.specs.xdp_maps.declared.decl.MapKind.TheVariants.{Hash}
 use Rattle.xdp_object.specs.xdp_machine.Program.{XdpProgram}
@@ -37,8 +40,8 @@ load size dst src offset = insn (Load size) dst src offset (pos 0)
 abbrev pub load_map : ℕ → Insn
 load_map dst = insn LoadImm dst 0 (pos 0) (pos 0)
 
-abbrev pub call : ℤ → Insn
-call helper = insn Call 0 0 (pos 0) helper
+abbrev pub call : Helper → Insn
+call helper = insn Call 0 0 (pos 0) (helper_number helper)
 
 -- each with its place
 unfoldable pub demo_insns : List Insn
@@ -56,7 +59,7 @@ demo_insns =
     ∷ load_map 1  -- 10: r1 = flow ll
     ∷ copy 2 10  -- 12: r2 = r10
     ∷ by_number Add 2 (neg_ℤ (pos 4))  -- 13: r2 += -4
-    ∷ call (pos 1)  -- 14: call 1, map_lookup_elem
+    ∷ call Lookup  -- 14: call map_lookup_elem
     ∷ insn (Jump Bits64 Jne K) 0 0 (pos 9) (pos 0)  -- 15: if r0 != 0 goto +9
     ∷ load_map 1  -- 16: r1 = flow ll
     ∷ copy 2 10  -- 18: r2 = r10
@@ -64,7 +67,7 @@ demo_insns =
     ∷ copy 3 10  -- 20: r3 = r10
     ∷ by_number Add 3 (neg_ℤ (pos 16))  -- 21: r3 += -16
     ∷ by_number Mov 4 (pos 0)  -- 22: r4 = 0
-    ∷ call (pos 2)  -- 23: call 2, map_update_elem
+    ∷ call Update  -- 23: call map_update_elem
     ∷ insn (Ja Bits64) 0 0 (pos 2) (pos 0)  -- 24: goto +2
     ∷ by_number Mov 1 (pos 1)  -- 25: r1 = 1
     ∷ insn (Atomic Dw) 0 1 (pos 0) (pos 0)  -- 26: lock *(u64 *)(r0 + 0) += r1

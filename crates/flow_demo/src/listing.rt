@@ -4,7 +4,7 @@ ghost use Rattle.std.specs.Prelude.{◌≡◌, All, IfOk};
 ghost use Rattle.bpf_isa.specs.Spelling.{IsInsn};
 ghost use Rattle.bpf_isa.specs.Text.{text_of};
 
-use bpf_isa::{AluCode, Insn, JumpCode, Op, Size, Src, Width, encode_one};
+use bpf_isa::{AluCode, Helper, Insn, JumpCode, Op, Size, Src, Width, encode_one};
 use std::alloc::{AllocError, Global};
 
 /// An instruction: its operation, destination, source, offset and number.
@@ -35,7 +35,7 @@ pub(crate) const LISTING: [Insn; 29] = [
     insn!(Op::LoadImm, 1, 0, 0, 0),
     insn!(Op::Alu(Width::Bits64, AluCode::Mov, Src::X), 2, 10, 0, 0),
     insn!(Op::Alu(Width::Bits64, AluCode::Add, Src::K), 2, 0, 0, -4),
-    insn!(Op::Call, 0, 0, 0, 1),
+    insn!(Op::Call, 0, 0, 0, Helper::Lookup as i64),
     insn!(Op::Jump(Width::Bits64, JumpCode::Jne, Src::K), 0, 0, 9, 0),
     insn!(Op::LoadImm, 1, 0, 0, 0),
     insn!(Op::Alu(Width::Bits64, AluCode::Mov, Src::X), 2, 10, 0, 0),
@@ -43,7 +43,7 @@ pub(crate) const LISTING: [Insn; 29] = [
     insn!(Op::Alu(Width::Bits64, AluCode::Mov, Src::X), 3, 10, 0, 0),
     insn!(Op::Alu(Width::Bits64, AluCode::Add, Src::K), 3, 0, 0, -16),
     insn!(Op::Alu(Width::Bits64, AluCode::Mov, Src::K), 4, 0, 0, 0),
-    insn!(Op::Call, 0, 0, 0, 2),
+    insn!(Op::Call, 0, 0, 0, Helper::Update as i64),
     insn!(Op::Ja(Width::Bits64), 0, 0, 2, 0),
     insn!(Op::Alu(Width::Bits64, AluCode::Mov, Src::K), 1, 0, 0, 1),
     insn!(Op::Atomic(Size::Dw), 0, 1, 0, 0),

@@ -1,13 +1,13 @@
 -- Calls of helpers are sound.
 use Rattle.std.proofs.Common.{◌≡◌, ◌≢◌, map as map_list, ℕ, zero, suc, ◌+◌, ◌-◌, ◌/◌, ◌%◌, ◌^◌, ◌==◌, ◌<◌, ◌≤◌, ◌⊎◌, inl, inr, ℤ, pos, ◌+ℤ◌, Bool, true, false, cond, nat_le, nat_lt, refl, sym, ap, ◌∙◌, subst, arith, Option, Some, None, Ok, Err, IfOk, List, [], ◌∷◌, length, get_or, drop, slice_get, is_some}
 use Rattle.std.specs.Prelude.{slice_range}
-use Rattle.std.specs.Ordering.{int_eq}
 use Rattle.std.specs.Int.{w64, cast_unsigned}
 use Rattle.std.specs.FinMap as map
-use Rattle.std.proofs.lemmas.Int.{ints}
 use Rattle.std.proofs.lemmas.List.{get_or-take, get_or-drop, length-take, length-drop, get_or-set_other}
-use Rattle.std.proofs.lemmas.Bool.{cases_Bool}
 use Rattle.std.proofs.lemmas.Bool.Decides.{nat_tests}
+use Rattle.xdp_machine.specs.bpf_isa.declared.helper.Helper.{Helper}
+use Rattle.xdp_machine.specs.bpf_isa.declared.helper.Helper.TheVariants as helper
+use Rattle.xdp_machine.specs.bpf_isa.Helpers.{helper_of}
 use Rattle.xdp_machine.specs.xdp_maps.declared.decl.MapDecl.{MapDecl}
 use Rattle.xdp_machine.specs.xdp_maps.declared.decl.MapKind.{MapKind}
 use Rattle.xdp_machine.specs.xdp_maps.declared.decl.MapKind.TheVariants.{Hash, Array}
@@ -26,9 +26,7 @@ use Rattle.kind_core.specs.declared.number.Number.TheVariants.{Unknown}
 use Rattle.kind_core.specs.declared.kind.Kind.{Kind}
 use Rattle.kind_core.specs.declared.kind.Kind.TheVariants.{Unset, Num, Packet, End, Stack, MapRef, Maybe, Entry, Stale}
 use Rattle.kind_core.specs.declared.kind.Kinds.{Kinds}
-use Rattle.kind_core.specs.declared.helpers.Argument.TheVariants.{Unused, Map, Key, Value as ValueBytes, Plain}
-use Rattle.kind_core.specs.declared.helpers.Answer.TheVariants.{EntryOrNull, Plainly, AfterChange}
-use Rattle.kind_core.specs.declared.helpers.Helper.{Helper}
+use Rattle.kind_core.specs.declared.helpers.Argument.TheVariants.{Map, Key, Value as ValueBytes}
 use Rattle.kind_core.specs.declared.effects.Effect.{Effect}
 use Rattle.kind_core.specs.declared.effects.Effect.TheVariants.{Lookup, Answered, Changed}
 use Rattle.kind_core.specs.declared.refinements.Refinement.TheVariants.{IsStale}
@@ -36,7 +34,7 @@ use Rattle.xdp_state.specs.declared.refusal.Why.TheVariants as why
 use Rattle.kind_core.specs.Kinds.{register, answering, key_in, value_in, hash_in, is_hash_kind, key_bytes, value_bytes, is_hash}
 use Rattle.kind_core.specs.Tests.{◌>>=◌, Test, passed, readable, number_in, one_number, all_numbers, within}
 use Rattle.kind_core.specs.Places.{in_packet}
-use Rattle.kind_core.specs.Calls.{row, helper_of, declared, region, plain, fits_argument, argument_fits, change_of, called_as, called}
+use Rattle.kind_core.specs.Calls.{prototype_of, declared, region, plain, fits_argument, argument_fits, change_of, called_as, called}
 use Rattle.kind_core.specs.Profile.{in_profile, keeps_stack_end, registers_read, profiled, known_helper}
 use Rattle.kind_core.specs.Effects.{effect_as, effect_of}
 use Rattle.kind_core.specs.Edges.{refined, refined_all, changed}
@@ -266,10 +264,10 @@ null_or_entry : (maps : MapState) (q : ℕ) (key : List ℕ) (t : Bool) → is_s
 null_or_entry maps q key true h = inr (key, h, refl)
 null_or_entry maps q key false h = inl refl
 
-lookup_sound : (w : World) (k : Kinds) (m : Machine) → Stands w k m → IfOk (called_as m.maps.decls k (row Map Key Unused Unused Unused EntryOrNull)) (Leaves w k (helpers.lookup m))
+lookup_sound : (w : World) (k : Kinds) (m : Machine) → Stands w k m → IfOk (called_as m.maps.decls k (prototype_of helper.Lookup)) (Leaves w k (helpers.lookup m))
 lookup_sound w k m st =
     let decls = m.maps.decls in
-    let h = row Map Key Unused Unused Unused EntryOrNull in
+    let h = prototype_of helper.Lookup in
     let P : Effect → Type 0 = Leaves w k (helpers.lookup m) in
     bind_ok (argument_fits decls k h 0) _ P (λ u e.
     bind_ok (argument_fits decls k h 1) _ P (λ u' e'.
@@ -288,10 +286,10 @@ lookup_sound w k m st =
       ),
     ))))
 
-update_sound : (w : World) (k : Kinds) (m : Machine) → Stands w k m → IfOk (called_as m.maps.decls k (row Map Key ValueBytes Plain Unused AfterChange)) (Leaves w k (helpers.update m))
+update_sound : (w : World) (k : Kinds) (m : Machine) → Stands w k m → IfOk (called_as m.maps.decls k (prototype_of helper.Update)) (Leaves w k (helpers.update m))
 update_sound w k m st =
     let decls = m.maps.decls in
-    let h = row Map Key ValueBytes Plain Unused AfterChange in
+    let h = prototype_of helper.Update in
     let P : Effect → Type 0 = Leaves w k (helpers.update m) in
     bind_ok (argument_fits decls k h 0) _ P (λ u e.
     bind_ok (argument_fits decls k h 1) _ P (λ u1 e1.
@@ -314,10 +312,10 @@ update_sound w k m st =
       ),
     ))))))
 
-delete_sound : (w : World) (k : Kinds) (m : Machine) → Stands w k m → IfOk (called_as m.maps.decls k (row Map Key Unused Unused Unused AfterChange)) (Leaves w k (helpers.delete m))
+delete_sound : (w : World) (k : Kinds) (m : Machine) → Stands w k m → IfOk (called_as m.maps.decls k (prototype_of helper.Delete)) (Leaves w k (helpers.delete m))
 delete_sound w k m st =
     let decls = m.maps.decls in
-    let h = row Map Key Unused Unused Unused AfterChange in
+    let h = prototype_of helper.Delete in
     let P : Effect → Type 0 = Leaves w k (helpers.delete m) in
     bind_ok (argument_fits decls k h 0) _ P (λ u e.
     bind_ok (argument_fits decls k h 1) _ P (λ u1 e1.
@@ -349,7 +347,7 @@ number_leaves w k m n st = (
   ),
 )
 
-time_sound : (w : World) (k : Kinds) (m : Machine) → Stands w k m → IfOk (called_as m.maps.decls k (row Unused Unused Unused Unused Unused Plainly)) (Leaves w k (helpers.packet_time m))
+time_sound : (w : World) (k : Kinds) (m : Machine) → Stands w k m → IfOk (called_as m.maps.decls k (prototype_of helper.Time)) (Leaves w k (helpers.packet_time m))
 time_sound w k m st = number_leaves w k m m.time st
 
 redirected_leaves : (w : World) (k : Kinds) (m : Machine) (a b : ℕ) → Stands w k m → Leaves w k (Some (helpers.redirected a b m)) Answered
@@ -369,10 +367,10 @@ redirected_leaves w k m a zero st = (
     target_machine t d = record { registers = d.registers; slots = d.slots; checked = d.checked; frame = d.frame }
 redirected_leaves w k m a (suc b) st = number_leaves w k m 0 st
 
-redirect_sound : (w : World) (k : Kinds) (m : Machine) → Stands w k m → IfOk (called_as m.maps.decls k (row Plain Plain Unused Unused Unused Plainly)) (Leaves w k (helpers.redirect m))
+redirect_sound : (w : World) (k : Kinds) (m : Machine) → Stands w k m → IfOk (called_as m.maps.decls k (prototype_of helper.Redirect)) (Leaves w k (helpers.redirect m))
 redirect_sound w k m st =
     let decls = m.maps.decls in
-    let h = row Plain Plain Unused Unused Unused Plainly in
+    let h = prototype_of helper.Redirect in
     let P : Effect → Type 0 = Leaves w k (helpers.redirect m) in
     bind_ok (argument_fits decls k h 0) _ P (λ u e.
     bind_ok (argument_fits decls k h 1) _ P (λ u1 e1.
@@ -381,42 +379,13 @@ redirect_sound w k m st =
     subst (λ o. Leaves w k o Answered) (sym (redirect_there m a.0 b.0 (a.1) (b.1))) (redirected_leaves w k m a.0 b.0 st)))
 
 -- ---- all calls
-int_is : (x y : ℤ) → int_eq x y ≡ true → x ≡ y
-int_is x y h = grind (arith, ints)
-
-abbrev Sound : World → Kinds → Machine → ℤ → Type 0
-Sound w k m id = IfOk (called m.maps.decls k id (helper_of id)) (Leaves w k (helpers.called (cast_unsigned w64 id) m))
-
-abbrev helper_by : Bool → Bool → Bool → Bool → Bool → Option Helper
-helper_by a b c d e =
-    cond a (Some (row Map Key Unused Unused Unused EntryOrNull))
-    (cond b (Some (row Map Key ValueBytes Plain Unused AfterChange))
-    (cond c (Some (row Map Key Unused Unused Unused AfterChange))
-    (cond d (Some (row Unused Unused Unused Unused Unused Plainly))
-    (cond e (Some (row Plain Plain Unused Unused Unused Plainly))
-    None))))
-
-no_row : (w : World) (k : Kinds) (m : Machine) (id : ℤ) (a b c d e : Bool) → a ≡ false → b ≡ false → c ≡ false → d ≡ false → e ≡ false
-    → IfOk (called m.maps.decls k id (helper_by a b c d e)) (Leaves w k (helpers.called (cast_unsigned w64 id) m))
-no_row w k m id a b c d e p q r s t = rw (p, q, r, s, t) tt
-
-by_id : (w : World) (k : Kinds) (m : Machine) (id : ℤ) → Stands w k m → Sound w k m id
-by_id w k m id st = elim (cases_Bool (int_eq id (pos 1))) [
-  | inl h ↦ subst (Sound w k m) (sym (int_is id (pos 1) h)) (lookup_sound w k m st)
-  | inr a ↦ elim (cases_Bool (int_eq id (pos 2))) [
-    | inl h ↦ subst (Sound w k m) (sym (int_is id (pos 2) h)) (update_sound w k m st)
-    | inr b ↦ elim (cases_Bool (int_eq id (pos 3))) [
-      | inl h ↦ subst (Sound w k m) (sym (int_is id (pos 3) h)) (delete_sound w k m st)
-      | inr c ↦ elim (cases_Bool (int_eq id (pos 5))) [
-        | inl h ↦ subst (Sound w k m) (sym (int_is id (pos 5) h)) (time_sound w k m st)
-        | inr d ↦ elim (cases_Bool (int_eq id (pos 23))) [
-          | inl h ↦ subst (Sound w k m) (sym (int_is id (pos 23) h)) (redirect_sound w k m st)
-          | inr e ↦ no_row w k m id (int_eq id (pos 1)) (int_eq id (pos 2)) (int_eq id (pos 3)) (int_eq id (pos 5)) (int_eq id (pos 23)) a b c d e
-        ]
-      ]
-    ]
-  ]
-]
+by_helper : (w : World) (k : Kinds) (m : Machine) (id : ℤ) (h : Option Helper) → Stands w k m → IfOk (called m.maps.decls k id h) (Leaves w k (helpers.called h m))
+by_helper w k m id (Some helper.Lookup) st = lookup_sound w k m st
+by_helper w k m id (Some helper.Update) st = update_sound w k m st
+by_helper w k m id (Some helper.Delete) st = delete_sound w k m st
+by_helper w k m id (Some helper.Time) st = time_sound w k m st
+by_helper w k m id (Some helper.Redirect) st = redirect_sound w k m st
+by_helper w k m id None st = tt
 
 source_is : (b : Bool) (t : Test) → cond b t (Err why.Instruction) ≡ passed → b ≡ true
 source_is true t h = refl
@@ -430,5 +399,5 @@ calls_are_sound w k m i st op =
     let call = subst (λ p. in_profile i p ≡ passed) op a.1 in
     let source = source_is (i.src == 0) (known_helper i.imm (helper_of i.imm)) call in
     subst (λ p. IfOk (effect_as m.maps.decls k i p) (Leaves w k (step.calls m i))) (sym op)
-    (subst (λ o. IfOk (called m.maps.decls k i.imm (helper_of i.imm)) (Leaves w k o)) (sym (ap (λ b. cond b (helpers.called (cast_unsigned w64 i.imm) m) None) source))
-    (by_id w k m i.imm st)))
+    (subst (λ o. IfOk (called m.maps.decls k i.imm (helper_of i.imm)) (Leaves w k o)) (sym (ap (λ b. cond b (helpers.called (helper_of i.imm) m) None) source))
+    (by_helper w k m i.imm (helper_of i.imm) st)))

@@ -5,6 +5,8 @@ use Rattle.xdp_machine.specs.bpf_isa.declared.operation.Width.TheVariants.{Bits3
 use Rattle.xdp_machine.specs.bpf_isa.declared.operation.Op.{Op}
 use Rattle.xdp_machine.specs.bpf_isa.declared.operation.Op.TheVariants.{Alu, Neg, End as EndOp, Swap, Ja, Jump, Call, Exit, LoadImm, Load, LoadSigned, Abs, Ind, StoreImm, Store, Atomic}
 use Rattle.xdp_machine.specs.bpf_isa.declared.instruction.Insn.{Insn}
+use Rattle.xdp_machine.specs.bpf_isa.declared.helper.Helper.{Helper}
+use Rattle.xdp_machine.specs.bpf_isa.Helpers.{helper_of}
 use Rattle.xdp_machine.specs.bpf_isa.Spelling.{IsInsn, units_of}
 use Rattle.xdp_machine.specs.xdp_maps.declared.decl.MapDecl.{MapDecl}
 use Rattle.xdp_machine.specs.Arithmetic.{low}
@@ -22,7 +24,7 @@ use Rattle.kind_core.specs.declared.places.Place.{Place}
 use Rattle.kind_core.specs.declared.places.Place.TheVariants.{InPacket, InStack, InEntry}
 use Rattle.kind_core.specs.declared.helpers.Answer.{Answer}
 use Rattle.kind_core.specs.declared.helpers.Answer.TheVariants.{EntryOrNull, Plainly, AfterChange}
-use Rattle.kind_core.specs.declared.helpers.Helper.{Helper}
+use Rattle.kind_core.specs.declared.helpers.Prototype.{Prototype}
 use Rattle.kind_core.specs.declared.effects.Effect.{Effect}
 use Rattle.kind_core.specs.declared.effects.Effect.TheVariants.{Nothing, Register, Constant, Lookup, Answered, Changed, Compared}
 use Rattle.xdp_state.specs.declared.refusal.Why.{Why}
@@ -30,7 +32,7 @@ use Rattle.kind_core.specs.Kinds.{register, is_hash}
 use Rattle.kind_core.specs.Tests.{◌>>=◌, passed, number_in}
 use Rattle.kind_core.specs.Places.{accessed}
 use Rattle.kind_core.specs.Access.{compares, comparand, taking, changed_at}
-use Rattle.kind_core.specs.Calls.{helper_of, declared, argument_fits, change_of, answer_of, called}
+use Rattle.kind_core.specs.Calls.{prototype_of, declared, argument_fits, change_of, answer_of, called_as, called}
 use Rattle.kind_core.specs.Profile.{in_profile, keeps_stack_end, registers_read, profiled, writes_destination}
 use Rattle.kind_core.specs.Effects.{jump, effect_as, effect_of, verdict}
 use Rattle.kind_core.specs.Edges.{changed, changed_if, decided_as}
@@ -77,15 +79,18 @@ plain_answer decls k EntryOrNull = bind_all (declared decls (register k 1)) (λ 
 plain_answer decls k Plainly = refl
 plain_answer decls k AfterChange = bind_all (declared decls (register k 1)) (λ q. Ok (change_of decls q)) Plain (λ q. plain_change (is_hash decls q) q)
 
+plain_as : (decls : List MapDecl) (k : Kinds) (p : Prototype) → IfOk (called_as decls k p) Plain
+plain_as decls k p =
+    let f = argument_fits decls k p in
+    bind_all (f 0) (λ _. f 1 >>= (λ _. f 2 >>= (λ _. f 3 >>= (λ _. f 4 >>= (λ _. answer_of decls k p.answer))))) Plain (λ _.
+    bind_all (f 1) (λ _. f 2 >>= (λ _. f 3 >>= (λ _. f 4 >>= (λ _. answer_of decls k p.answer)))) Plain (λ _.
+    bind_all (f 2) (λ _. f 3 >>= (λ _. f 4 >>= (λ _. answer_of decls k p.answer))) Plain (λ _.
+    bind_all (f 3) (λ _. f 4 >>= (λ _. answer_of decls k p.answer)) Plain (λ _.
+    bind_all (f 4) (λ _. answer_of decls k p.answer) Plain (λ _. plain_answer decls k p.answer)))))
+
 plain_call : (decls : List MapDecl) (k : Kinds) (id : ℤ) (h : Option Helper) → IfOk (called decls k id h) Plain
 plain_call decls k id None = tt
-plain_call decls k id (Some h) =
-    let f = argument_fits decls k h in
-    bind_all (f 0) (λ _. f 1 >>= (λ _. f 2 >>= (λ _. f 3 >>= (λ _. f 4 >>= (λ _. answer_of decls k h.answer))))) Plain (λ _.
-    bind_all (f 1) (λ _. f 2 >>= (λ _. f 3 >>= (λ _. f 4 >>= (λ _. answer_of decls k h.answer)))) Plain (λ _.
-    bind_all (f 2) (λ _. f 3 >>= (λ _. f 4 >>= (λ _. answer_of decls k h.answer))) Plain (λ _.
-    bind_all (f 3) (λ _. f 4 >>= (λ _. answer_of decls k h.answer)) Plain (λ _.
-    bind_all (f 4) (λ _. answer_of decls k h.answer) Plain (λ _. plain_answer decls k h.answer)))))
+plain_call decls k id (Some h) = plain_as decls k (prototype_of h)
 
 plain_effect : (decls : List MapDecl) (k : Kinds) (i : Insn) (op : Op) → i.op ≡ op → IfOk (effect_as decls k i op) Plain → IfOk (effect_of decls k i) Plain
 unfolding effect_of

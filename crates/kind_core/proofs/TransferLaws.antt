@@ -7,6 +7,8 @@ use Rattle.xdp_machine.specs.bpf_isa.declared.operation.Op.{Op}
 use Rattle.xdp_machine.specs.bpf_isa.declared.operation.Op.TheVariants.{Ja, Jump, Call, Exit, LoadImm, Load, LoadSigned, StoreImm, Store, Atomic}
 use Rattle.xdp_machine.specs.bpf_isa.declared.operation.Size.{Size}
 use Rattle.xdp_machine.specs.bpf_isa.declared.instruction.Insn.{Insn}
+use Rattle.xdp_machine.specs.bpf_isa.declared.helper.Helper.{Helper}
+use Rattle.xdp_machine.specs.bpf_isa.Helpers.{helper_of}
 use Rattle.xdp_machine.specs.xdp_maps.declared.decl.MapDecl.{MapDecl}
 use Rattle.xdp_machine.specs.Atomics.{fetches}
 use Rattle.kind_core.specs.declared.number.Number.TheVariants.{Unknown}
@@ -19,7 +21,7 @@ use Rattle.kind_core.specs.declared.effects.Effect.{Effect}
 use Rattle.kind_core.specs.declared.effects.Effect.TheVariants.{Nothing, Register, Constant, Slot, Lookup, Answered, Changed, Compared}
 use Rattle.kind_core.specs.declared.helpers.Answer.{Answer}
 use Rattle.kind_core.specs.declared.helpers.Answer.TheVariants.{EntryOrNull, Plainly, AfterChange}
-use Rattle.kind_core.specs.declared.helpers.Helper.{Helper}
+use Rattle.kind_core.specs.declared.helpers.Prototype.{Prototype}
 use Rattle.kind_core.specs.declared.places.Place.{Place}
 use Rattle.kind_core.specs.declared.places.Place.TheVariants.{InPacket, InStack, InEntry}
 use Rattle.kind_core.specs.declared.refinements.Refinement.TheVariants.{IsStale}
@@ -29,7 +31,7 @@ use Rattle.kind_core.specs.Joins.{join_list, joined}
 use Rattle.kind_core.specs.Kinds.{register, is_hash, answering}
 use Rattle.kind_core.specs.Places.{accessed}
 use Rattle.kind_core.specs.Access.{loaded_plain, loaded_signed, stored, stored_at, changed_at, comparand, taking, compares, to_slot}
-use Rattle.kind_core.specs.Calls.{helper_of, called, answer_of, change_of, declared, argument_fits}
+use Rattle.kind_core.specs.Calls.{prototype_of, called_as, called, answer_of, change_of, declared, argument_fits}
 use Rattle.kind_core.specs.Profile.{profiled}
 use Rattle.kind_core.specs.Effects.{alu, assigned, effect_as, effect_of, immediate}
 use Rattle.kind_core.specs.Edges.{refined, agrees, on_edge, raised, changed, changed_if, transferred}
@@ -104,12 +106,15 @@ answer_fixed decls k EntryOrNull = bind_all (declared decls (register k 1)) (λ 
 answer_fixed decls k Plainly = λ node is_ref taken j. refl
 answer_fixed decls k AfterChange = bind_all (declared decls (register k 1)) (λ q. Ok (change_of decls q)) Fixed (λ q. change_fixed decls q)
 
+fixed_as : (decls : List MapDecl) (k : Kinds) (p : Prototype) → IfOk (called_as decls k p) Fixed
+fixed_as decls k p =
+    bind_all (argument_fits decls k p 0) _ Fixed (λ a.
+    bind_all (argument_fits decls k p 1) _ Fixed (λ b.
+    bind_all (argument_fits decls k p 2) _ Fixed (λ c. bind_all (argument_fits decls k p 3) _ Fixed (λ d. bind_all (argument_fits decls k p 4) _ Fixed (λ e. answer_fixed decls k p.answer)))))
+
 called_fixed : (decls : List MapDecl) (k : Kinds) (i : Insn) (o : Option Helper) → IfOk (called decls k i.imm o) Fixed
 called_fixed decls k i None = tt
-called_fixed decls k i (Some h) =
-    bind_all (argument_fits decls k h 0) _ Fixed (λ a.
-    bind_all (argument_fits decls k h 1) _ Fixed (λ b.
-    bind_all (argument_fits decls k h 2) _ Fixed (λ c. bind_all (argument_fits decls k h 3) _ Fixed (λ d. bind_all (argument_fits decls k h 4) _ Fixed (λ e. answer_fixed decls k h.answer)))))
+called_fixed decls k i (Some h) = fixed_as decls k (prototype_of h)
 
 stored_at_fixed : (slots : List Kind) (size : Size) (x : Kind) (place : Place) → IfOk (stored_at slots size x place) Fixed
 stored_at_fixed slots size x InPacket = bind_all (number_in x) (λ n. Ok Nothing) Fixed (λ n node is_ref taken k. refl)

@@ -1,6 +1,7 @@
 -- Calls of helpers (bpf-helpers(7)): the table of their arguments and answers, and what is asked of arguments.
 use Rattle.std.specs.Prelude.{ℕ, ℤ, pos, ◌+◌, ◌/◌, ◌+ℤ◌, nat_lt, Bool, true, false, if◌then◌else◌, Option, Some, None, Result, Ok, Err, List, [], ◌∷◌, length, get_or, slice_range}
-use Rattle.std.specs.Ordering.{int_eq}
+use Rattle.xdp_machine.specs.bpf_isa.declared.helper.Helper.{Helper}
+use Rattle.xdp_machine.specs.bpf_isa.declared.helper.Helper.TheVariants as helper
 use Rattle.xdp_machine.specs.xdp_maps.declared.decl.MapDecl.{MapDecl}
 use Rattle.kind_core.specs.declared.kind.Kind.{Kind}
 use Rattle.kind_core.specs.declared.kind.Kind.TheVariants.{Num, Packet, Stack, MapRef, Maybe}
@@ -9,7 +10,7 @@ use Rattle.kind_core.specs.declared.helpers.Argument.{Argument}
 use Rattle.kind_core.specs.declared.helpers.Argument.TheVariants.{Unused, Map, Key, Value, Plain}
 use Rattle.kind_core.specs.declared.helpers.Answer.{Answer}
 use Rattle.kind_core.specs.declared.helpers.Answer.TheVariants.{EntryOrNull, Plainly, AfterChange}
-use Rattle.kind_core.specs.declared.helpers.Helper.{Helper}
+use Rattle.kind_core.specs.declared.helpers.Prototype.{Prototype}
 use Rattle.kind_core.specs.declared.effects.Effect.{Effect}
 use Rattle.kind_core.specs.declared.effects.Effect.TheVariants.{Lookup, Answered, Changed}
 use Rattle.xdp_state.specs.declared.refusal.Why.{Why}
@@ -19,38 +20,39 @@ use Rattle.kind_core.specs.Tests.{◌>>=◌, Test, passed, read_if, all_numbers,
 use Rattle.kind_core.specs.Places.{in_packet}
 
 -- what R1 to R5 are, and what R0 is afterwards
-abbrev pub row : Argument → Argument → Argument → Argument → Argument → Answer → Helper
+abbrev pub row : Argument → Argument → Argument → Argument → Argument → Answer → Prototype
 row a b c d e answer = record { arguments = a ∷ b ∷ c ∷ d ∷ e ∷ []; answer = answer }
 
--- bpf_map_lookup_elem, bpf_map_update_elem, bpf_map_delete_elem, bpf_ktime_get_ns, bpf_redirect
-abbrev pub helper_of : ℤ → Option Helper
-helper_of id =
-    if int_eq id (pos 1) then Some (row Map Key Unused Unused Unused EntryOrNull) else
-    if int_eq id (pos 2) then Some (row Map Key Value Plain Unused AfterChange) else
-    if int_eq id (pos 3) then Some (row Map Key Unused Unused Unused AfterChange) else
-    if int_eq id (pos 5) then Some (row Unused Unused Unused Unused Unused Plainly) else
-    if int_eq id (pos 23) then Some (row Plain Plain Unused Unused Unused Plainly) else
-    None
+-- what a helper takes and answers
+abbrev pub prototype_of : Helper → Prototype
+prototype_of helper.Lookup = row Map Key Unused Unused Unused EntryOrNull
+prototype_of helper.Update = row Map Key Value Plain Unused AfterChange
+prototype_of helper.Delete = row Map Key Unused Unused Unused AfterChange
+prototype_of helper.Time = row Unused Unused Unused Unused Unused Plainly
+prototype_of helper.Redirect = row Plain Plain Unused Unused Unused Plainly
 
 abbrev pub is_used : Argument → Bool
 is_used Unused = false
 is_used a = true
 
-abbrev pub argument : Helper → ℕ → Argument
-argument h n = get_or h.arguments n Unused
+abbrev pub argument : Prototype → ℕ → Argument
+argument p n = get_or p.arguments n Unused
 
 -- the registers of the arguments are read: argument n, from 0, stands in the register after n
-abbrev pub argument_read : Kinds → Helper → ℕ → Test
-argument_read k h n = read_if (is_used (argument h n)) (register k (n + 1))
+abbrev pub argument_read : Kinds → Prototype → ℕ → Test
+argument_read k p n = read_if (is_used (argument p n)) (register k (n + 1))
+
+abbrev pub all_read : Kinds → Prototype → Test
+all_read k p =
+    argument_read k p 0 >>= λ _.
+    argument_read k p 1 >>= λ _.
+    argument_read k p 2 >>= λ _.
+    argument_read k p 3 >>= λ _.
+    argument_read k p 4
 
 abbrev pub arguments_read : Kinds → Option Helper → Test
 arguments_read k None = passed
-arguments_read k (Some h) =
-    argument_read k h 0 >>= λ _.
-    argument_read k h 1 >>= λ _.
-    argument_read k h 2 >>= λ _.
-    argument_read k h 3 >>= λ _.
-    argument_read k h 4
+arguments_read k (Some h) = all_read k (prototype_of h)
 
 -- a map of the program
 abbrev pub declared : List MapDecl → Kind → Result ℕ Why
@@ -85,18 +87,19 @@ answer_of decls k EntryOrNull = declared decls (register k 1) >>= λ q. Ok (Look
 answer_of decls k Plainly = Ok Answered
 answer_of decls k AfterChange = declared decls (register k 1) >>= λ q. Ok (change_of decls q)
 
-abbrev pub argument_fits : List MapDecl → Kinds → Helper → ℕ → Test
-argument_fits decls k h n = fits_argument decls k (argument h n) (register k (n + 1))
+abbrev pub argument_fits : List MapDecl → Kinds → Prototype → ℕ → Test
+argument_fits decls k p n = fits_argument decls k (argument p n) (register k (n + 1))
 
-abbrev pub called_as : List MapDecl → Kinds → Helper → Result Effect Why
-called_as decls k h =
-    argument_fits decls k h 0 >>= λ _.
-    argument_fits decls k h 1 >>= λ _.
-    argument_fits decls k h 2 >>= λ _.
-    argument_fits decls k h 3 >>= λ _.
-    argument_fits decls k h 4 >>= λ _.
-    answer_of decls k h.answer
+abbrev pub called_as : List MapDecl → Kinds → Prototype → Result Effect Why
+called_as decls k p =
+    argument_fits decls k p 0 >>= λ _.
+    argument_fits decls k p 1 >>= λ _.
+    argument_fits decls k p 2 >>= λ _.
+    argument_fits decls k p 3 >>= λ _.
+    argument_fits decls k p 4 >>= λ _.
+    answer_of decls k p.answer
 
+-- a call of the helper of a number, if there is one
 abbrev pub called : List MapDecl → Kinds → ℤ → Option Helper → Result Effect Why
 called decls k id None = Err (why.Helper id)
-called decls k id (Some h) = called_as decls k h
+called decls k id (Some h) = called_as decls k (prototype_of h)

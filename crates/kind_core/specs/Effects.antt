@@ -8,6 +8,7 @@ use Rattle.xdp_machine.specs.bpf_isa.declared.operation.JumpCode.{JumpCode}
 use Rattle.xdp_machine.specs.bpf_isa.declared.operation.Op.{Op}
 use Rattle.xdp_machine.specs.bpf_isa.declared.operation.Op.TheVariants.{Alu, Neg, End, Swap, Ja, Jump, Call, Exit, LoadImm, Load, LoadSigned, StoreImm, Store, Atomic}
 use Rattle.xdp_machine.specs.bpf_isa.declared.instruction.Insn.{Insn}
+use Rattle.xdp_machine.specs.bpf_isa.Helpers.{helper_of}
 use Rattle.xdp_machine.specs.xdp_maps.declared.decl.MapDecl.{MapDecl}
 use Rattle.kind_core.specs.declared.number.Number.{Number}
 use Rattle.kind_core.specs.declared.number.Number.TheVariants.{Known}
@@ -25,7 +26,7 @@ use Rattle.kind_core.specs.Tests.{◌>>=◌, Test, passed, number_in}
 use Rattle.kind_core.specs.Pointers.{combined}
 use Rattle.kind_core.specs.Access.{loaded_plain, loaded_signed, stored, atomic}
 use Rattle.kind_core.specs.Conditions.{condition_of}
-use Rattle.kind_core.specs.Calls.{helper_of, called}
+use Rattle.kind_core.specs.Calls.{called}
 use Rattle.kind_core.specs.Profile.{profiled}
 
 -- the immediate number in 64 bits, and the second operand

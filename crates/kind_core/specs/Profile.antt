@@ -6,13 +6,14 @@ use Rattle.xdp_machine.specs.bpf_isa.declared.operation.AluCode.TheVariants.{Mov
 use Rattle.xdp_machine.specs.bpf_isa.declared.operation.Op.{Op}
 use Rattle.xdp_machine.specs.bpf_isa.declared.operation.Op.TheVariants.{Alu, Neg, End, Swap, Jump, Call, Exit, LoadImm, Load, LoadSigned, Abs, Ind, StoreImm, Store, Atomic}
 use Rattle.xdp_machine.specs.bpf_isa.declared.instruction.Insn.{Insn}
+use Rattle.xdp_machine.specs.bpf_isa.declared.helper.Helper.{Helper}
+use Rattle.xdp_machine.specs.bpf_isa.Helpers.{helper_of}
 use Rattle.xdp_machine.specs.Atomics.{fetches}
 use Rattle.kind_core.specs.declared.kind.Kinds.{Kinds}
-use Rattle.kind_core.specs.declared.helpers.Helper.{Helper}
 use Rattle.xdp_state.specs.declared.refusal.Why.TheVariants as why
 use Rattle.kind_core.specs.Kinds.{register}
 use Rattle.kind_core.specs.Access.{compares}
-use Rattle.kind_core.specs.Calls.{helper_of, arguments_read}
+use Rattle.kind_core.specs.Calls.{arguments_read}
 use Rattle.kind_core.specs.Tests.{◌>>=◌, Test, passed, read_if}
 
 -- whether an instruction writes the destination, or with FETCH the source

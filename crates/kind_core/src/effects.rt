@@ -16,7 +16,7 @@ use crate::number::{self, Number};
 use crate::pointers::combined;
 use crate::profile::profiled;
 use crate::tests::number_in;
-use xdp_machine::bpf_isa::{AluCode, Insn, JumpCode, Op, Src, Width};
+use xdp_machine::bpf_isa::{AluCode, Helper, Insn, JumpCode, Op, Src, Width};
 use xdp_machine::xdp_maps::decl::MapDecl;
 use xdp_state::Why;
 
@@ -150,7 +150,7 @@ fn effect_as(decls: &[MapDecl], kinds: &Kinds, insn: &Insn) -> Result<Effect, Wh
     match insn.op {
         Op::Ja(_) => Ok(Effect::Nothing),
         Op::Jump(width, code, s) => Ok(Effect::Compared(jump(kinds, insn, width, code, s)?)),
-        Op::Call => called(decls, kinds, insn.imm),
+        Op::Call => called(decls, kinds, insn.imm, Helper::of(insn.imm)),
         Op::Exit => {
             number_in(kinds.registers[0])?;
             Ok(Effect::Nothing)

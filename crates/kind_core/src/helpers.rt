@@ -3,12 +3,13 @@
 ghost use Rattle.std.specs.Prelude.{◌≡◌, ◌<◌, ◌≤◌, ◌+ℤ◌, ℕ, length, IfOk};
 ghost use Rattle.kind_core.specs.Effects.{IsInside};
 ghost use Rattle.kind_core.specs.Kinds.{register};
-ghost use Rattle.kind_core.specs.Calls.{row, helper_of, is_used, argument, argument_read, arguments_read, declared, region, plain, fits_argument, argument_fits, change_of, answer_of, called_as, called};
+ghost use Rattle.kind_core.specs.Calls.{row, prototype_of, is_used, argument, argument_read, all_read, arguments_read, declared, region, plain, fits_argument, argument_fits, change_of, answer_of, called_as, called};
 
 use crate::effects::Effect;
 use crate::kind::{Kind, Kinds};
 use crate::places::{STACK_BYTES, in_packet, is_hash, key_bytes, value_bytes};
 use crate::tests::{all_numbers, read_if, within};
+use xdp_machine::bpf_isa::Helper;
 use xdp_machine::xdp_maps::decl::MapDecl;
 use xdp_state::Why;
 
@@ -37,37 +38,36 @@ pub(crate) enum Answer {
     AfterChange,
 }
 
-/// A row of the table.
+/// What a helper takes and answers: a row of the table.
 #[derive(Copy, Clone)]
-pub(crate) struct Helper {
+pub(crate) struct Prototype {
     /// R1 to R5.
     pub(crate) arguments: [Argument; 5],
     pub(crate) answer: Answer,
 }
 
 // A row.
-fn row(a: Argument, b: Argument, c: Argument, d: Argument, answer: Answer) -> Helper
+fn row(a: Argument, b: Argument, c: Argument, d: Argument, answer: Answer) -> Prototype
     ensures { result ≡ row a b c d Argument.Unused answer }
 {
-    Helper {
+    Prototype {
         arguments: [a, b, c, d, Argument::Unused],
         answer,
     }
 }
 
-/// The table: lookup, update, delete, the time, redirect.
-pub(crate) fn helper_of(id: i64) -> Option<Helper>
-    ensures { result ≡ helper_of id }
+// The table.
+fn prototype_of(helper: Helper) -> Prototype
+    ensures { result ≡ prototype_of helper }
 {
     use Answer::{AfterChange, EntryOrNull, Plainly};
     use Argument::{Key, Map, Plain, Unused, Value};
-    match id {
-        1 => Some(row(Map, Key, Unused, Unused, EntryOrNull)),
-        2 => Some(row(Map, Key, Value, Plain, AfterChange)),
-        3 => Some(row(Map, Key, Unused, Unused, AfterChange)),
-        5 => Some(row(Unused, Unused, Unused, Unused, Plainly)),
-        23 => Some(row(Plain, Plain, Unused, Unused, Plainly)),
-        _ => None,
+    match helper {
+        Helper::Lookup => row(Map, Key, Unused, Unused, EntryOrNull),
+        Helper::Update => row(Map, Key, Value, Plain, AfterChange),
+        Helper::Delete => row(Map, Key, Unused, Unused, AfterChange),
+        Helper::Time => row(Unused, Unused, Unused, Unused, Plainly),
+        Helper::Redirect => row(Plain, Plain, Unused, Unused, Plainly),
     }
 }
 
@@ -82,26 +82,31 @@ fn is_used(argument: Argument) -> bool
 }
 
 // The register of an argument is read.
-fn argument_read(kinds: &Kinds, helper: &Helper, n: usize) -> Result<(), Why>
+fn argument_read(kinds: &Kinds, prototype: &Prototype, n: usize) -> Result<(), Why>
     requires { n < 5 }
-    ensures { result ≡ argument_read kinds.now helper.now n }
+    ensures { result ≡ argument_read kinds.now prototype.now n }
 {
-    read_if(is_used(helper.arguments[n]), kinds.registers[n + 1])
+    read_if(is_used(prototype.arguments[n]), kinds.registers[n + 1])
 }
 
-/// The registers of all arguments are read.
-pub(crate) fn arguments_read(kinds: &Kinds, helper: &Option<Helper>) -> Result<(), Why>
-    ensures { result ≡ arguments_read kinds.now helper.now }
+// The registers of all arguments are read.
+fn all_read(kinds: &Kinds, prototype: &Prototype) -> Result<(), Why>
+    ensures { result ≡ all_read kinds.now prototype.now }
+{
+    argument_read(kinds, prototype, 0)?;
+    argument_read(kinds, prototype, 1)?;
+    argument_read(kinds, prototype, 2)?;
+    argument_read(kinds, prototype, 3)?;
+    argument_read(kinds, prototype, 4)
+}
+
+/// The registers of all arguments of a helper are read.
+pub(crate) fn arguments_read(kinds: &Kinds, helper: Option<Helper>) -> Result<(), Why>
+    ensures { result ≡ arguments_read kinds.now helper }
 {
     match helper {
         None => Ok(()),
-        Some(h) => {
-            argument_read(kinds, h, 0)?;
-            argument_read(kinds, h, 1)?;
-            argument_read(kinds, h, 2)?;
-            argument_read(kinds, h, 3)?;
-            argument_read(kinds, h, 4)
-        }
+        Some(h) => all_read(kinds, &prototype_of(h)),
     }
 }
 
@@ -172,11 +177,16 @@ fn fits_argument(
 }
 
 // What is asked of one of five arguments.
-fn argument_fits(decls: &[MapDecl], kinds: &Kinds, helper: &Helper, n: usize) -> Result<(), Why>
+fn argument_fits(
+    decls: &[MapDecl],
+    kinds: &Kinds,
+    prototype: &Prototype,
+    n: usize,
+) -> Result<(), Why>
     requires { n < 5 }
-    ensures { result ≡ argument_fits decls.now kinds.now helper.now n }
+    ensures { result ≡ argument_fits decls.now kinds.now prototype.now n }
 {
-    fits_argument(decls, kinds, helper.arguments[n], kinds.registers[n + 1])
+    fits_argument(decls, kinds, prototype.arguments[n], kinds.registers[n + 1])
 }
 
 // What a change of a map does.
@@ -203,26 +213,31 @@ fn answer_of(decls: &[MapDecl], kinds: &Kinds, answer: Answer) -> Result<Effect,
     }
 }
 
-// A call of a helper of the table.
-fn called_as(decls: &[MapDecl], kinds: &Kinds, helper: &Helper) -> Result<Effect, Why>
-    ensures value { result ≡ called_as decls.now kinds.now helper.now }
+// A call of what takes and answers this.
+fn called_as(decls: &[MapDecl], kinds: &Kinds, prototype: &Prototype) -> Result<Effect, Why>
+    ensures value { result ≡ called_as decls.now kinds.now prototype.now }
     ensures inside { IfOk result IsInside }
 {
-    argument_fits(decls, kinds, helper, 0)?;
-    argument_fits(decls, kinds, helper, 1)?;
-    argument_fits(decls, kinds, helper, 2)?;
-    argument_fits(decls, kinds, helper, 3)?;
-    argument_fits(decls, kinds, helper, 4)?;
-    answer_of(decls, kinds, helper.answer)
+    argument_fits(decls, kinds, prototype, 0)?;
+    argument_fits(decls, kinds, prototype, 1)?;
+    argument_fits(decls, kinds, prototype, 2)?;
+    argument_fits(decls, kinds, prototype, 3)?;
+    argument_fits(decls, kinds, prototype, 4)?;
+    answer_of(decls, kinds, prototype.answer)
 }
 
-/// A call of a helper.
-pub(crate) fn called(decls: &[MapDecl], kinds: &Kinds, id: i64) -> Result<Effect, Why>
-    ensures value { result ≡ called decls.now kinds.now id (helper_of id) }
+/// A call of the helper of a number, if there is one.
+pub(crate) fn called(
+    decls: &[MapDecl],
+    kinds: &Kinds,
+    id: i64,
+    helper: Option<Helper>,
+) -> Result<Effect, Why>
+    ensures value { result ≡ called decls.now kinds.now id helper }
     ensures inside { IfOk result IsInside }
 {
-    match helper_of(id) {
+    match helper {
         None => Err(Why::Helper(id)),
-        Some(h) => called_as(decls, kinds, &h),
+        Some(h) => called_as(decls, kinds, &prototype_of(h)),
     }
 }

@@ -1,14 +1,14 @@
 // What is asked of every instruction.
 
 ghost use Rattle.std.specs.Prelude.{◌≡◌, ◌≤◌};
-ghost use Rattle.kind_core.specs.Calls.{helper_of};
+ghost use Rattle.xdp_machine.specs.bpf_isa.Helpers.{helper_of};
 ghost use Rattle.kind_core.specs.Profile.{writes_destination, writes_source, writes_stack_end, known_helper, in_profile, keeps_stack_end, reads_destination, reads_source, others_read, registers_read, profiled};
 
 use crate::access::{compares, fetches};
-use crate::helpers::{arguments_read, helper_of};
+use crate::helpers::arguments_read;
 use crate::kind::Kinds;
 use crate::tests::read_if;
-use xdp_machine::bpf_isa::{AluCode, Insn, Op, Src};
+use xdp_machine::bpf_isa::{AluCode, Helper, Insn, Op, Src};
 use xdp_state::Why;
 
 // Whether the destination is written.
@@ -44,11 +44,11 @@ fn writes_stack_end(insn: &Insn) -> bool
     (writes_destination(insn.op) && insn.dst == 10) || (writes_source(insn) && insn.src == 10)
 }
 
-// The helper of a call is in the table.
+// The helper of a call is one that the machine has.
 fn known_helper(id: i64) -> Result<(), Why>
     ensures { result ≡ known_helper id (helper_of id) }
 {
-    match helper_of(id) {
+    match Helper::of(id) {
         Some(_) => Ok(()),
         None => Err(Why::Helper(id)),
     }
@@ -115,7 +115,7 @@ fn others_read(insn: &Insn, kinds: &Kinds) -> Result<(), Why>
     ensures { result ≡ others_read insn.now kinds.now insn.now.op }
 {
     match insn.op {
-        Op::Call => arguments_read(kinds, &helper_of(insn.imm)),
+        Op::Call => arguments_read(kinds, Helper::of(insn.imm)),
         Op::Exit => read_if(true, kinds.registers[0]),
         Op::Atomic(_) => read_if(compares(insn), kinds.registers[0]),
         _ => Ok(()),

@@ -1,10 +1,10 @@
 -- What edges bring to a node, as the graph has it.
-use Rattle.std.proofs.Common.{◌≡◌, ◌∙◌, ℕ, zero, suc, ◌+◌, ◌<◌, ◌≤◌, ◌==◌, ◌⊎◌, inl, inr, nat_lt, Bool, true, false, if◌then◌else◌, Some, None, List, [], ◌∷◌, length, get_or, refl, sym, ap, arith, subst, map}
+use Rattle.std.proofs.Common.{◌≡◌, ◌∙◌, ℕ, zero, suc, ◌+◌, ◌<◌, ◌≤◌, ◌==◌, ◌⊎◌, inl, inr, Bool, true, false, if◌then◌else◌, Some, None, List, [], ◌∷◌, length, get_or, refl, sym, ap, arith, subst, map}
 use Rattle.std.specs.Prelude.{All, Contains}
 use Rattle.std.specs.List.{filter}
 use Rattle.std.proofs.Math.ListN.{get_or-append}
 use Rattle.std.proofs.Math.Seq.{get_or-append_seam}
-use Rattle.std.proofs.lemmas.Bool.{cases_lt, eqb-true, eq-eqb, lt-ltb, le-ltb}
+use Rattle.std.proofs.lemmas.Bool.{cases_lt, eqb-true, eq-eqb}
 use Rattle.std.proofs.lemmas.List.{length-map, get_or-map}
 use Rattle.xdp_machine.specs.Program.{XdpProgram}
 use Rattle.kind_core.specs.declared.number.Number.TheVariants.{Known, Unknown}
@@ -17,15 +17,19 @@ use Rattle.unfold_core.specs.declared.unfolding.Unfolded.{Unfolded}
 use Rattle.operator_cells.specs.row_rules.declared.place_rows.origin.Origin.{Origin}
 use Rattle.operator_cells.specs.row_rules.declared.place_rows.origin.Origins.{Origins}
 use Rattle.operator_cells.specs.row_rules.PlaceRows.Spans.{pending_place}
-use Rattle.operator_cells.specs.row_rules.PlaceRows.Origins.{is_open, has_data, row_of, row_at, by_place}
+use Rattle.operator_cells.specs.row_rules.PlaceRows.Origins.{is_open, has_data, row_of, row_at, by_place, data_by}
 use Rattle.operator_cells.specs.row_rules.PlaceRows.Reading.{is_known}
 use Rattle.operator_cells.specs.row_rules.declared.node_rows.joining.Arrival.{Arrival}
 use Rattle.operator_cells.specs.row_rules.declared.node_rows.node.AfterNode.{AfterNode}
 use Rattle.operator_cells.specs.row_rules.NodeRows.Joining.{brings, origin_at, origins_at}
 use Rattle.operator_cells.specs.row_rules.NodeRows.Rows.{no_behind, arrival_of, behind_node, rows_of}
+use Rattle.operator_cells.specs.row_rules.declared.place_rows.location.Location.{Location}
+use Rattle.operator_cells.specs.row_rules.declared.place_rows.location.Location.TheVariants as location
+use Rattle.operator_cells.specs.row_rules.PlaceRows.Locations.{first_pending, location_at, IsHeld}
+use Rattle.operator_cells.proofs.row_rules_laws.PlaceRows.LocationLaws.{at_number, held_there}
 use Rattle.operator_cells.specs.declared.held_cells.way.Way.{Way}
 use Rattle.operator_cells.specs.HeldCells.RegisterCells.{PointerView}
-use Rattle.operator_cells.specs.HeldCells.Rows.{kind_at, number_at, value_row, held_row}
+use Rattle.operator_cells.specs.HeldCells.Rows.{kind_at, number_at, value_row, held_row, kind_by}
 use Rattle.operator_cells.proofs.row_rules_laws.NodeRows.CountLaws.{count_rows}
 use Rattle.predicate_core.specs.Stages.{arrivals_at, StandsBehind, AreNamed, StandWithin}
 use Rattle.predicate_core.proofs.Bringing.{RowBrought}
@@ -133,20 +137,22 @@ open_known Unset h = refl
 open_known Stale h = refl
 open_known Mixed h = refl
 
-pub has_open : (k : Kinds) (place : ℕ) → place < 332 → has_data k place ≡ is_open (kind_at k place)
-has_open k place l = by (nat_lt place 11) refl (nat_lt place 75) refl
+pub has_open : (k : Kinds) (place : ℕ) → place < first_pending → has_data k place ≡ is_open (kind_at k place)
+has_open k place l = by (location_at place) (held_there place l)
   where
-    by : (a : Bool) → nat_lt place 11 ≡ a → (b : Bool) → nat_lt place 75 ≡ b → has_data k place ≡ is_open (kind_at k place)
-    by true e b f = rw e refl
-    by false e true f = rw (e, f) refl
-    by false e false f = rw (e, f, lt-ltb place 332 l) refl
+    by : (x : Location) → IsHeld x → data_by k x ≡ is_open (kind_by k x)
+    by (location.Register r) there = refl
+    by (location.StackSlot s) there = refl
+    by (location.PacketByte i) there = refl
+    by location.Target there = refl
+    by (location.PendingWrites q) there = absurd there
 
 pub has_pending : (k : Kinds) (q : ℕ) → has_data k (pending_place q) ≡ true
-has_pending k q = rw (le-ltb (332 + q) 11 (omega arith), le-ltb (332 + q) 75 (omega arith)) refl
+has_pending k q = ap (data_by k) (at_number (location.PendingWrites q) tt)
 
 -- ---- one edge
 module _ (p : XdpProgram) (u : Unfolded) (k : ℕ) (e : Way) (b : AfterNode) (beside : List ℕ) (a : ComesAlong p u k e b) where
-  pub way_row : (row : ℕ → ℕ) (ps : List PointerView) (place : ℕ) → place < 332 → StandWithin row ps e beside b → RowBrought (arrivals_at p u k) place (row e.bit) (held_row row ps e.held e.kinds place)
+  pub way_row : (row : ℕ → ℕ) (ps : List PointerView) (place : ℕ) → place < first_pending → StandWithin row ps e beside b → RowBrought (arrivals_at p u k) place (row e.bit) (held_row row ps e.held e.kinds place)
   way_row row ps place l s = record { arrival = a.arrival; among = a.among; bit_low = omega (arith, s.bit, a.row_is); row_low = by (has_data a.arrival.kinds place) refl }
     where
       shut : has_data a.arrival.kinds place ≡ false → is_open (kind_at e.kinds place) ≡ false
@@ -156,7 +162,7 @@ module _ (p : XdpProgram) (u : Unfolded) (k : ℕ) (e : Way) (b : AfterNode) (be
       by true h = let same = ap (λ (o : Origins). row_at o.places place) a.origins_are in let low = s.held place l in omega (arith, low, same)
       by false h = omega (arith, closed row ps (kind_at e.kinds place) (number_at e.held place) (shut h))
 
-  pub way_name : (named : ℕ → ℕ → ℕ) (place : ℕ) (o : Origin) → place < 332 → AreNamed named k e beside b → brings a.arrival place ≡ Some o
+  pub way_name : (named : ℕ → ℕ → ℕ) (place : ℕ) (o : Origin) → place < first_pending → AreNamed named k e beside b → brings a.arrival place ≡ Some o
       → (is_known (kind_at e.kinds place) ≡ false) × (o.maker ≤ k) × (number_at e.held place ≡ named o.maker place)
   way_name named place o l names h = by (has_data a.arrival.kinds place) refl h
     where
@@ -168,7 +174,7 @@ module _ (p : XdpProgram) (u : Unfolded) (k : ℕ) (e : Way) (b : AfterNode) (be
       by false f g = cc
 
   brings_pending : (q : ℕ) → brings a.arrival (pending_place q) ≡ get_or b.origins.places (pending_place q) None
-  brings_pending q = rw (has_pending a.arrival.kinds q) (ap (λ (x : Origins). get_or x.places (332 + q) None) a.origins_are)
+  brings_pending q = rw (has_pending a.arrival.kinds q) (ap (λ (x : Origins). get_or x.places (first_pending + q) None) a.origins_are)
 
   pub cell_row : (row : ℕ → ℕ) (ps : List PointerView) (q c : ℕ) → row c ≤ row_at b.origins.places (pending_place q) → StandWithin row ps e beside b → RowBrought (arrivals_at p u k) (pending_place q) (row e.bit) (row c)
   cell_row row ps q c low s = record { arrival = a.arrival; among = a.among; bit_low = omega (arith, s.bit, a.row_is); row_low = let same = ap row_of (brings_pending q) in omega (arith, low, same) }

@@ -1,7 +1,7 @@
 -- With the edge with which a run begins alone all rows are 0; and what follows once all nodes are done.
 use Rattle.std.proofs.Common.{◌≡◌, ◌∙◌, ℕ, zero, suc, ◌+◌, ◌-◌, ◌<◌, ◌≤◌, ◌⊎◌, inl, inr, nat_lt, Bool, true, false, if◌then◌else◌, Some, None, List, [], ◌∷◌, length, get_or, refl, sym, ap, arith, subst}
 use Rattle.std.specs.Prelude.{slice_index, count_by}
-use Rattle.std.proofs.lemmas.Bool.{cases_lt, lt-ltb, le-ltb, ltb-false}
+use Rattle.std.proofs.lemmas.Bool.{cases_lt, lt-ltb, le-ltb}
 use Rattle.std.proofs.lemmas.List.{get_or-replicate, take_all}
 use Rattle.xdp_machine.specs.Program.{XdpProgram}
 use Rattle.kind_core.specs.declared.number.Number.TheVariants.{Known}
@@ -21,10 +21,14 @@ use Rattle.operator_cells.specs.row_rules.PlaceRows.Origins.{is_open, origin_at_
 use Rattle.operator_cells.proofs.row_rules_laws.PlaceRows.PlaceLaws.{place_at}
 use Rattle.operator_cells.specs.row_rules.declared.node_rows.stages.Stages.{Stages}
 use Rattle.operator_cells.specs.row_rules.NodeRows.Rows.{HasStages, insn_of, may_write}
+use Rattle.operator_cells.specs.row_rules.declared.place_rows.location.Location.{Location}
+use Rattle.operator_cells.specs.row_rules.declared.place_rows.location.Location.TheVariants as location
+use Rattle.operator_cells.specs.row_rules.PlaceRows.Locations.{target_number, first_pending, first_byte, location_at, IsLocation}
+use Rattle.operator_cells.proofs.row_rules_laws.PlaceRows.LocationLaws.{numbered_as, location_there}
 use Rattle.operator_cells.specs.declared.held_cells.way.Way.{Way}
 use Rattle.operator_cells.specs.HeldCells.RegisterCells.{PointerView, pointed}
 use Rattle.operator_cells.specs.HeldCells.Law.{made_at}
-use Rattle.operator_cells.specs.HeldCells.Rows.{kind_at, number_at, held_row}
+use Rattle.operator_cells.specs.HeldCells.Rows.{kind_at, number_at, held_row, kind_by}
 use Rattle.operator_cells.proofs.HeldCells.RowLaws.{byte_row, target_row}
 use Rattle.site_cells.specs.Sited.{sited}
 use Rattle.predicate_core.specs.declared.making.Progress.{Progress}
@@ -48,40 +52,43 @@ register_closed (suc (suc (suc (suc (suc (suc (suc (suc (suc zero))))))))) = ref
 register_closed (suc (suc (suc (suc (suc (suc (suc (suc (suc (suc zero)))))))))) = refl
 register_closed (suc (suc (suc (suc (suc (suc (suc (suc (suc (suc (suc r))))))))))) = refl
 
-pub start_closed : (place : ℕ) → place < 75 → is_open (kind_at kinds.start place) ≡ false
-start_closed place l = by (nat_lt place 11) refl
+pub start_closed : (place : ℕ) → place < first_byte → is_open (kind_at kinds.start place) ≡ false
+start_closed place l = by (location_at place) refl (location_there place)
   where
-    by : (b : Bool) → nat_lt place 11 ≡ b → is_open (kind_at kinds.start place) ≡ false
-    by true e = rw e (register_closed place)
-    by false e = rw (e, lt-ltb place 75 l, get_or-replicate 64 (place - 11) (Num (Known 0)) Unset (omega (arith, l, ltb-false place 11 e))) refl
+    by : (x : Location) → location_at place ≡ x → IsLocation x → is_open (kind_by kinds.start x) ≡ false
+    by (location.Register r) e there = register_closed r
+    by (location.StackSlot s) e there = rw (get_or-replicate 64 s (Num (Known 0)) Unset there) refl
+    by (location.PacketByte i) e there = let same : place ≡ first_byte + i = numbered_as place (location.PacketByte i) e in absurd (omega (arith, same, l))
+    by location.Target e there = let same : place ≡ target_number = numbered_as place location.Target e in absurd (omega (arith, same, l))
+    by (location.PendingWrites q) e there = let same : place ≡ first_pending + q = numbered_as place (location.PendingWrites q) e in absurd (omega (arith, same, l))
 
 start_maker : (place : ℕ) (o : Origin) → origin_at_start place ≡ Some o → o.maker ≡ 0
-start_maker place o e = by (nat_lt place 75) e
+start_maker place o e = by (nat_lt place first_byte) e
   where
     by : (b : Bool) → (if b then None else Some (record { maker = 0; row = 0 })) ≡ Some o → o.maker ≡ 0
     by true g = cc
     by false g = cc
 
 name_at : Way → List ℕ → ℕ → ℕ → ℕ
-name_at e waiting maker place = if nat_lt place 332 then number_at e.held place else slice_index waiting (place - 332)
+name_at e waiting maker place = if nat_lt place first_pending then number_at e.held place else slice_index waiting (place - first_pending)
 
 module _ (p : XdpProgram) (u : Unfolded) (cells : List CellView) (ps : List PointerView) (e : Way) (waiting : List ℕ) (maps : ℕ) (few : maps ≤ 16) (opens : Opens [] cells e) (waits : AreWaiting maps (length cells) waiting) where
   low : (row : ℕ → ℕ) → AreRows cells row → (c : ℕ) → c < length cells → row c ≤ 0
   low row rows c l = opens.no_row row 0 rows (λ k m. absurd (omega (arith, m))) c l
 
-  held_low : (row : ℕ → ℕ) → AreRows cells row → (place : ℕ) → place < 332 → held_row row ps e.held e.kinds place ≤ 0
-  held_low row rows place l = by (cases_lt place 75) (cases_lt place 331)
+  held_low : (row : ℕ → ℕ) → AreRows cells row → (place : ℕ) → place < first_pending → held_row row ps e.held e.kinds place ≤ 0
+  held_low row rows place l = by (cases_lt place first_byte) (cases_lt place target_number)
     where
-      by : (place < 75) ⊎ (75 ≤ place) → (place < 331) ⊎ (331 ≤ place) → held_row row ps e.held e.kinds place ≤ 0
+      by : (place < first_byte) ⊎ (first_byte ≤ place) → (place < target_number) ⊎ (target_number ≤ place) → held_row row ps e.held e.kinds place ≤ 0
       by (inl m) any = omega (arith, closed row ps (kind_at e.kinds place) (number_at e.held place) (ap (λ (k : Kinds). is_open (kind_at k place)) opens.kinds_are ∙ start_closed place m))
       by (inr m) (inl n) =
-          let at : 75 + (place - 75) ≡ place = omega (arith, m) in
-          let i : place - 75 < 256 = omega (arith, m, n) in
+          let at : first_byte + (place - first_byte) ≡ place = omega (arith, m) in
+          let i : place - first_byte < 256 = omega (arith, m, n) in
           let same = ap (held_row row ps e.held e.kinds) at in
-          let is = byte_row row ps e.held e.kinds (place - 75) i in
-          let x = low row rows (slice_index e.held.window (place - 75)) (opens.bytes.there (place - 75) i) in omega (arith, same, is, x)
+          let is = byte_row row ps e.held e.kinds (place - first_byte) i in
+          let x = low row rows (slice_index e.held.window (place - first_byte)) (opens.bytes.there (place - first_byte) i) in omega (arith, same, is, x)
       by (inr m) (inr n) =
-          let at : 331 ≡ place = omega (arith, n, l) in
+          let at : target_number ≡ place = omega (arith, n, l) in
           let same = ap (held_row row ps e.held e.kinds) at in
           let x = low row rows e.held.target opens.target_there in omega (arith, same, target_row row ps e.held e.kinds, x)
 
@@ -91,10 +98,10 @@ module _ (p : XdpProgram) (u : Unfolded) (cells : List CellView) (ps : List Poin
     behind = behind_start;
     stands = inl (opens.to_first, refl);
     names = record {
-      held = λ place o l h. (let z = start_maker place o (sym (place_at origin_at_start place (omega (arith, l))) ∙ h) in omega (arith, z), rw (lt-ltb place 332 l) refl);
+      held = λ place o l h. (let z = start_maker place o (sym (place_at origin_at_start place (omega (arith, l))) ∙ h) in omega (arith, z), rw (lt-ltb place first_pending l) refl);
       pending = λ q o l h. (
         let z = start_maker (pending_place q) o (sym (place_at origin_at_start (pending_place q) (omega (arith, l, waits.0, few))) ∙ h) in omega (arith, z),
-        let same : 332 + q - 332 ≡ q = omega arith in rw (le-ltb (332 + q) 332 (omega arith), same) refl,
+        let same : first_pending + q - first_pending ≡ q = omega arith in rw (le-ltb (first_pending + q) first_pending (omega arith), same) refl,
       );
     };
     within = λ row rows. record {

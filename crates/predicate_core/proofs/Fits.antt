@@ -13,6 +13,7 @@ use Rattle.operator_cells.specs.declared.joining.Arm.{Arm}
 use Rattle.operator_cells.specs.Joining.{flat}
 use Rattle.operator_cells.specs.Making.{seen}
 use Rattle.operator_cells.specs.row_rules.declared.place_rows.origin.Origin.{Origin}
+use Rattle.operator_cells.specs.row_rules.PlaceRows.Locations.{first_pending, location_count}
 use Rattle.operator_cells.specs.row_rules.PlaceRows.Spans.{pending_place}
 use Rattle.operator_cells.specs.row_rules.PlaceRows.Origins.{is_open, has_data, row_of, row_at, every_row, by_place, origin_at_start}
 use Rattle.operator_cells.proofs.row_rules_laws.PlaceRows.PlaceLaws.{place_at, greatest_within, greatest_above}
@@ -157,14 +158,14 @@ choosing_low row ps here kinds place n h = by (is_open (kind_at kinds place)) re
     by true e false f = new f (h e)
     by false e b f = omega arith
 
-pub row_every : (os : List (Option Origin)) (i : ℕ) → i < 348 → row_at os i ≤ every_row os
+pub row_every : (os : List (Option Origin)) (i : ℕ) → i < location_count → row_at os i ≤ every_row os
 unfolding every_row
-row_every os i l = greatest_above (row_at os) 0 348 i (omega arith) (omega (arith, l))
+row_every os i l = greatest_above (row_at os) 0 location_count i (omega arith) (omega (arith, l))
 
-below_last : (i : ℕ) → i < 0 + 332 → i < 332
+below_last : (i : ℕ) → i < 0 + first_pending → i < first_pending
 below_last i l = omega (arith, l)
 
-wider : (i : ℕ) → i < 332 → i < 348
+wider : (i : ℕ) → i < first_pending → i < location_count
 wider i l = omega (arith, l)
 
 trans_le : {a b c : ℕ} → a ≤ b → b ≤ c → a ≤ c
@@ -182,9 +183,9 @@ module _ (p : XdpProgram) (u : Unfolded) (k : ℕ) (t : Progress) (cells cells2 
     (gathers : GathersTo cells cells2 t.made.ways.items (pending_of t) numbers' (length p.decls) waiting) (count : length waiting ≡ length p.decls) (few : length p.decls ≤ 16)
     (fit : FitSoFar p u k t) (some : 1 ≤ length here) (some_numbers : 1 ≤ length numbers')
     (bits : (row : ℕ → ℕ) → AreRows (seen t.made.cells.items) row → bits_row row here ≤ edge_row (arrivals_at p u k))
-    (places : (place : ℕ) → place < 332 → PlaceFits fit.named k place here (seen t.made.cells.items) (pointed t.made.pointers.items) (get_or (origins_met p u k) place None) (has_data (kinds_of u k) place))
+    (places : (place : ℕ) → place < first_pending → PlaceFits fit.named k place here (seen t.made.cells.items) (pointed t.made.pointers.items) (get_or (origins_met p u k) place None) (has_data (kinds_of u k) place))
     (waits : (q : ℕ) → q < length p.decls → CellFits fit.named k q (arms_of t.made.ways.items (pending_of t) numbers' q no_way) (seen t.made.cells.items) (get_or (origins_met p u k) (pending_place q) None)) where
-  held_low : (row : ℕ → ℕ) → AreRows cells row → (place : ℕ) → place < 332 → held_row row ps h (kinds_of u k) place ≤ row_at (origins_met p u k) place
+  held_low : (row : ℕ → ℕ) → AreRows cells row → (place : ℕ) → place < first_pending → held_row row ps h (kinds_of u k) place ≤ row_at (origins_met p u k) place
   held_low row rows place l = by (has_data (kinds_of u k) place) refl
     where
       by : (b : Bool) → has_data (kinds_of u k) place ≡ b → held_row row ps h (kinds_of u k) place ≤ row_at (origins_met p u k) place
@@ -211,7 +212,7 @@ module _ (p : XdpProgram) (u : Unfolded) (k : ℕ) (t : Progress) (cells cells2 
   new_low : (row : ℕ → ℕ) → AreRows cells2 row → (c : ℕ) → length (seen t.made.cells.items) ≤ c → c < length cells2 → row c ≤ max (edge_row (arrivals_at p u k)) (every_row (origins_met p u k))
   new_low row rows c low high = by (cases_lt c (length cells))
     where
-      each : (place : ℕ) → place < 332 → choosing_row row (pointed t.made.pointers.items) here (kinds_of u k) place ≤ every_row (origins_met p u k)
+      each : (place : ℕ) → place < first_pending → choosing_row row (pointed t.made.pointers.items) here (kinds_of u k) place ≤ every_row (origins_met p u k)
       each place l =
           let x = choosing_low row (pointed t.made.pointers.items) here (kinds_of u k) place (row_at (origins_met p u k) place)
           (λ e. (places place l).rows row (joins.grows.rows row (gathers.rows row rows)) (has_open (kinds_of u k) place l ∙ e)) in
@@ -227,7 +228,7 @@ module _ (p : XdpProgram) (u : Unfolded) (k : ℕ) (t : Progress) (cells cells2 
       by (inl m) =
           let x = joins.grows.each row (gathers.rows row rows) c low m in
           let b = bits row (joins.grows.rows row (gathers.rows row rows)) in
-          let g = greatest_within (choosing_row row (pointed t.made.pointers.items) here (kinds_of u k)) (every_row (origins_met p u k)) 0 332 (λ i from to. each i (below_last i to)) in
+          let g = greatest_within (choosing_row row (pointed t.made.pointers.items) here (kinds_of u k)) (every_row (origins_met p u k)) 0 first_pending (λ i from to. each i (below_last i to)) in
           both_low x b g
       by (inr m) =
           last_low (edge_row (arrivals_at p u k)) (gathers.cells row (every_row (origins_met p u k)) no_way rows (λ q l. fits q l ((waits q l).rows row (joins.grows.rows row (gathers.rows row rows)))) c m high)
@@ -246,7 +247,7 @@ module _ (p : XdpProgram) (u : Unfolded) (k : ℕ) (t : Progress) (cells cells2 
     };
   }
     where
-      held_name : (place : ℕ) (o : Origin) → place < 332 → (o.maker ≡ k + 1) ⊎ ((o.maker ≤ k) × (hold_one here place ≡ true) × All (λ e. number_at e.held place ≡ fit.named o.maker place) here)
+      held_name : (place : ℕ) (o : Origin) → place < first_pending → (o.maker ≡ k + 1) ⊎ ((o.maker ≤ k) × (hold_one here place ≡ true) × All (λ e. number_at e.held place ≡ fit.named o.maker place) here)
           → (o.maker ≡ k + 1) ⊎ ((o.maker ≤ k) × (number_at h place ≡ fit.named o.maker place))
       held_name place o l (inl e) = inl e
       held_name place o l (inr x) = inr (x.0, joins.same place l x.1 0 no_way (omega (arith, some)) ∙ x.2 0 no_way (omega (arith, some)))

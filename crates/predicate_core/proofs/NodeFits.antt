@@ -26,6 +26,7 @@ use Rattle.operator_cells.specs.Making.{seen, Grows}
 use Rattle.operator_cells.proofs.RisingLaws.{rows_before}
 use Rattle.operator_cells.specs.row_rules.declared.place_rows.origin.Origin.{Origin}
 use Rattle.operator_cells.specs.row_rules.declared.place_rows.recording.Record.{Record}
+use Rattle.operator_cells.specs.row_rules.PlaceRows.Locations.{first_pending, location_count}
 use Rattle.operator_cells.specs.row_rules.PlaceRows.Spans.{pending_place, is_in}
 use Rattle.operator_cells.specs.row_rules.PlaceRows.Origins.{has_data, row_of, row_at}
 use Rattle.operator_cells.specs.row_rules.PlaceRows.Writing.{writes_as, taken_row}
@@ -80,13 +81,13 @@ named_old : (named : ℕ → ℕ → ℕ) (maker : ℕ) (own : ℕ → ℕ) (m p
 named_old named maker own m place e = let t : (m == maker) ≡ false = ne_eqb m maker e in rw t refl
 
 abbrev held_or_waiting : RegisterCells → List ℕ → ℕ → ℕ
-held_or_waiting h waiting place = if nat_lt place 332 then number_at h place else slice_index waiting (place - 332)
+held_or_waiting h waiting place = if nat_lt place first_pending then number_at h place else slice_index waiting (place - first_pending)
 
-own_held : (h : RegisterCells) (waiting : List ℕ) (place : ℕ) → place < 332 → held_or_waiting h waiting place ≡ number_at h place
-own_held h waiting place l = rw (lt-ltb place 332 l) refl
+own_held : (h : RegisterCells) (waiting : List ℕ) (place : ℕ) → place < first_pending → held_or_waiting h waiting place ≡ number_at h place
+own_held h waiting place l = rw (lt-ltb place first_pending l) refl
 
 own_waiting : (h : RegisterCells) (waiting : List ℕ) (q : ℕ) → held_or_waiting h waiting (pending_place q) ≡ slice_index waiting q
-own_waiting h waiting q = let same : 332 + q - 332 ≡ q = omega arith in rw (le-ltb (332 + q) 332 (omega arith), same) refl
+own_waiting h waiting q = let same : first_pending + q - first_pending ≡ q = omega arith in rw (le-ltb (first_pending + q) first_pending (omega arith), same) refl
 
 pub trans_le : {a b c : ℕ} → a ≤ b → b ≤ c → a ≤ c
 trans_le x y = omega (arith, x, y)
@@ -275,7 +276,7 @@ module _ (p : XdpProgram) (u : Unfolded) (k : ℕ) (i : Insn) (next jump : Optio
       small : (r : Record) → r.map ≡ (site_at (sited new.made.sites.items) (length (sited t.made.sites.items))).map → length (sited t.made.sites.items) < length (sited new.made.sites.items) → r.map < 16
       small r e l = omega (arith, e, map_small l, program.maps)
 
-      far : (n : ℕ) → n < 16 → 332 + n < 348
+      far : (n : ℕ) → n < 16 → first_pending + n < location_count
       far n l = omega (arith, l)
 
       written : (b : Bool) → records (site_at (sited new.made.sites.items) (length (sited t.made.sites.items))).act ≡ b → length (sited t.made.sites.items) < length (sited new.made.sites.items) → length (seen new.made.cells.items) ≤ c → row c ≤ (node_behind p u k i).row
@@ -378,7 +379,7 @@ module _ (p : XdpProgram) (u : Unfolded) (k : ℕ) (i : Insn) (next jump : Optio
             ∙ ap (feeding.known_behind (graph_of p u) (record { from = k; taken = false; to = edge.0.to })) node.insn
             ∙ ap (λ (x : Kinds). transferred p.decls x i k (is_reference (graph_of p u) k) false) node.kinds_are)
 
-    held_within : (row : ℕ → ℕ) (ps : List PointerView) (place : ℕ) → place < 332
+    held_within : (row : ℕ → ℕ) (ps : List PointerView) (place : ℕ) → place < first_pending
         → (list_any (is_in place) (writes_as (kinds_of u k) i i.op) ≡ true → held_row row ps e.held e.kinds place ≤ node_result p u k i)
         → (list_any (is_in place) (writes_as (kinds_of u k) i i.op) ≡ false → held_row row ps e.held e.kinds place ≤ row_at (origins_met p u k) place)
         → held_row row ps e.held e.kinds place ≤ row_at (node_behind p u k i).origins.places place
@@ -425,7 +426,7 @@ module _ (p : XdpProgram) (u : Unfolded) (k : ℕ) (i : Insn) (next jump : Optio
         exactly : (a : ℕ) → a ≡ k + 1 → a ≤ k + 1
         exactly a f = omega (arith, f)
 
-        held_names : (place : ℕ) (o : Origin) → place < 332 → get_or (node_behind p u k i).origins.places place None ≡ Some o
+        held_names : (place : ℕ) (o : Origin) → place < first_pending → get_or (node_behind p u k i).origins.places place None ≡ Some o
             → (o.maker ≤ k + 1) × (number_at e.held place ≡ names_with fit.named (k + 1) (held_or_waiting nodes.next waiting2) o.maker place)
         held_names place o l h = by (written_cases (node_after p u k i) (writes_as (kinds_of u k) i i.op) (node_own p u k i) (origins_met p u k) place o
             (sym (origin_there p u k i place (omega (arith, l)) ∙ held_is p u k i inside node place l) ∙ h))
@@ -448,10 +449,10 @@ module _ (p : XdpProgram) (u : Unfolded) (k : ℕ) (i : Insn) (next jump : Optio
             → (o.maker ≤ k + 1) × (slice_index waiting2 n ≡ names_with fit.named (k + 1) (held_or_waiting nodes.next waiting2) o.maker (pending_place n))
         pending_names n o l h = by (noted_cases (origins_met p u k) (k + 1) (node_least p u k i) (pending_place n) (node_written p u k i (pending_place n)) (node_write p u k i) o (sym (origin_there p u k i (pending_place n) low) ∙ h))
           where
-            low : 332 + n < 348
+            low : first_pending + n < location_count
             low = omega (arith, l, count, program.maps)
 
-            far : 332 ≤ 332 + n
+            far : first_pending ≤ first_pending + n
             far = omega arith
 
             own : o.maker ≡ k + 1 → (o.maker ≤ k + 1) × (slice_index waiting2 n ≡ names_with fit.named (k + 1) (held_or_waiting nodes.next waiting2) o.maker (pending_place n))

@@ -2,7 +2,7 @@
 use Rattle.std.proofs.Common.{◌≡◌, ◌∙◌, ℕ, zero, suc, ◌+◌, ◌-◌, ◌<◌, ◌≤◌, ◌==◌, ◌||◌, ◌⊎◌, inl, inr, Bool, true, false, if◌then◌else◌, Option, Some, None, List, [], ◌∷◌, length, get_or, refl, sym, ap, arith, max}
 use Rattle.std.specs.Prelude.{slice_index}
 use Rattle.std.specs.List.{list_any}
-use Rattle.std.proofs.lemmas.Bool.{cases_lt, lt-ltb, le-ltb}
+use Rattle.std.proofs.lemmas.Bool.{cases_lt}
 use Rattle.std.proofs.lemmas.List.{get_or-map}
 use Rattle.xdp_machine.specs.bpf_isa.declared.instruction.Insn.{Insn}
 use Rattle.xdp_machine.specs.bpf_isa.Text.{insn_at}
@@ -28,10 +28,14 @@ use Rattle.operator_cells.specs.row_rules.declared.node_rows.node.AfterNode.{Aft
 use Rattle.operator_cells.specs.row_rules.NodeRows.Joining.{edge_row}
 use Rattle.operator_cells.specs.row_rules.NodeRows.Passing.{result_row, written, is_some_place, pending_row, noted, behind}
 use Rattle.operator_cells.specs.row_rules.NodeRows.Rows.{no_point, point_at, insn_of, behind_by}
+use Rattle.operator_cells.specs.row_rules.declared.place_rows.location.Location.{Location}
+use Rattle.operator_cells.specs.row_rules.declared.place_rows.location.Location.TheVariants as location
+use Rattle.operator_cells.specs.row_rules.PlaceRows.Locations.{first_pending, location_count, location_at, IsLocation}
+use Rattle.operator_cells.proofs.row_rules_laws.PlaceRows.LocationLaws.{location_there}
 use Rattle.operator_cells.specs.declared.held_cells.machine_cells.RegisterCells.{RegisterCells}
 use Rattle.operator_cells.specs.HeldCells.RegisterCells.{PointerView, Counts, AreInside}
 use Rattle.operator_cells.specs.HeldCells.Paths.{NodeView, no_node, node_at}
-use Rattle.operator_cells.specs.HeldCells.Rows.{cells_of_pointer, value_row, held_row}
+use Rattle.operator_cells.specs.HeldCells.Rows.{cells_of_pointer, value_row, held_row, located_row}
 use Rattle.edge_cells.specs.Meeting.{Extends}
 use Rattle.edge_cells.proofs.ExtendingLaws.{same_pointer}
 use Rattle.edge_cells.specs.NodeCells.Ends.{IsNode, is_reference}
@@ -78,10 +82,10 @@ module _ (p : XdpProgram) (u : Unfolded) (k : ℕ) (i : Insn) (inside : k < leng
   behind_is = ap (behind_by p (point_at u.nodes.items k) k (arrivals_at p u k)) insn_is
       ∙ ap (λ (n : NodeView). behind p.decls (kinds_of u k) (transferred p.decls (kinds_of u k) i k (list_any (λ r. r == n.place) p.refs) false) i (k + 1) (edge_row (arrivals_at p u k)) (origins_met p u k)) (sym node_same)
 
-  pub not_written : (place : ℕ) → 332 ≤ place → list_any (is_in place) (writes_as (kinds_of u k) i i.op) ≡ false
+  pub not_written : (place : ℕ) → first_pending ≤ place → list_any (is_in place) (writes_as (kinds_of u k) i i.op) ≡ false
   not_written place far = spans_inside p.decls (kinds_of u k) i (insn_legal (graph_of p u) k i (kinds_of u k) node) node.allowed place far
 
-pub origin_there : (p : XdpProgram) (u : Unfolded) (k : ℕ) (i : Insn) (place : ℕ) → place < 348 → get_or (node_behind p u k i).origins.places place None ≡ node_origin p u k i place
+pub origin_there : (p : XdpProgram) (u : Unfolded) (k : ℕ) (i : Insn) (place : ℕ) → place < location_count → get_or (node_behind p u k i).origins.places place None ≡ node_origin p u k i place
 origin_there p u k i place l = place_at (node_origin p u k i) place l
 
 -- ---- which places have data
@@ -113,21 +117,21 @@ open_place k (s ∷ ss) h = by (is_open_in k s) refl (list_any (is_open_in k) ss
 
 -- ---- rows of what a node makes
 module _ (p : XdpProgram) (u : Unfolded) (k : ℕ) (i : Insn) (inside : k < length u.nodes.items) (node : IsNode (graph_of p u) k i (kinds_of u k)) where
-  os_count : length (origins_met p u k) ≡ 348
+  os_count : length (origins_met p u k) ≡ location_count
   os_count = count_origins (arrivals_at p u k) (k + 1) (kinds_of u k)
 
-  pub behind_low : (place n : ℕ) → place < 348 → row_of (node_origin p u k i place) ≡ n → n ≤ every_row (node_behind p u k i).origins.places
+  pub behind_low : (place n : ℕ) → place < location_count → row_of (node_origin p u k i place) ≡ n → n ≤ every_row (node_behind p u k i).origins.places
   behind_low place n l is =
       let a = row_every (node_behind p u k i).origins.places place l in
       let b = ap row_of (origin_there p u k i place l) in omega (arith, a, b, is)
 
-  pub held_is : (place : ℕ) → place < 332 → node_origin p u k i place ≡ node_written p u k i place
+  pub held_is : (place : ℕ) → place < first_pending → node_origin p u k i place ≡ node_written p u k i place
   held_is place l = noted_other (origins_met p u k) (k + 1) (node_least p u k i) place (node_written p u k i place) (node_write p u k i) (λ r e f. absurd (omega (arith, l, f)))
 
-  pub result_low : (place : ℕ) → list_any (is_in place) (writes_as (kinds_of u k) i i.op) ≡ true → has_data (node_after p u k i) place ≡ true → (place < 332) × (row_of (node_origin p u k i place) ≡ node_result p u k i)
-  result_low place e f = by (cases_lt place 332)
+  pub result_low : (place : ℕ) → list_any (is_in place) (writes_as (kinds_of u k) i i.op) ≡ true → has_data (node_after p u k i) place ≡ true → (place < first_pending) × (row_of (node_origin p u k i place) ≡ node_result p u k i)
+  result_low place e f = by (cases_lt place first_pending)
     where
-      by : (place < 332) ⊎ (332 ≤ place) → (place < 332) × (row_of (node_origin p u k i place) ≡ node_result p u k i)
+      by : (place < first_pending) ⊎ (first_pending ≤ place) → (place < first_pending) × (row_of (node_origin p u k i place) ≡ node_result p u k i)
       by (inl l) = (l, ap row_of (held_is place l ∙ written_in (node_after p u k i) (writes_as (kinds_of u k) i i.op) (node_own p u k i) (origins_met p u k) place e f))
       by (inr l) = absurd (let n = not_written p u k i inside node place l in cc)
 
@@ -141,7 +145,7 @@ module _ (p : XdpProgram) (u : Unfolded) (k : ℕ) (i : Insn) (inside : k < leng
       both : {a b c d : ℕ} → a ≤ d → b ≤ c → max a b ≤ max c d
       both x y = omega (arith, x, y)
 
-      wide : (n : ℕ) → n < 332 → n < 348
+      wide : (n : ℕ) → n < first_pending → n < location_count
       wide n l = omega (arith, l)
 
       result_part : (b : Bool) → list_any (is_open_in (node_after p u k i)) (writes_as (kinds_of u k) i i.op) ≡ b → (if b then node_result p u k i else 0) ≤ every_row (node_behind p u k i).origins.places
@@ -154,15 +158,15 @@ module _ (p : XdpProgram) (u : Unfolded) (k : ℕ) (i : Insn) (inside : k < leng
   -- what is pending
   pub pending_low : (q : ℕ) → q < 16 → row_at (origins_met p u k) (pending_place q) ≤ row_at (node_behind p u k i).origins.places (pending_place q)
   pending_low q l =
-      let far : 332 ≤ 332 + q = omega arith in
-      let low : 332 + q < 348 = omega (arith, l) in
+      let far : first_pending ≤ first_pending + q = omega arith in
+      let low : first_pending + q < location_count = omega (arith, l) in
       let a = noted_above (origins_met p u k) (k + 1) (node_least p u k i) (pending_place q) (node_written p u k i (pending_place q)) (node_write p u k i)
       (written_not (node_after p u k i) (writes_as (kinds_of u k) i i.op) (node_own p u k i) (origins_met p u k) (pending_place q) (not_written p u k i inside node (pending_place q) far)) in
       let b = ap row_of (origin_there p u k i (pending_place q) low) in omega (arith, a, b)
 
   pub pending_new : (r : Record) → node_write p u k i ≡ Some r → r.map < 16 → row_at (node_behind p u k i).origins.places (pending_place r.map) ≡ pending_row (origins_met p u k) r (node_least p u k i)
   pending_new r e l =
-      let low : 332 + r.map < 348 = omega (arith, l) in
+      let low : first_pending + r.map < location_count = omega (arith, l) in
       ap row_of (origin_there p u k i (pending_place r.map) low)
       ∙ noted_here (origins_met p u k) (k + 1) (node_least p u k i) (pending_place r.map) (node_written p u k i (pending_place r.map)) (node_write p u k i) r e refl
 
@@ -189,10 +193,11 @@ value_more row decls n ps qs Stale c e h = refl
 value_more row decls n ps qs Mixed c e h = refl
 
 pub held_more : (row : ℕ → ℕ) (decls : List MapDecl) (n : ℕ) (ps qs : List PointerView) (h : RegisterCells) (k : Kinds) (place : ℕ) → Extends ps qs → AreInside decls n ps h k → held_row row qs h k place ≡ held_row row ps h k place
-held_more row decls n ps qs h k place e inside = by (cases_lt place 11) (cases_lt place 75) (cases_lt place 332)
+held_more row decls n ps qs h k place e inside = by (location_at place) (location_there place)
   where
-    by : (place < 11) ⊎ (11 ≤ place) → (place < 75) ⊎ (75 ≤ place) → (place < 332) ⊎ (332 ≤ place) → held_row row qs h k place ≡ held_row row ps h k place
-    by (inl l) b c = rw (lt-ltb place 11 l) (value_more row decls n ps qs (get_or k.registers place Unset) (slice_index h.registers place) e (inside.registers place (omega (arith, l))))
-    by (inr l) (inl m) c = rw (le-ltb place 11 l, lt-ltb place 75 m) (value_more row decls n ps qs (get_or k.slots (place - 11) Unset) (slice_index h.slots (place - 11)) e (inside.slots (place - 11) (omega (arith, l, m))))
-    by (inr l) (inr m) (inl o) = rw (le-ltb place 11 l, le-ltb place 75 m, lt-ltb place 332 o) refl
-    by (inr l) (inr m) (inr o) = rw (le-ltb place 11 l, le-ltb place 75 m, le-ltb place 332 o) refl
+    by : (l : Location) → IsLocation l → located_row row qs h k l ≡ located_row row ps h k l
+    by (location.Register r) there = value_more row decls n ps qs (get_or k.registers r Unset) (slice_index h.registers r) e (inside.registers r (let small : r < 11 = there in omega (arith, small)))
+    by (location.StackSlot s) there = value_more row decls n ps qs (get_or k.slots s Unset) (slice_index h.slots s) e (inside.slots s (let small : s < 64 = there in omega (arith, small)))
+    by (location.PacketByte i) there = refl
+    by location.Target there = refl
+    by (location.PendingWrites q) there = refl

@@ -9,6 +9,7 @@ use Rattle.operator_cells.specs.declared.held_cells.machine_cells.RegisterCells.
 use Rattle.operator_cells.specs.declared.held_cells.way.Way.{Way}
 use Rattle.operator_cells.specs.HeldCells.RegisterCells.{PointerView}
 use Rattle.operator_cells.specs.HeldCells.Rows.{bits_row, choosing_row, JoinsTo}
+use Rattle.operator_cells.specs.row_rules.PlaceRows.Locations.{first_pending}
 
 trans_le : {a b c : ℕ} → a ≤ b → b ≤ c → a ≤ c
 trans_le x y = omega (arith, x, y)
@@ -24,6 +25,6 @@ joined_own {a} {b} {c} {ps} {qs} {here} {k} {guard} {own} {h} j s = record {
   same = j.same;
 }
   where
-    by : (row : ℕ → ℕ) → AreRows c row → (n : ℕ) → length a ≤ n → n < length c → (n < length b) ⊎ (length b ≤ n) → row n ≤ max (bits_row row here) (greatest (choosing_row row ps here k) (numbers 0 332))
+    by : (row : ℕ → ℕ) → AreRows c row → (n : ℕ) → length a ≤ n → n < length c → (n < length b) ⊎ (length b ≤ n) → row n ≤ max (bits_row row here) (greatest (choosing_row row ps here k) (numbers 0 first_pending))
     by row rows n low high (inl m) = j.grows.each row (s.grows.rows row rows) n low m
-    by row rows n low high (inr m) = first_le (greatest (choosing_row row ps here k) (numbers 0 332)) (trans_le (s.grows.each row rows n m high) (j.guard_row row (s.grows.rows row rows)))
+    by row rows n low high (inr m) = first_le (greatest (choosing_row row ps here k) (numbers 0 first_pending)) (trans_le (s.grows.each row rows n m high) (j.guard_row row (s.grows.rows row rows)))

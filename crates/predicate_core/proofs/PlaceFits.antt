@@ -1,7 +1,7 @@
 -- Where edges meet, place by place: names and rows against the origins there.
 use Rattle.std.proofs.Common.{◌≡◌, ◌∙◌, ℕ, ◌+◌, ◌<◌, ◌≤◌, ◌⊎◌, inl, inr, nat_lt, Bool, true, false, if◌then◌else◌, Option, Some, None, List, [], length, get_or, refl, sym, ap, arith, subst}
 use Rattle.std.specs.Prelude.{All, Contains}
-use Rattle.std.proofs.lemmas.Bool.{lt-ltb, le-ltb, ltb-false}
+use Rattle.std.proofs.lemmas.Bool.{ltb-false}
 use Rattle.std.proofs.lemmas.List.Elements.{All-contains, Contains-get_or}
 use Rattle.xdp_machine.specs.Program.{XdpProgram}
 use Rattle.unfold_core.specs.declared.unfolding.Unfolded.{Unfolded}
@@ -11,6 +11,7 @@ use Rattle.operator_cells.specs.declared.joining.Arm.{Arm}
 use Rattle.operator_cells.specs.Joining.{flat}
 use Rattle.operator_cells.specs.Making.{seen}
 use Rattle.operator_cells.specs.row_rules.declared.place_rows.origin.Origin.{Origin}
+use Rattle.operator_cells.specs.row_rules.PlaceRows.Locations.{first_pending, first_byte}
 use Rattle.operator_cells.specs.row_rules.PlaceRows.Spans.{pending_place}
 use Rattle.operator_cells.specs.row_rules.PlaceRows.Origins.{has_data, row_of, by_place, origin_at_start}
 use Rattle.operator_cells.specs.row_rules.PlaceRows.Reading.{is_known}
@@ -21,6 +22,7 @@ use Rattle.operator_cells.specs.row_rules.NodeRows.Joining.{brings, edge_row, al
 use Rattle.operator_cells.specs.declared.held_cells.way.Way.{Way}
 use Rattle.operator_cells.specs.HeldCells.RegisterCells.{PointerView, pointed}
 use Rattle.operator_cells.specs.HeldCells.Rows.{kind_at, number_at, held_row, bits_row, brought_row, hold_one, chosen_row}
+use Rattle.operator_cells.proofs.HeldCells.RowLaws.{past_slots}
 use Rattle.edge_cells.specs.Joining.{LeadTo}
 use Rattle.predicate_core.specs.declared.making.Progress.{Progress}
 use Rattle.predicate_core.specs.Progress.{pending_of}
@@ -54,7 +56,7 @@ start_of p u k first e b (inl x) = x.1
 start_of p u k first e b (inr x) = absurd (omega (arith, first, x.2))
 
 pub start_row : (place : ℕ) → row_of (origin_at_start place) ≡ 0
-start_row place = by (nat_lt place 75)
+start_row place = by (nat_lt place first_byte)
   where
     by : (b : Bool) → row_of (if b then None else Some (record { maker = 0; row = 0 })) ≡ 0
     by true = refl
@@ -72,12 +74,12 @@ module _ (p : XdpProgram) (u : Unfolded) (k : ℕ) (t : Progress) (fit : FitSoFa
         let x = brought_by (get_or here i d) (lead.among (get_or here i d) (Contains-get_or here i d l)) in
         (x.0, x.1, along p u k (get_or here i d) x.1.behind later (lead.to i d l) x.1.stands)
 
-    rows_brought : (row : ℕ → ℕ) (place : ℕ) → place < 332 → AreRows (seen t.made.cells.items) row
+    rows_brought : (row : ℕ → ℕ) (place : ℕ) → place < first_pending → AreRows (seen t.made.cells.items) row
         → All (λ e. RowBrought (arrivals_at p u k) place (row e.bit) (held_row row (pointed t.made.pointers.items) e.held e.kinds place)) here
     rows_brought row place l rows i d m = let x = along_each i d m in
         way_row p u k (get_or here i d) x.1.behind x.0 x.2 row (pointed t.made.pointers.items) place l (x.1.within row rows)
 
-    names_brought : (place : ℕ) (o : Origin) → place < 332 → all_bring (arrivals_at p u k) place o ≡ true
+    names_brought : (place : ℕ) (o : Origin) → place < first_pending → all_bring (arrivals_at p u k) place o ≡ true
         → All (λ e. (is_known (kind_at e.kinds place) ≡ false) × (o.maker ≤ k) × (number_at e.held place ≡ fit.named o.maker place)) here
     names_brought place o l all i d m = let x = along_each i d m in
         way_name p u k (get_or here i d) x.1.behind x.0 x.2 fit.named place o l x.1.names
@@ -89,7 +91,7 @@ module _ (p : XdpProgram) (u : Unfolded) (k : ℕ) (t : Progress) (fit : FitSoFa
     pub later_origins : origins_met p u k ≡ by_place (origin_at (arrivals_at p u k) (k + 1) (kinds_of u k))
     later_origins = let x = along_each 0 no_way (omega (arith, some)) in some_origins (arrivals_at p u k) (k + 1) (kinds_of u k) x.2.arrival x.2.among
 
-    module _ (place : ℕ) (l : place < 332) where
+    module _ (place : ℕ) (l : place < first_pending) where
       known_origin : (o : Origin) → (o.maker ≡ k + 1) ⊎ (all_bring (arrivals_at p u k) place o ≡ true)
           → (o.maker ≡ k + 1) ⊎ ((o.maker ≤ k) × (hold_one here place ≡ true) × All (λ e. number_at e.held place ≡ fit.named o.maker place) here)
       known_origin o (inl e) = inl e
@@ -142,7 +144,7 @@ module _ (p : XdpProgram) (u : Unfolded) (k : ℕ) (t : Progress) (fit : FitSoFa
     pub first_bits : (row : ℕ → ℕ) → AreRows (seen t.made.cells.items) row → bits_row row here ≤ edge_row (arrivals_at p u k)
     first_bits row rows = let low = bits_low row [] 0 here (λ i d l. ((starts i d l).2 row rows).bit) in omega (arith, low)
 
-    pub first_place : (place : ℕ) → place < 332 → PlaceFits fit.named k place here (seen t.made.cells.items) (pointed t.made.pointers.items) (get_or (origins_met p u k) place None) (has_data (kinds_of u k) place)
+    pub first_place : (place : ℕ) → place < first_pending → PlaceFits fit.named k place here (seen t.made.cells.items) (pointed t.made.pointers.items) (get_or (origins_met p u k) place None) (has_data (kinds_of u k) place)
     first_place place l = record { name = name; rows = λ row rows f. inr (omega (arith, low row rows)) }
       where
         at_start : get_or (by_place origin_at_start) place None ≡ origin_at_start place
@@ -153,11 +155,11 @@ module _ (p : XdpProgram) (u : Unfolded) (k : ℕ) (t : Progress) (fit : FitSoFa
             (x.bit, let y = x.held place l in let z = ap row_of at_start in omega (arith, y, z, start_row place)))
 
         unknown : (o : Origin) → origin_at_start place ≡ Some o → (e : Way) → is_known (kind_at e.kinds place) ≡ false
-        unknown o h e = by (nat_lt place 75) refl h
+        unknown o h e = by (nat_lt place first_byte) refl h
           where
-            by : (b : Bool) → nat_lt place 75 ≡ b → (if b then None else Some (record { maker = 0; row = 0 })) ≡ Some o → is_known (kind_at e.kinds place) ≡ false
+            by : (b : Bool) → nat_lt place first_byte ≡ b → (if b then None else Some (record { maker = 0; row = 0 })) ≡ Some o → is_known (kind_at e.kinds place) ≡ false
             by true f g = cc
-            by false f g = rw (le-ltb place 11 (omega (arith, ltb-false place 75 f)), f, lt-ltb place 332 l) refl
+            by false f g = ap is_known (past_slots e.kinds place (ltb-false place first_byte f) l)
 
         name : (o : Origin) → get_or (origins_met p u k) place None ≡ Some o → (o.maker ≡ k + 1) ⊎ ((o.maker ≤ k) × (hold_one here place ≡ true) × All (λ e. number_at e.held place ≡ fit.named o.maker place) here)
         name o h =
@@ -166,7 +168,7 @@ module _ (p : XdpProgram) (u : Unfolded) (k : ℕ) (t : Progress) (fit : FitSoFa
             inr (low_maker o (sym at_start ∙ is), holds place (fit.named o.maker place) here (λ i d m. (unknown o (sym at_start ∙ is) (get_or here i d), names i d m)), names)
           where
             low_maker : (o : Origin) → origin_at_start place ≡ Some o → o.maker ≤ k
-            low_maker o e = by (nat_lt place 75) e
+            low_maker o e = by (nat_lt place first_byte) e
               where
                 by : (b : Bool) → (if b then None else Some (record { maker = 0; row = 0 })) ≡ Some o → o.maker ≤ k
                 by true g = cc

@@ -1,9 +1,9 @@
 -- Pointers of lookups, among more cells, sites and pointers.
-use Rattle.std.proofs.Common.{◌≡◌, ℕ, ◌+◌, ◌-◌, ◌<◌, ◌≤◌, ◌⊎◌, inl, inr, nat_lt, Bool, true, false, Some, None, List, ◌++◌, length, length-append, get_or, map as map_list, refl, sym, ◌∙◌, ap, subst, arith}
+use Rattle.std.proofs.Common.{◌≡◌, ℕ, ◌+◌, ◌-◌, ◌<◌, ◌≤◌, ◌⊎◌, inl, inr, true, false, Some, None, List, ◌++◌, length, length-append, get_or, map as map_list, refl, sym, ◌∙◌, ap, subst, arith}
 use Rattle.std.specs.Prelude.{slice_index, All}
 use Rattle.std.proofs.Math.ListN.{get_or-append}
 use Rattle.std.proofs.Math.Seq.{get_or-append_right}
-use Rattle.std.proofs.lemmas.Bool.{cases_lt, false≢true, lt-ltb, le-ltb, ltb-true, ltb-false}
+use Rattle.std.proofs.lemmas.Bool.{cases_lt, false≢true}
 use Rattle.xdp_machine.specs.xdp_maps.declared.decl.MapDecl.{MapDecl}
 use Rattle.kind_core.specs.declared.kind.Kind.{Kind}
 use Rattle.kind_core.specs.declared.kind.Kind.TheVariants.{Unset, Maybe, Entry}
@@ -15,20 +15,26 @@ use Rattle.cell_core.specs.Sites.{SiteView, no_site, site_at, bytes_of}
 use Rattle.operator_cells.specs.Making.{GrowsWith}
 use Rattle.operator_cells.specs.declared.held_cells.machine_cells.RegisterCells.{RegisterCells}
 use Rattle.operator_cells.specs.HeldCells.RegisterCells.{PointerView, pointer_at, key_of, Counts, AreInside}
-use Rattle.operator_cells.specs.HeldCells.Pointing.{Pointing, pointing_as, pointing_at, HoldsPointer, changes_keys, IsThrough, IsFoundOf, IsSamePointer, IsLookedUp, is_access, IsLookupAccess}
+use Rattle.operator_cells.specs.HeldCells.Pointing.{Pointing, pointing_as, pointing_by, pointing_at, HoldsPointer, changes_keys, IsThrough, IsFoundOf, IsSamePointer, IsLookedUp, is_access, IsLookupAccess}
 use Rattle.edge_cells.specs.Meeting.{Extends}
 use Rattle.edge_cells.proofs.ExtendingLaws.{same_pointer}
+use Rattle.operator_cells.specs.row_rules.declared.place_rows.location.Location.{Location}
+use Rattle.operator_cells.specs.row_rules.declared.place_rows.location.Location.TheVariants as location
+use Rattle.operator_cells.specs.row_rules.PlaceRows.Locations.{first_slot, first_byte, location_at, IsLocation}
+use Rattle.operator_cells.proofs.row_rules_laws.PlaceRows.LocationLaws.{numbered_as, location_there}
 
 -- ---- where pointers are held
 
 -- a register or a slot holds it
-pub low_place : (k : Kinds) (h : RegisterCells) (place : ℕ) (x : Pointing) → pointing_at k h place ≡ Some x → place < 75
-low_place k h place x is = by (nat_lt place 75) refl (nat_lt place 332) refl
+pub low_place : (k : Kinds) (h : RegisterCells) (place : ℕ) (x : Pointing) → pointing_at k h place ≡ Some x → place < first_byte
+low_place k h place x is = by (location_at place) refl (location_there place) is
   where
-    by : (a : Bool) → nat_lt place 75 ≡ a → (b : Bool) → nat_lt place 332 ≡ b → place < 75
-    by true e b f = ltb-true place 75 e
-    by false e true f = let none = rw (le-ltb place 11 (omega (arith, ltb-false place 75 e)), e, f) at is in cc
-    by false e false f = let none = rw (le-ltb place 11 (omega (arith, ltb-false place 75 e)), e, f) at is in cc
+    by : (l : Location) → location_at place ≡ l → IsLocation l → pointing_by k h l ≡ Some x → place < first_byte
+    by (location.Register r) e there f = let small : r < 11 = there in let same : place ≡ r = numbered_as place (location.Register r) e in omega (arith, small, same)
+    by (location.StackSlot s) e there f = let small : s < 64 = there in let same : place ≡ first_slot + s = numbered_as place (location.StackSlot s) e in omega (arith, small, same)
+    by (location.PacketByte i) e there f = absurd (cc f)
+    by location.Target e there f = absurd (cc f)
+    by (location.PendingWrites q) e there f = absurd (cc f)
 
 -- its number is that of a pointer that is there
 counted : (decls : List MapDecl) (n : ℕ) (ps : List PointerView) (a : Kind) (c : ℕ) (x : Pointing) → Counts decls n ps a c → pointing_as a c ≡ Some x → x.pointer < length ps
@@ -37,14 +43,14 @@ counted decls n ps (Entry q o) c x h e = let same : record { map = q; node = Non
 counted decls n ps a c x h e = cc
 
 pub inside_pointer : (decls : List MapDecl) (n : ℕ) (ps : List PointerView) (k : Kinds) (h : RegisterCells) (x : Pointing) → AreInside decls n ps h k → HoldsPointer k h x → x.pointer < length ps
-inside_pointer decls n ps k h x inside (place, is) = by (nat_lt place 11) refl
+inside_pointer decls n ps k h x inside (place, is) = by (location_at place) (location_there place) is
   where
-    low : place < 75
-    low = low_place k h place x is
-
-    by : (a : Bool) → nat_lt place 11 ≡ a → x.pointer < length ps
-    by true e = counted decls n ps (get_or k.registers place Unset) (slice_index h.registers place) x (inside.registers place (omega (arith, ltb-true place 11 e))) (rw e at is)
-    by false e = counted decls n ps (get_or k.slots (place - 11) Unset) (slice_index h.slots (place - 11)) x (inside.slots (place - 11) (omega (arith, low, ltb-false place 11 e))) (rw (e, lt-ltb place 75 low) at is)
+    by : (l : Location) → IsLocation l → pointing_by k h l ≡ Some x → x.pointer < length ps
+    by (location.Register r) there f = counted decls n ps (get_or k.registers r Unset) (slice_index h.registers r) x (inside.registers r (let small : r < 11 = there in omega (arith, small))) f
+    by (location.StackSlot s) there f = counted decls n ps (get_or k.slots s Unset) (slice_index h.slots s) x (inside.slots s (let small : s < 64 = there in omega (arith, small))) f
+    by (location.PacketByte i) there f = absurd (cc f)
+    by location.Target there f = absurd (cc f)
+    by (location.PendingWrites q) there f = absurd (cc f)
 
 pub same_later : (decls : List MapDecl) (v u : ℕ → ℕ) (ps qs : List PointerView) (x : Pointing) → Extends ps qs → x.pointer < length ps → IsSamePointer decls v u ps qs x x
 same_later decls v u ps qs x e l = record {

@@ -3,12 +3,14 @@ use Rattle.std.proofs.Common.{◌≡◌, ℕ, ℤ, pos, negsuc, ◌+◌, ◌/◌
 use Rattle.std.specs.Prelude.{Result, Ok, Err}
 use Rattle.std.specs.List.{list_any}
 use Rattle.std.specs.Int.{w64, cast_unsigned}
-use Rattle.std.specs.Ordering.{int_eq}
 use Rattle.std.proofs.lemmas.Bool.{leb-true}
 use Rattle.xdp_machine.specs.bpf_isa.declared.operation.Op.{Op}
 use Rattle.xdp_machine.specs.bpf_isa.declared.operation.Op.TheVariants.{Alu, Neg, End, Swap, Ja, Jump, Call, Exit, LoadImm, Abs, Ind, Load, LoadSigned, StoreImm, Store, Atomic}
 use Rattle.xdp_machine.specs.bpf_isa.declared.operation.Size.{Size}
 use Rattle.xdp_machine.specs.bpf_isa.declared.instruction.Insn.{Insn}
+use Rattle.xdp_machine.specs.bpf_isa.declared.helper.Helper.{Helper}
+use Rattle.xdp_machine.specs.bpf_isa.declared.helper.Helper.TheVariants.{Lookup, Update, Delete, Time, Redirect}
+use Rattle.xdp_machine.specs.bpf_isa.Helpers.{helper_of}
 use Rattle.xdp_machine.specs.bpf_isa.Spelling.{IsInsn}
 use Rattle.xdp_machine.specs.xdp_maps.declared.decl.MapDecl.{MapDecl}
 use Rattle.xdp_machine.specs.Memory.{bytes_in}
@@ -26,8 +28,10 @@ use Rattle.kind_core.specs.Profile.{profiled}
 use Rattle.kind_core.proofs.TestLaws.{bind_passed}
 use Rattle.operator_cells.specs.row_rules.declared.place_rows.origin.Origin.{Origin}
 use Rattle.operator_cells.specs.row_rules.declared.place_rows.span.Span.{Span}
+use Rattle.operator_cells.specs.row_rules.PlaceRows.Locations.{first_pending, first_slot}
 use Rattle.operator_cells.specs.row_rules.PlaceRows.Spans.{no_place, one, target, slots_of, bytes_of, region, is_in}
 use Rattle.operator_cells.specs.row_rules.PlaceRows.Origins.{row_at}
+use Rattle.operator_cells.specs.row_rules.PlaceRows.Calls.{call_writes}
 use Rattle.operator_cells.specs.row_rules.PlaceRows.Writing.{writes_as}
 use Rattle.operator_cells.proofs.row_rules_laws.PlaceRows.SpanLaws.{in_none, not_beyond, no_places}
 use Rattle.operator_cells.specs.row_rules.NodeRows.Passing as graph
@@ -70,13 +74,13 @@ neither place a b e f = rw (e, f) refl
 first_alone : (place : ℕ) (a : Span) → is_in place a ≡ false → list_any (is_in place) (a ∷ no_place ∷ []) ≡ false
 first_alone place a e = neither place a no_place e (in_none place)
 
-not_register : (place r : ℕ) → 332 ≤ place → r ≤ 10 → is_in place (one r) ≡ false
+not_register : (place r : ℕ) → first_pending ≤ place → r ≤ 10 → is_in place (one r) ≡ false
 not_register place r far l = not_beyond place (one r) (omega (arith, far, l))
 
-slots_end : (a n place : ℕ) → a + n ≤ 512 → 332 ≤ place → 11 + (a + n + 7) / 8 ≤ place
+slots_end : (a n place : ℕ) → a + n ≤ 512 → first_pending ≤ place → first_slot + (a + n + 7) / 8 ≤ place
 slots_end a n place l far = omega (arith, l, far)
 
-module _ (decls : List MapDecl) (checked place : ℕ) (far : 332 ≤ place) (size : Size) where
+module _ (decls : List MapDecl) (checked place : ℕ) (far : first_pending ≤ place) (size : Size) where
   region_inside : (x : Kind) (offset : ℤ) → Passes (accessed decls checked x offset size) → is_in place (region x offset (bytes_in size)) ≡ false
   region_inside (kind.Packet o) offset h =
       let x = bind_next (within (pos o +ℤ offset) (bytes_in size) 256) _ h in
@@ -103,13 +107,17 @@ module _ (decls : List MapDecl) (checked place : ℕ) (far : 332 ≤ place) (siz
       first_alone place (region x offset (bytes_in size)) (region_inside x offset (subst (λ (n : ℕ). Passes (accessed decls n x offset size)) same (bind_first (accessed decls k.checked x offset size) _ h)))
 
 -- what an allowed instruction writes stands before the places of what is pending
-module _ (decls : List MapDecl) (k : Kinds) (i : Insn) (legal : IsInsn i) (place : ℕ) (far : 332 ≤ place) where
+module _ (decls : List MapDecl) (k : Kinds) (i : Insn) (legal : IsInsn i) (place : ℕ) (far : first_pending ≤ place) where
   into : list_any (is_in place) (one i.dst ∷ no_place ∷ []) ≡ false
   into = first_alone place (one i.dst) (not_register place i.dst far legal.dst_register)
 
-  answer : (b : Bool) → list_any (is_in place) (one 0 ∷ (if b then target else no_place) ∷ []) ≡ false
-  answer true = neither place (one 0) target (not_register place 0 far (omega arith)) (not_beyond place target (omega (arith, far)))
-  answer false = neither place (one 0) no_place (not_register place 0 far (omega arith)) (in_none place)
+  answer : (h : Option Helper) → list_any (is_in place) (one 0 ∷ call_writes h ∷ []) ≡ false
+  answer (Some Redirect) = neither place (one 0) target (not_register place 0 far (omega arith)) (not_beyond place target (omega (arith, far)))
+  answer (Some Lookup) = neither place (one 0) no_place (not_register place 0 far (omega arith)) (in_none place)
+  answer (Some Update) = neither place (one 0) no_place (not_register place 0 far (omega arith)) (in_none place)
+  answer (Some Delete) = neither place (one 0) no_place (not_register place 0 far (omega arith)) (in_none place)
+  answer (Some Time) = neither place (one 0) no_place (not_register place 0 far (omega arith)) (in_none place)
+  answer None = neither place (one 0) no_place (not_register place 0 far (omega arith)) (in_none place)
 
   old : (a b : Bool) → list_any (is_in place) ((if a then one 0 else (if b then one i.src else no_place)) ∷ no_place ∷ []) ≡ false
   old true b = first_alone place (one 0) (not_register place 0 far (omega arith))
@@ -123,7 +131,7 @@ module _ (decls : List MapDecl) (k : Kinds) (i : Insn) (legal : IsInsn i) (place
   inside_as Swap h = into
   inside_as (Ja w) h = no_places place
   inside_as (Jump w c s) h = no_places place
-  inside_as Call h = answer (int_eq i.imm (pos 23))
+  inside_as Call h = answer (helper_of i.imm)
   inside_as Exit h = no_places place
   inside_as LoadImm h = into
   inside_as (Abs s) h = no_places place
@@ -134,7 +142,7 @@ module _ (decls : List MapDecl) (k : Kinds) (i : Insn) (legal : IsInsn i) (place
   inside_as (Store s) h = stored_inside decls k.checked place far s k (register k i.dst) i.offset (register k i.src) refl h
   inside_as (Atomic s) h = old (compares i) (fetches (cast_unsigned w64 i.imm))
 
-pub spans_inside : (decls : List MapDecl) (k : Kinds) (i : Insn) → IsInsn i → verdict (effect_of decls k i) ≡ passed → (place : ℕ) → 332 ≤ place → list_any (is_in place) (writes_as k i i.op) ≡ false
+pub spans_inside : (decls : List MapDecl) (k : Kinds) (i : Insn) → IsInsn i → verdict (effect_of decls k i) ≡ passed → (place : ℕ) → first_pending ≤ place → list_any (is_in place) (writes_as k i i.op) ≡ false
 spans_inside decls k i legal allowed place far = inside_as decls k i legal place far i.op (effect_is decls k i allowed)
 
 -- an instruction that writes has no edge of a jump

@@ -7,6 +7,7 @@ use Rattle.unfold_core.specs.declared.unfolding.Unfolded.{Unfolded}
 use Rattle.cell_core.specs.Cells.{CellView}
 use Rattle.cell_core.specs.Rows.{AreRows, node_row, record_count}
 use Rattle.operator_cells.specs.row_rules.declared.place_rows.origin.Origin.{Origin}
+use Rattle.operator_cells.specs.row_rules.PlaceRows.Locations.{first_pending}
 use Rattle.operator_cells.specs.row_rules.PlaceRows.Spans.{pending_place}
 use Rattle.operator_cells.specs.row_rules.PlaceRows.Origins.{row_at, every_row, by_place, origin_at_start}
 use Rattle.operator_cells.specs.row_rules.declared.node_rows.joining.Arrival.{Arrival}
@@ -61,13 +62,13 @@ StandsBehind p u k e b = ((e.to ≡ 0) × (b ≡ behind_start))
 
 -- An origin says which number is held at its place, and which cell waits there: by its maker each has a name.
 pub record AreNamed (named : ℕ → ℕ → ℕ) (k : ℕ) (e : Way) (waiting : List ℕ) (b : AfterNode) : Type 0 where
-  pub held : (place : ℕ) (o : Origin) → place < 332 → get_or b.origins.places place None ≡ Some o → (o.maker ≤ k) × (number_at e.held place ≡ named o.maker place)
+  pub held : (place : ℕ) (o : Origin) → place < first_pending → get_or b.origins.places place None ≡ Some o → (o.maker ≤ k) × (number_at e.held place ≡ named o.maker place)
   pub pending : (q : ℕ) (o : Origin) → q < length waiting → get_or b.origins.places (pending_place q) None ≡ Some o → (o.maker ≤ k) × (slice_index waiting q ≡ named o.maker (pending_place q))
 
 -- No cell of an edge stands in a later row than what stands after it.
 pub record StandWithin (row : ℕ → ℕ) (ps : List PointerView) (e : Way) (waiting : List ℕ) (b : AfterNode) : Type 0 where
   pub bit : row e.bit ≤ b.edge
-  pub held : (place : ℕ) → place < 332 → held_row row ps e.held e.kinds place ≤ row_at b.origins.places place
+  pub held : (place : ℕ) → place < first_pending → held_row row ps e.held e.kinds place ≤ row_at b.origins.places place
   pub pending : (q : ℕ) → q < length waiting → row (slice_index waiting q) ≤ row_at b.origins.places (pending_place q)
 
 -- all of it
@@ -87,7 +88,7 @@ pub record FitSoFar (p : XdpProgram) (u : Unfolded) (k : ℕ) (t : Progress) : T
 
 -- What is held at node k, whose turn it is: where an origin is not the node's own its name holds; the rows are those of the origins.
 pub record ComesWithin (p : XdpProgram) (u : Unfolded) (named : ℕ → ℕ → ℕ) (k : ℕ) (old new : List CellView) (ps : List PointerView) (guard : ℕ) (h : RegisterCells) (waiting : List ℕ) : Type 0 where
-  pub held : (place : ℕ) (o : Origin) → place < 332 → get_or (origins_met p u k) place None ≡ Some o → (o.maker ≡ k + 1) ⊎ ((o.maker ≤ k) × (number_at h place ≡ named o.maker place))
+  pub held : (place : ℕ) (o : Origin) → place < first_pending → get_or (origins_met p u k) place None ≡ Some o → (o.maker ≡ k + 1) ⊎ ((o.maker ≤ k) × (number_at h place ≡ named o.maker place))
   pub pending : (q : ℕ) (o : Origin) → q < length waiting → get_or (origins_met p u k) (pending_place q) None ≡ Some o → (o.maker ≡ k + 1) ⊎ ((o.maker ≤ k) × (slice_index waiting q ≡ named o.maker (pending_place q)))
   pub rows : (row : ℕ → ℕ) → AreRows new row → AreRows old row
   pub cells : (row : ℕ → ℕ) → AreRows new row → (c : ℕ) → length old ≤ c → c < length new → row c ≤ max (edge_row (arrivals_at p u k)) (every_row (origins_met p u k))

@@ -1,10 +1,13 @@
 -- What a helper's answer carries.
-use Rattle.std.proofs.Common.{◌≡◌, ℕ, zero, suc, ◌+◌, ◌^◌, ◌<◌, ◌≤◌, ◌==◌, ℤ, pos, if◌then◌else◌, Bool, true, false, Some, None, Ok, List, [], ◌∷◌, length, drop, get_or, set as set_list, slice_index, slice_set, refl, sym, ◌∙◌, ap, subst, arith}
+use Rattle.std.proofs.Common.{◌≡◌, ℕ, zero, suc, ◌+◌, ◌^◌, ◌<◌, ◌≤◌, ◌==◌, ℤ, if◌then◌else◌, Bool, true, false, Some, None, Ok, List, [], ◌∷◌, length, drop, get_or, set as set_list, slice_index, slice_set, refl, sym, ◌∙◌, ap, subst, arith, Option}
+use Rattle.std.specs.Prelude.{is_some}
 use Rattle.std.proofs.lemmas.List.{get_or-set_same, get_or-set_other, get_or-drop}
 use Rattle.std.proofs.lemmas.Bool.Decides.{nat_tests}
-use Rattle.std.specs.Int.{w64, cast_unsigned}
 use Rattle.cell_core.specs.bpf_isa.declared.operation.Op.TheVariants.{Call}
 use Rattle.cell_core.specs.bpf_isa.declared.instruction.Insn.{Insn}
+use Rattle.cell_core.specs.bpf_isa.declared.helper.Helper.{Helper}
+use Rattle.cell_core.specs.bpf_isa.declared.helper.Helper.TheVariants.{Lookup, Update, Delete, Time, Redirect}
+use Rattle.cell_core.specs.bpf_isa.Helpers.{helper_of}
 use Rattle.cell_core.specs.xdp_maps.declared.decl.MapDecl.{MapDecl}
 use Rattle.cell_core.specs.xdp_machine.Values.{Value, ◌>>=◌}
 use Rattle.cell_core.specs.xdp_machine.Values as is
@@ -21,7 +24,7 @@ use Rattle.kind_core.specs.Kinds as kinds
 use Rattle.kind_core.specs.Calls as calls
 use Rattle.kind_core.specs.Profile as profile
 use Rattle.kind_core.specs.Tests.{passed}
-use Rattle.kind_core.specs.Calls.{called, helper_of}
+use Rattle.kind_core.specs.Calls.{called}
 use Rattle.kind_core.specs.Effects.{effect_of, effect_as, verdict}
 use Rattle.kind_core.specs.Edges.{transferred, changed_if}
 use Rattle.cell_core.specs.Cells.{CellView, IsRun, bit, on}
@@ -33,6 +36,7 @@ use Rattle.cell_core.specs.xdp_machine.Arithmetic.{low}
 use Rattle.register_cells.proofs.Finding.{low_same}
 use Rattle.operator_cells.specs.HeldCells.RegisterCells.{number_of}
 use Rattle.register_cells.specs.Reading.{IsRead}
+use Rattle.register_cells.specs.Plain.{asks_no_map}
 use Rattle.register_cells.proofs.Known.{register_read}
 use Rattle.kind_core.proofs.TestLaws.{bind_passed}
 use Rattle.register_cells.proofs.Carrying.{inside_more, passed_ok}
@@ -82,27 +86,39 @@ answer_carried decls ps i node is_ref k h old new c t grows there target hs insi
     }
 
 -- the kinds after a helper that gives a number and changes no map
-pub answer_is : (decls : List MapDecl) (k : Kinds) (i : Insn) (node : ℕ) (is_ref : Bool) (id : ℤ) → i.op ≡ Call → i.imm ≡ id → ((e : _) → called decls k id (helper_of id) ≡ Ok e → changed_if node is_ref false k (Ok e) ≡ answering (Num Unknown) k) → verdict (effect_of decls k i) ≡ passed
+pub answer_is : (decls : List MapDecl) (k : Kinds) (i : Insn) (node : ℕ) (is_ref : Bool) (helper : Option Helper) → i.op ≡ Call → helper_of i.imm ≡ helper → ((e : _) → called decls k i.imm helper ≡ Ok e → changed_if node is_ref false k (Ok e) ≡ answering (Num Unknown) k) → verdict (effect_of decls k i) ≡ passed
     → transferred decls k i node is_ref false ≡ answering (Num Unknown) k
 unfolding effect_of
-answer_is decls k i node is_ref id op imm plain allowed =
+answer_is decls k i node is_ref helper op same plain allowed =
     let e = passed_ok (effect_of decls k i) allowed in
     let b = bind_passed (profile.profiled i k) (λ u. effect_as decls k i i.op) e.0 e.1 in
-    ap (changed_if node is_ref false k) e.1 ∙ plain e.0 (sym (ap (effect_as decls k i) op ∙ ap (λ (z : ℤ). called decls k z (helper_of z)) imm) ∙ b.2)
+    ap (changed_if node is_ref false k) e.1 ∙ plain e.0 (sym (ap (effect_as decls k i) op ∙ ap (called decls k i.imm) same) ∙ b.2)
 
-pub time_answers : (decls : List MapDecl) (k : Kinds) (i : Insn) (node : ℕ) (is_ref : Bool) → i.op ≡ Call → i.imm ≡ pos 5 → verdict (effect_of decls k i) ≡ passed → transferred decls k i node is_ref false ≡ answering (Num Unknown) k
-time_answers decls k i node is_ref op imm allowed = answer_is decls k i node is_ref (pos 5) op imm (λ e h. sym (ap (changed_if node is_ref false k) h)) allowed
+pub time_answers : (decls : List MapDecl) (k : Kinds) (i : Insn) (node : ℕ) (is_ref : Bool) → i.op ≡ Call → helper_of i.imm ≡ Some Time → verdict (effect_of decls k i) ≡ passed → transferred decls k i node is_ref false ≡ answering (Num Unknown) k
+time_answers decls k i node is_ref op same allowed = answer_is decls k i node is_ref (Some Time) op same (λ e h. sym (ap (changed_if node is_ref false k) h)) allowed
+
+-- a helper that asks no map is one of these two
+pub no_map_known : (h : Option Helper) → asks_no_map h ≡ true → is_some h ≡ true
+no_map_known (Some h) asks = refl
+no_map_known None asks = absurd cc
+
+pub redirect_alone : (h : Helper) → asks_no_map (Some h) ≡ true → (h ≡ Time → ⊥) → h ≡ Redirect
+redirect_alone Lookup asks other = absurd cc
+redirect_alone Update asks other = absurd cc
+redirect_alone Delete asks other = absurd cc
+redirect_alone Time asks other = absurd (other refl)
+redirect_alone Redirect asks other = refl
 
 -- what the call of a helper leaves
-call_is : (refs : List ℕ) (m n : Machine) (i : Insn) (id : ℤ) → i.op ≡ Call → i.imm ≡ id → effect refs m i i.op ≡ Some n → helpers.called (cast_unsigned w64 id) m ≡ Some n
-call_is refs m n i id op imm e = by (i.src == 0) (sym (ap (effect refs m i) op) ∙ e)
+call_is : (refs : List ℕ) (m n : Machine) (i : Insn) (helper : Option Helper) → i.op ≡ Call → helper_of i.imm ≡ helper → effect refs m i i.op ≡ Some n → helpers.called helper m ≡ Some n
+call_is refs m n i helper op h e = by (i.src == 0) (sym (ap (effect refs m i) op) ∙ e)
   where
-    by : (t : Bool) → (if t then helpers.called (cast_unsigned w64 i.imm) m else None) ≡ Some n → helpers.called (cast_unsigned w64 id) m ≡ Some n
-    by true f = ap (λ (z : ℤ). helpers.called (cast_unsigned w64 z) m) (sym imm) ∙ f
+    by : (t : Bool) → (if t then helpers.called (helper_of i.imm) m else None) ≡ Some n → helpers.called helper m ≡ Some n
+    by true f = ap (λ (o : Option Helper). helpers.called o m) (sym h) ∙ f
     by false f = absurd cc
 
-pub time_is : (refs : List ℕ) (m n : Machine) (i : Insn) → i.op ≡ Call → i.imm ≡ pos 5 → effect refs m i i.op ≡ Some n → n ≡ helpers.answering (is.Number m.time) m
-time_is refs m n i op imm e = let f : Some (helpers.answering (is.Number m.time) m) ≡ Some n = call_is refs m n i (pos 5) op imm e in cc
+pub time_is : (refs : List ℕ) (m n : Machine) (i : Insn) → i.op ≡ Call → helper_of i.imm ≡ Some Time → effect refs m i i.op ≡ Some n → n ≡ helpers.answering (is.Number m.time) m
+time_is refs m n i op h e = let f : Some (helpers.answering (is.Number m.time) m) ≡ Some n = call_is refs m n i (Some Time) op h e in cc
 
 pub time_low : (t p c : ℕ) → t < 2 ^ 64 → t ≡ p → c ≡ low 64 p → t ≡ c
 time_low t p c h e f = e ∙ sym (low_same 64 p (subst (λ (n : ℕ). n < 2 ^ 64) e h)) ∙ sym f
@@ -113,27 +129,27 @@ plain_is : (x : Kind) (u : Unit {0}) → calls.plain x ≡ Ok u → (n : Number)
 plain_is (Num n) u e = (n, refl)
 plain_is x u e = absurd cc
 
-redirect_fits : (decls : List MapDecl) (k : Kinds) (node : ℕ) (is_ref : Bool) (e : _) → called decls k (pos 23) (helper_of (pos 23)) ≡ Ok e
+redirect_fits : (decls : List MapDecl) (k : Kinds) (id : ℤ) (node : ℕ) (is_ref : Bool) (e : _) → called decls k id (Some Redirect) ≡ Ok e
     → (changed_if node is_ref false k (Ok e) ≡ answering (Num Unknown) k) × (a : Number) × (kinds.register k 1 ≡ Num a) × (b : Number) × (kinds.register k 2 ≡ Num b)
-redirect_fits decls k node is_ref e h =
+redirect_fits decls k id node is_ref e h =
     let one = bind_passed (calls.plain (kinds.register k 1)) _ e h in
     let two = bind_passed (calls.plain (kinds.register k 2)) _ e one.2 in
     let a = plain_is (kinds.register k 1) one.0 one.1 in
     let b = plain_is (kinds.register k 2) two.0 two.1 in
     (sym (ap (changed_if node is_ref false k) two.2), a.0, a.1, b.0, b.1)
 
-pub redirect_answers : (decls : List MapDecl) (k : Kinds) (i : Insn) (node : ℕ) (is_ref : Bool) → i.op ≡ Call → i.imm ≡ pos 23 → verdict (effect_of decls k i) ≡ passed
+pub redirect_answers : (decls : List MapDecl) (k : Kinds) (i : Insn) (node : ℕ) (is_ref : Bool) → i.op ≡ Call → helper_of i.imm ≡ Some Redirect → verdict (effect_of decls k i) ≡ passed
     → (transferred decls k i node is_ref false ≡ answering (Num Unknown) k) × (a : Number) × (kinds.register k 1 ≡ Num a) × (b : Number) × (kinds.register k 2 ≡ Num b)
 unfolding effect_of
-redirect_answers decls k i node is_ref op imm allowed =
+redirect_answers decls k i node is_ref op same allowed =
     let e = passed_ok (effect_of decls k i) allowed in
     let b = bind_passed (profile.profiled i k) (λ u. effect_as decls k i i.op) e.0 e.1 in
-    let f = redirect_fits decls k node is_ref e.0 (sym (ap (effect_as decls k i) op ∙ ap (λ (z : ℤ). called decls k z (helper_of z)) imm) ∙ b.2) in
+    let f = redirect_fits decls k i.imm node is_ref e.0 (sym (ap (effect_as decls k i) op ∙ ap (called decls k i.imm) same) ∙ b.2) in
     (ap (changed_if node is_ref false k) e.1 ∙ f.0, f.1, f.2, f.3, f.4)
 
-pub redirect_is : (refs : List ℕ) (m n : Machine) (i : Insn) (a b : ℕ) → i.op ≡ Call → i.imm ≡ pos 23 → register m.registers 1 ≡ is.Number a → register m.registers 2 ≡ is.Number b → effect refs m i i.op ≡ Some n → n ≡ helpers.redirected a b m
-redirect_is refs m n i a b op imm one two e =
-    let f : helpers.redirect m ≡ Some n = call_is refs m n i (pos 23) op imm e in
+pub redirect_is : (refs : List ℕ) (m n : Machine) (i : Insn) (a b : ℕ) → i.op ≡ Call → helper_of i.imm ≡ Some Redirect → register m.registers 1 ≡ is.Number a → register m.registers 2 ≡ is.Number b → effect refs m i i.op ≡ Some n → n ≡ helpers.redirected a b m
+redirect_is refs m n i a b op h one two e =
+    let f : helpers.redirect m ≡ Some n = call_is refs m n i (Some Redirect) op h e in
     let is_sent : helpers.redirect m ≡ Some (helpers.redirected a b m) =
     ap (λ (x : Value). is.number_in x >>= (λ i. is.number_in (register m.registers 2) >>= (λ j. Some (helpers.redirected i j m)))) one
     ∙ ap (λ (x : Value). is.number_in x >>= (λ j. Some (helpers.redirected a j m))) two in

@@ -1,11 +1,12 @@
 -- A helper that asks no map: in which rows its cells stand.
-use Rattle.std.proofs.Common.{◌≡◌, ◌≢◌, ◌⊎◌, inl, inr, ℕ, zero, suc, ◌+◌, ◌<◌, ◌≤◌, ℤ, pos, max, nat_lt, ◌||◌, Bool, true, false, if◌then◌else◌, List, [], ◌∷◌, length, drop, get_or, set as set_list, slice_index, slice_set, refl, sym, ◌∙◌, ap, subst, arith}
+use Rattle.std.proofs.Common.{◌≡◌, ◌≢◌, ◌⊎◌, inl, inr, ℕ, zero, suc, ◌+◌, ◌<◌, ◌≤◌, max, ◌||◌, Bool, true, false, if◌then◌else◌, List, [], ◌∷◌, length, drop, get_or, set as set_list, slice_index, slice_set, refl, sym, ◌∙◌, ap, subst, arith, Option, Some}
 use Rattle.std.specs.List.{list_any}
-use Rattle.std.specs.Ordering.{int_eq}
-use Rattle.std.proofs.lemmas.Bool.{cases_lt, le-ltb, ltb-false}
 use Rattle.std.proofs.lemmas.List.{get_or-set_same, get_or-set_other, get_or-drop}
 use Rattle.cell_core.specs.bpf_isa.declared.operation.Op.TheVariants.{Call}
 use Rattle.cell_core.specs.bpf_isa.declared.instruction.Insn.{Insn}
+use Rattle.cell_core.specs.bpf_isa.declared.helper.Helper.{Helper}
+use Rattle.cell_core.specs.bpf_isa.declared.helper.Helper.TheVariants.{Time, Redirect}
+use Rattle.cell_core.specs.bpf_isa.Helpers.{helper_of}
 use Rattle.cell_core.specs.xdp_maps.declared.decl.MapDecl.{MapDecl}
 use Rattle.kind_core.specs.declared.number.Number.TheVariants.{Unknown}
 use Rattle.kind_core.specs.declared.kind.Kind.TheVariants.{Unset, Num}
@@ -17,12 +18,17 @@ use Rattle.operator_cells.specs.Rising.{GrowsTo, Rises}
 use Rattle.operator_cells.proofs.RisingLaws.{stand_none, stand_more}
 use Rattle.operator_cells.specs.row_rules.declared.place_rows.span.Span.{Span}
 use Rattle.operator_cells.specs.row_rules.PlaceRows.Spans.{no_place, one, target, is_in, spans_row}
-use Rattle.operator_cells.specs.row_rules.PlaceRows.Reading.{call_reads, result_as, result_row}
+use Rattle.operator_cells.specs.row_rules.PlaceRows.Calls.{call_reads, call_writes}
+use Rattle.operator_cells.specs.row_rules.PlaceRows.Reading.{result_as, result_row}
 use Rattle.operator_cells.specs.row_rules.PlaceRows.Writing.{writes_as, is_open_in, made_row}
+use Rattle.operator_cells.specs.row_rules.declared.place_rows.location.Location.{Location}
+use Rattle.operator_cells.specs.row_rules.declared.place_rows.location.Location.TheVariants as location
+use Rattle.operator_cells.specs.row_rules.PlaceRows.Locations.{target_number, first_pending, location_at}
+use Rattle.operator_cells.proofs.row_rules_laws.PlaceRows.LocationLaws.{numbered_as}
 use Rattle.operator_cells.proofs.row_rules_laws.PlaceRows.SpanLaws.{in_one, in_none, is_inside, one_row}
 use Rattle.operator_cells.specs.declared.held_cells.machine_cells.RegisterCells.{RegisterCells}
 use Rattle.operator_cells.specs.HeldCells.RegisterCells.{PointerView}
-use Rattle.operator_cells.specs.HeldCells.Rows.{number_at, value_row, held_row, LeavesTo, CarriesTo}
+use Rattle.operator_cells.specs.HeldCells.Rows.{number_by, located_row, number_at, value_row, held_row, LeavesTo, CarriesTo}
 use Rattle.operator_cells.proofs.HeldCells.RowLaws.{grows_by, register_row, target_row}
 use Rattle.register_cells.proofs.ValueLaws.{same_most, zero_most, trans_most}
 use Rattle.register_cells.proofs.RegisterRows.{not_first, open_first, below}
@@ -50,24 +56,25 @@ module _ (ps : List PointerView) (k : Kinds) (h : RegisterCells) (c t : ℕ) whe
   answer_row : (row : ℕ → ℕ) → 0 < length h.registers → held_row row ps (answered h c t) (answering (Num Unknown) k) 0 ≡ row c
   answer_row row some = register_row row ps (answered h c t) (answering (Num Unknown) k) 0 (omega arith) ∙ ap (value_row row ps (Num Unknown)) (get_or-set_same h.registers 0 c 0 some) ∙ omega arith
 
-  places_kept : (row : ℕ → ℕ) (place : ℕ) → place ≢ 0 → (place ≡ 331 → t ≡ h.target) → held_row row ps (answered h c t) (answering (Num Unknown) k) place ≤ held_row row ps h k place
-  places_kept row place first last = by (nat_lt place 11) refl (nat_lt place 75) refl (nat_lt place 331) refl (cases_lt place 332)
+  places_kept : (row : ℕ → ℕ) (place : ℕ) → place ≢ 0 → (place ≡ target_number → t ≡ h.target) → held_row row ps (answered h c t) (answering (Num Unknown) k) place ≤ held_row row ps h k place
+  places_kept row place first last = by (location_at place) refl
     where
-      by : (a : Bool) → nat_lt place 11 ≡ a → (b : Bool) → nat_lt place 75 ≡ b → (d : Bool) → nat_lt place 331 ≡ d → (place < 332) ⊎ (332 ≤ place) → held_row row ps (answered h c t) (answering (Num Unknown) k) place ≤ held_row row ps h k place
-      by true e b f d g l = rw e (registers_kept row ps k h.registers c place first)
-      by false e true f d g l = rw (e, f) same_most
-      by false e false f true g l = rw (e, f, g) same_most
-      by false e false f false g (inl l) = rw (e, f, g, last (omega (arith, l, ltb-false place 331 g))) same_most
-      by false e false f false g (inr l) = rw (e, f, le-ltb place 332 l) same_most
+      by : (l : Location) → location_at place ≡ l → located_row row ps (answered h c t) (answering (Num Unknown) k) l ≤ located_row row ps h k l
+      by (location.Register r) e = registers_kept row ps k h.registers c r (λ same. first (numbered_as place (location.Register r) e ∙ same))
+      by (location.StackSlot s) e = same_most
+      by (location.PacketByte i) e = same_most
+      by location.Target e = rw (last (numbered_as place location.Target e)) same_most
+      by (location.PendingWrites q) e = same_most
 
-  numbers_kept : (place : ℕ) → place < 332 → place ≢ 0 → (place ≡ 331 → t ≡ h.target) → number_at (answered h c t) place ≡ number_at h place
-  numbers_kept place within first last = by (nat_lt place 11) refl (nat_lt place 75) refl (nat_lt place 331) refl
+  numbers_kept : (place : ℕ) → place < first_pending → place ≢ 0 → (place ≡ target_number → t ≡ h.target) → number_at (answered h c t) place ≡ number_at h place
+  numbers_kept place within first last = by (location_at place) refl
     where
-      by : (a : Bool) → nat_lt place 11 ≡ a → (b : Bool) → nat_lt place 75 ≡ b → (d : Bool) → nat_lt place 331 ≡ d → number_at (answered h c t) place ≡ number_at h place
-      by true e b f d g = rw (e, get_or-set_other h.registers 0 place c 0 first) refl
-      by false e true f d g = rw (e, f) refl
-      by false e false f true g = rw (e, f, g) refl
-      by false e false f false g = rw (e, f, g, last (omega (arith, within, ltb-false place 331 g))) refl
+      by : (l : Location) → location_at place ≡ l → number_by (answered h c t) l ≡ number_by h l
+      by (location.Register r) e = let off : r ≢ 0 = λ same. first (numbered_as place (location.Register r) e ∙ same) in rw (get_or-set_other h.registers 0 r c 0 off) refl
+      by (location.StackSlot s) e = refl
+      by (location.PacketByte i) e = refl
+      by location.Target e = last (numbered_as place location.Target e)
+      by (location.PendingWrites q) e = refl
 
 -- the second span that is written: the target, or none where the target stays
 abbrev pub Second : ℕ → RegisterCells → Span → Type 0
@@ -105,14 +112,14 @@ leaves_answer {new = new} {result = result} ps k h c t s some second grows first
     at_place : (row : ℕ → ℕ) → AreRows new row → (place : ℕ) → (place ≡ 0) ⊎ (is_in place s ≡ true) → Second t h s → held_row row ps (answered h c t) (answering (Num Unknown) k) place ≤ result row
     at_place row rows place (inl e) two = subst (λ (p : ℕ). held_row row ps (answered h c t) (answering (Num Unknown) k) p ≤ result row) (sym e) (below (answer_row ps k h c t row some) (first row rows))
     at_place row rows place (inr e) (inl is) =
-        let at : place ≡ 331 = in_one place 331 (ap (is_in place) (sym is) ∙ e) in
+        let at : place ≡ target_number = in_one place target_number (ap (is_in place) (sym is) ∙ e) in
         subst (λ (p : ℕ). held_row row ps (answered h c t) (answering (Num Unknown) k) p ≤ result row) (sym at) (below (target_row row ps (answered h c t) (answering (Num Unknown) k)) (last row rows is))
     at_place row rows place (inr e) (inr none) = let f : false ≡ true = sym (in_none place) ∙ ap (is_in place) (sym none.0) ∙ e in absurd (cc)
 
-    at_target : (place : ℕ) → place ≡ 331 → is_in place target ≡ true
+    at_target : (place : ℕ) → place ≡ target_number → is_in place target ≡ true
     at_target place e = is_inside place target (omega (arith, e)) (omega (arith, e))
 
-    stays : (place : ℕ) → place ≡ 331 → is_in place s ≡ false → Second t h s → t ≡ h.target
+    stays : (place : ℕ) → place ≡ target_number → is_in place s ≡ false → Second t h s → t ≡ h.target
     stays place e f (inl is) = let g : true ≡ false = sym (at_target place e) ∙ ap (is_in place) (sym is) ∙ f in absurd (cc)
     stays place e f (inr none) = none.1
 
@@ -134,19 +141,19 @@ answers_to {old} {new} decls ps i k after h c t s writes is some second grows fi
     above : (r n : ℕ) (b : Bool) → b ≡ true → r ≤ max (if b then r else 0) n
     above r n b e = rw e (first_most n)
 
--- the row of what a helper gives, and the places that it writes, by its number
-call_row : (R : ℕ → ℕ) (decls : List MapDecl) (k after : Kinds) (i : Insn) (id : ℤ) → i.op ≡ Call → i.imm ≡ id → result_row R decls k after i ≡ spans_row R (call_reads decls k id) + 1
-call_row R decls k after i id op imm = ap (result_as R decls k after i) op ∙ ap (λ (z : ℤ). spans_row R (call_reads decls k z) + 1) imm
+-- the row of what a helper gives, and the places that it writes
+call_row : (R : ℕ → ℕ) (decls : List MapDecl) (k after : Kinds) (i : Insn) (helper : Option Helper) → i.op ≡ Call → helper_of i.imm ≡ helper → result_row R decls k after i ≡ spans_row R (call_reads decls k helper) + 1
+call_row R decls k after i helper op is = ap (result_as R decls k after i) op ∙ ap (λ (h : Option Helper). spans_row R (call_reads decls k h) + 1) is
 
-call_writes : (k : Kinds) (i : Insn) (id : ℤ) → i.op ≡ Call → i.imm ≡ id → writes_as k i i.op ≡ one 0 ∷ (if int_eq id (pos 23) then target else no_place) ∷ []
-call_writes k i id op imm = ap (writes_as k i) op ∙ ap (λ (z : ℤ). one 0 ∷ (if int_eq z (pos 23) then target else no_place) ∷ []) imm
+call_places : (k : Kinds) (i : Insn) (helper : Option Helper) → i.op ≡ Call → helper_of i.imm ≡ helper → writes_as k i i.op ≡ one 0 ∷ call_writes helper ∷ []
+call_places k i helper op is = ap (writes_as k i) op ∙ ap (λ (h : Option Helper). one 0 ∷ call_writes h ∷ []) is
 
 -- the time
-pub time_to : {old new : List CellView} (decls : List MapDecl) (ps : List PointerView) (i : Insn) (k after : Kinds) (h : RegisterCells) (c : ℕ) → i.op ≡ Call → i.imm ≡ pos 5 → after ≡ answering (Num Unknown) k → 0 < length h.registers
+pub time_to : {old new : List CellView} (decls : List MapDecl) (ps : List PointerView) (i : Insn) (k after : Kinds) (h : RegisterCells) (c : ℕ) → i.op ≡ Call → helper_of i.imm ≡ Some Time → after ≡ answering (Num Unknown) k → 0 < length h.registers
     → Rises old new c (λ row. 1) → CarriesTo decls (λ row. held_row row ps h k) ps i k h after (answered h c h.target) old new
-time_to decls ps i k after h c op imm is some r =
-    let least : (row : ℕ → ℕ) → 1 ≤ result_row (held_row row ps h k) decls k after i = λ row. later (spans_row (held_row row ps h k) (call_reads decls k (pos 5))) (call_row (held_row row ps h k) decls k after i (pos 5) op imm) in
-    answers_to decls ps i k after h c h.target no_place (call_writes k i (pos 5) op imm) is some (inr (refl, refl)) (grows_by r.grows least) (λ row rows. trans_most (r.result row rows) (least row)) (λ row rows e. absurd (apart e))
+time_to decls ps i k after h c op helper is some r =
+    let least : (row : ℕ → ℕ) → 1 ≤ result_row (held_row row ps h k) decls k after i = λ row. later (spans_row (held_row row ps h k) (call_reads decls k (Some Time))) (call_row (held_row row ps h k) decls k after i (Some Time) op helper) in
+    answers_to decls ps i k after h c h.target no_place (call_places k i (Some Time) op helper) is some (inr (refl, refl)) (grows_by r.grows least) (λ row rows. trans_most (r.result row rows) (least row)) (λ row rows e. absurd (apart e))
   where
     apart : no_place ≡ target → ⊥
     apart e = let at : Span → ℕ = λ (s : Span). s.from in let f : at no_place ≡ at target = ap at e in absurd (omega (arith, f))
@@ -155,21 +162,21 @@ time_to decls ps i k after h c op imm is some r =
     later m e = omega (arith, e)
 
 -- a redirect, of two numbers and the target
-pub redirect_to : {s0 s1 s2 s3 s4 s5 : List CellView} {a b sent : ℕ} (decls : List MapDecl) (ps : List PointerView) (i : Insn) (k after : Kinds) (h : RegisterCells) (c t : ℕ) → i.op ≡ Call → i.imm ≡ pos 23 → after ≡ answering (Num Unknown) k
+pub redirect_to : {s0 s1 s2 s3 s4 s5 : List CellView} {a b sent : ℕ} (decls : List MapDecl) (ps : List PointerView) (i : Insn) (k after : Kinds) (h : RegisterCells) (c t : ℕ) → i.op ≡ Call → helper_of i.imm ≡ Some Redirect → after ≡ answering (Num Unknown) k
     → 0 < length h.registers → Rises s0 s1 a (λ row. value_row row ps (register k 1) (slice_index h.registers 1)) → Rises s1 s2 b (λ row. value_row row ps (register k 2) (slice_index h.registers 2))
     → Rises s2 s3 sent (λ row. max (row b) (max (row a) (row h.target)) + 1) → Rises s3 s4 c (λ row. row sent) → Rises s4 s5 t (λ row. max (row sent) (max (row a) (row h.target)))
     → CarriesTo decls (λ row. held_row row ps h k) ps i k h after (answered h c t) s0 s5
-redirect_to decls ps i k after h c t op imm is some interface flags sent answer aim =
+redirect_to decls ps i k after h c t op helper is some interface flags sent answer aim =
     let result : (ℕ → ℕ) → ℕ = λ row. result_row (held_row row ps h k) decls k after i in
     let a1 : (ℕ → ℕ) → ℕ = λ row. value_row row ps (register k 1) (slice_index h.registers 1) in
     let a2 : (ℕ → ℕ) → ℕ = λ row. value_row row ps (register k 2) (slice_index h.registers 2) in
     let a3 : (ℕ → ℕ) → ℕ = λ row. row h.target in
     let least : (row : ℕ → ℕ) → max (a1 row) (max (a2 row) (a3 row)) + 1 ≤ result row =
-    λ row. least_by (call_row (held_row row ps h k) decls k after i (pos 23) op imm)
-    (three (one_row (held_row row ps h k) 1 ∙ register_row row ps h k 1 (omega arith)) (one_row (held_row row ps h k) 2 ∙ register_row row ps h k 2 (omega arith)) (one_row (held_row row ps h k) 331 ∙ target_row row ps h k)) in
+    λ row. least_by (call_row (held_row row ps h k) decls k after i (Some Redirect) op helper)
+    (three (one_row (held_row row ps h k) 1 ∙ register_row row ps h k 1 (omega arith)) (one_row (held_row row ps h k) 2 ∙ register_row row ps h k 2 (omega arith)) (one_row (held_row row ps h k) target_number ∙ target_row row ps h k)) in
     let s = stand_more {last = result} (stand_more (stand_more (stand_more (stand_more stand_none interface (λ row p. first (a1 row) (a2 row) (a3 row) (least row))) flags (λ row p. second (a1 row) (a2 row) (a3 row) (least row)))
     sent (λ row p. third (a1 row) (a2 row) (a3 row) p.0.1 p.1 (least row))) answer (λ row p. fourth (a1 row) (a2 row) (a3 row) p.0.0.1 p.0.1 p.1 (least row))) aim (λ row p. fifth (a1 row) (a2 row) (a3 row) p.0.0.0.1 p.0.0.1 p.0.1 (least row)) in
-    answers_to decls ps i k after h c t target (call_writes k i (pos 23) op imm) is some (inl refl) s.grows
+    answers_to decls ps i k after h c t target (call_places k i (Some Redirect) op helper) is some (inl refl) s.grows
     (λ row rows. let p = s.known row rows in trans_most p.0.1 (fourth (a1 row) (a2 row) (a3 row) p.0.0.0.0.1 p.0.0.0.1 p.0.0.1 (least row)))
     (λ row rows e. let p = s.known row rows in trans_most p.1 (fifth (a1 row) (a2 row) (a3 row) p.0.0.0.0.1 p.0.0.0.1 p.0.0.1 (least row)))
   where

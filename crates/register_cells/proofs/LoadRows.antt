@@ -28,6 +28,7 @@ use Rattle.operator_cells.specs.Rising.{Rises, RiseAll}
 use Rattle.operator_cells.proofs.RisingLaws.{Stand, stand_all, rises_then}
 use Rattle.operator_cells.specs.row_rules.PlaceRows.Spans.{no_place, one, region, slots_of, bytes_of, pending_of, is_in, span_row, spans_row}
 use Rattle.operator_cells.specs.row_rules.PlaceRows.Reading.{is_entry, result_as}
+use Rattle.operator_cells.specs.row_rules.PlaceRows.Locations.{first_slot, first_byte}
 use Rattle.operator_cells.proofs.row_rules_laws.PlaceRows.SpanLaws.{is_inside, span_above}
 use Rattle.operator_cells.specs.declared.held_cells.machine_cells.RegisterCells.{RegisterCells}
 use Rattle.operator_cells.specs.HeldCells.RegisterCells.{PointerView, number_of}
@@ -65,16 +66,16 @@ pub le_by : {a b c : ℕ} → a ≡ b → b ≤ c → a ≤ c
 le_by {c = c} e h = subst (λ (n : ℕ). n ≤ c) (sym e) h
 
 -- the slot that an access lies in
-pub slot_in : (o offset : ℤ) (size : Size) (at : ℕ) → machine.in_stack (o +ℤ offset) (bytes_in size) ≡ Some at → is_in (11 + at / 8) (region (Stack o) offset (bytes_in size)) ≡ true
+pub slot_in : (o offset : ℤ) (size : Size) (at : ℕ) → machine.in_stack (o +ℤ offset) (bytes_in size) ≡ Some at → is_in (first_slot + at / 8) (region (Stack o) offset (bytes_in size)) ≡ true
 slot_in o offset size at e =
-    subst (λ (z : ℤ). is_in (11 + at / 8) (slots_of (unsigned_abs z) (bytes_in size)) ≡ true) (sym (aligned_is (o +ℤ offset +ℤ pos 512) (bytes_in size) 512 at e).0)
-    (is_inside (11 + at / 8) (slots_of at (bytes_in size)) (omega arith) (omega (arith, some_bytes size)))
+    subst (λ (z : ℤ). is_in (first_slot + at / 8) (slots_of (unsigned_abs z) (bytes_in size)) ≡ true) (sym (aligned_is (o +ℤ offset +ℤ pos 512) (bytes_in size) 512 at e).0)
+    (is_inside (first_slot + at / 8) (slots_of at (bytes_in size)) (omega arith) (omega (arith, some_bytes size)))
 
 pub slot_above : (ps : List PointerView) (h : RegisterCells) (k : Kinds) (o offset : ℤ) (size : Size) (at : ℕ) → at < 512 → machine.in_stack (o +ℤ offset) (bytes_in size) ≡ Some at → (row : ℕ → ℕ)
     → value_row row ps (get_or k.slots (at / 8) Unset) (slice_index h.slots (at / 8)) ≤ span_row (held_row row ps h k) (region (Stack o) offset (bytes_in size))
 slot_above ps h k o offset size at within e row =
     let low : at / 8 < 64 = omega (arith, within) in
-    le_by (sym (slot_row row ps h k (at / 8) low)) (span_above (held_row row ps h k) (region (Stack o) offset (bytes_in size)) (11 + at / 8) (slot_in o offset size at e))
+    le_by (sym (slot_row row ps h k (at / 8) low)) (span_above (held_row row ps h k) (region (Stack o) offset (bytes_in size)) (first_slot + at / 8) (slot_in o offset size at e))
 
 -- bytes of the packet
 greatest_each : (row : ℕ → ℕ) (xs : List ℕ) (most : ℕ) → ((j : ℕ) → j < length xs → row (slice_index xs j) ≤ most) → greatest row xs ≤ most
@@ -87,7 +88,7 @@ bytes_above row ps h k at n bs whole fits named = greatest_each row bs _ (λ j l
     let below : j < n = omega (arith, l, long) in
     let is_byte : slice_index bs j ≡ slice_index h.window (at + j) = ap (λ xs. slice_index xs j) named ∙ range_at h.window at n j below in
     le_by (ap row is_byte ∙ sym (byte_row row ps h k (at + j) (omega (arith, below, fits))))
-    (span_above (held_row row ps h k) (bytes_of at n) (75 + (at + j)) (is_inside (75 + (at + j)) (bytes_of at n) (omega arith) (omega (arith, below)))))
+    (span_above (held_row row ps h k) (bytes_of at n) (first_byte + (at + j)) (is_inside (first_byte + (at + j)) (bytes_of at n) (omega arith) (omega (arith, below)))))
 
 pub window_above : (ps : List PointerView) (h : RegisterCells) (k : Kinds) (o : ℕ) (offset : ℤ) (size : Size) (at : ℕ) (bs : List ℕ) → length h.window ≡ 256 → inside (pos o +ℤ offset) (bytes_in size) 256 ≡ Some at → at + bytes_in size ≤ 256
     → bs ≡ slice_range h.window at (at + bytes_in size) → (row : ℕ → ℕ) → greatest row bs ≤ span_row (held_row row ps h k) (region (Packet o) offset (bytes_in size))

@@ -1,7 +1,6 @@
 -- Which pointers are held after an instruction.
-use Rattle.std.proofs.Common.{◌≡◌, ℕ, ◌+◌, ◌-◌, ◌*◌, ◌<◌, ◌≤◌, ◌/◌, ◌%◌, ◌⊎◌, inl, inr, nat_lt, ℤ, pos, negsuc, ◌+ℤ◌, Bool, true, false, if◌then◌else◌, Some, Ok, Err, IfOk, List, [], length, get_or, slice_index, refl, sym, ◌∙◌, ap, arith}
+use Rattle.std.proofs.Common.{◌≡◌, ℕ, ◌+◌, ◌*◌, ◌<◌, ◌≤◌, ◌/◌, ◌%◌, ◌⊎◌, inl, inr, ℤ, pos, negsuc, ◌+ℤ◌, Bool, true, false, if◌then◌else◌, Some, Ok, Err, IfOk, List, [], length, get_or, slice_index, sym, ◌∙◌, ap, arith}
 use Rattle.std.specs.Ordering.{int_eq}
-use Rattle.std.proofs.lemmas.Bool.{lt-ltb, le-ltb, ltb-true, ltb-false}
 use Rattle.cell_core.specs.bpf_isa.declared.operation.Size.{Size}
 use Rattle.cell_core.specs.bpf_isa.declared.operation.Size.TheVariants.{W}
 use Rattle.cell_core.specs.bpf_isa.declared.operation.Width.{Width}
@@ -31,7 +30,7 @@ use Rattle.kind_core.specs.Edges.{constant, changed, transferred}
 use Rattle.kind_core.specs.Profile.{writes_destination}
 use Rattle.kind_core.proofs.TestLaws.{bind_all}
 use Rattle.operator_cells.specs.declared.held_cells.machine_cells.RegisterCells.{RegisterCells}
-use Rattle.operator_cells.specs.HeldCells.Pointing.{pointing_as, HoldsPointer, KeepPointers}
+use Rattle.operator_cells.specs.HeldCells.Pointing.{pointing_as, HoldsPointer, KeepPointers, pointing_by}
 use Rattle.operator_cells.proofs.HeldCells.RowLaws.{put_register, put_slot}
 use Rattle.register_cells.specs.Giving.{given_kind}
 use Rattle.register_cells.specs.Pointing.{MovesPointer, MovesEither, MovesHeld}
@@ -43,27 +42,30 @@ use Rattle.register_cells.proofs.HelperRows.{answered}
 use Rattle.register_cells.proofs.Stores.{slot_stored, number_stored}
 use Rattle.register_cells.proofs.LoadRows.{stack_loaded, plain_loaded, context_loaded}
 use Rattle.register_cells.proofs.Loads.{in_packet_all}
+use Rattle.operator_cells.specs.row_rules.declared.place_rows.location.Location.{Location}
+use Rattle.operator_cells.specs.row_rules.declared.place_rows.location.Location.TheVariants as location
+use Rattle.operator_cells.specs.row_rules.PlaceRows.Locations.{first_slot, location_at, IsLocation}
+use Rattle.operator_cells.proofs.row_rules_laws.PlaceRows.LocationLaws.{at_number, location_there}
 
 -- ---- places
 module _ (k : Kinds) (h : RegisterCells) where
   pub held_register : (r : ℕ) → r < 11 → MovesHeld k h (register k r) (slice_index h.registers r)
-  held_register r l y e = (r, rw (lt-ltb r 11 l) e)
+  held_register r l y e = (r, ap (pointing_by k h) (at_number (location.Register r) l) ∙ e)
 
   held_slot : (s : ℕ) → s < 64 → MovesHeld k h (get_or k.slots s Unset) (slice_index h.slots s)
-  held_slot s l y e =
-      let same : 11 + s - 11 ≡ s = omega arith in
-      (11 + s, rw (le-ltb (11 + s) 11 (omega arith), lt-ltb (11 + s) 75 (omega (arith, l)), same) e)
+  held_slot s l y e = (first_slot + s, ap (pointing_by k h) (at_number (location.StackSlot s) l) ∙ e)
 
   -- all pointers are in registers and slots
   keep_all : (after : Kinds) (next : RegisterCells) → ((r : ℕ) → r < 11 → MovesHeld k h (register after r) (slice_index next.registers r)) → ((s : ℕ) → s < 64 → MovesHeld k h (get_or after.slots s Unset) (slice_index next.slots s))
       → KeepPointers k h after next
-  keep_all after next registers slots y p = by (nat_lt p.0 11) refl (nat_lt p.0 75) refl (nat_lt p.0 332) refl
+  keep_all after next registers slots y p = by (location_at p.0) (location_there p.0) p.1
     where
-      by : (a : Bool) → nat_lt p.0 11 ≡ a → (b : Bool) → nat_lt p.0 75 ≡ b → (d : Bool) → nat_lt p.0 332 ≡ d → HoldsPointer k h y
-      by true e b f d g = registers p.0 (ltb-true p.0 11 e) y (rw e at p.1)
-      by false e true f d g = slots (p.0 - 11) (omega (arith, ltb-false p.0 11 e, ltb-true p.0 75 f)) y (rw (e, f) at p.1)
-      by false e false f true g = let none = rw (e, f, g) at p.1 in absurd (cc)
-      by false e false f false g = let none = rw (e, f, g) at p.1 in absurd (cc)
+      by : (l : Location) → IsLocation l → pointing_by after next l ≡ Some y → HoldsPointer k h y
+      by (location.Register r) there e = registers r there y e
+      by (location.StackSlot s) there e = slots s there y e
+      by (location.PacketByte i) there e = absurd (cc e)
+      by location.Target there e = absurd (cc e)
+      by (location.PendingWrites q) there e = absurd (cc e)
 
   -- one place changed
   register_keeps : (x : Kind) (d c : ℕ) → d ≤ 10 → length k.registers ≡ 11 → length h.registers ≡ 11 → MovesHeld k h x c → KeepPointers k h (with_register k d x) (put_register h d c)

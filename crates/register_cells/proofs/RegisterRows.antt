@@ -1,7 +1,6 @@
 -- An instruction that writes its destination: in which rows its cells stand.
-use Rattle.std.proofs.Common.{◌≡◌, ◌≢◌, ℕ, ◌+◌, ◌≤◌, ℤ, max, ◌||◌, Bool, true, false, if◌then◌else◌, Ok, IfOk, List, [], ◌∷◌, length, slice_index, refl, sym, ◌∙◌, ap, subst, arith}
+use Rattle.std.proofs.Common.{◌≡◌, ◌≢◌, ℕ, ◌+◌, ◌≤◌, ℤ, max, ◌||◌, Bool, true, false, if◌then◌else◌, Ok, IfOk, List, [], ◌∷◌, length, slice_index, refl, sym, ◌∙◌, ap, subst, arith, ◌<◌}
 use Rattle.std.specs.List.{list_any}
-use Rattle.std.proofs.lemmas.Bool.{lt-ltb}
 use Rattle.std.proofs.lemmas.List.{get_or-set_same}
 use Rattle.cell_core.specs.bpf_isa.declared.operation.Width.{Width}
 use Rattle.cell_core.specs.bpf_isa.declared.operation.AluCode.{AluCode}
@@ -26,9 +25,11 @@ use Rattle.kind_core.specs.Edges as edges
 use Rattle.kind_core.specs.Edges.{transferred}
 use Rattle.cell_core.specs.Cells.{CellView, bit}
 use Rattle.operator_cells.specs.row_rules.PlaceRows.Spans.{no_place, one, is_in, span_row}
-use Rattle.operator_cells.specs.row_rules.PlaceRows.Origins.{is_open, open_row, has_data}
+use Rattle.operator_cells.specs.row_rules.PlaceRows.Origins.{is_open, open_row, has_data, data_by}
 use Rattle.operator_cells.specs.row_rules.PlaceRows.Reading.{right_of, arithmetic_is_heavy, result_as, result_row}
 use Rattle.operator_cells.specs.row_rules.PlaceRows.Writing.{writes_as, is_open_in, made_row}
+use Rattle.operator_cells.specs.row_rules.declared.place_rows.location.Location.TheVariants as location
+use Rattle.operator_cells.proofs.row_rules_laws.PlaceRows.LocationLaws.{at_number}
 use Rattle.operator_cells.proofs.row_rules_laws.PlaceRows.SpanLaws.{in_one, in_none, is_inside, one_number, one_row}
 use Rattle.operator_cells.specs.declared.held_cells.machine_cells.RegisterCells.{RegisterCells}
 use Rattle.operator_cells.specs.HeldCells.RegisterCells.{PointerView}
@@ -166,7 +167,8 @@ not_first place d b h e = some_in (is_in place (one d)) b (is_inside place (one 
 -- and whether there is data in them
 pub open_first : (k : Kinds) (d : ℕ) (x : Kind) (b : Bool) → d ≤ 10 → register k d ≡ x → is_open x ≡ true → (is_open_in k (one d) || b) ≡ true
 open_first k d x b l e o =
-    let has : has_data k d ≡ is_open (register k d) = rw (lt-ltb d 11 (omega (arith, l))) refl in
+    let small : d < 11 = omega (arith, l) in
+    let has : has_data k d ≡ is_open (register k d) = ap (data_by k) (at_number (location.Register d) small) in
     let first : list_any (has_data k) (d ∷ []) ≡ true = ap (λ t. t || false) (has ∙ ap is_open e ∙ o) in
     ap (λ t. t || b) (ap (list_any (has_data k)) (one_number d) ∙ first)
 

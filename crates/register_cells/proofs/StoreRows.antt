@@ -1,7 +1,7 @@
 -- Rows of what stores leave.
-use Rattle.std.proofs.Common.{◌≡◌, ◌≢◌, ◌∙◌, ℕ, zero, suc, ◌+◌, ◌-◌, ◌/◌, ◌%◌, ◌<◌, ◌≤◌, ◌⊎◌, inl, inr, nat_lt, ℤ, pos, ◌+ℤ◌, unsigned_abs, ◌||◌, Bool, true, false, if◌then◌else◌, Some, Result, Ok, Err, IfOk, OnOk, List, [], ◌∷◌, length, get_or, slice_index, slice_set, max, refl, sym, ap, subst, arith}
+use Rattle.std.proofs.Common.{◌≡◌, ◌≢◌, ◌∙◌, ℕ, zero, suc, ◌+◌, ◌-◌, ◌/◌, ◌%◌, ◌<◌, ◌≤◌, ◌⊎◌, inl, inr, ℤ, pos, ◌+ℤ◌, unsigned_abs, ◌||◌, Bool, true, false, if◌then◌else◌, Some, Result, Ok, Err, IfOk, OnOk, List, [], ◌∷◌, length, get_or, slice_index, slice_set, max, refl, sym, ap, subst, arith}
 use Rattle.std.specs.List.{list_any}
-use Rattle.std.proofs.lemmas.Bool.{cases_lt, le-ltb, lt-ltb, ltb-false}
+use Rattle.std.proofs.lemmas.Bool.{cases_lt}
 use Rattle.std.proofs.lemmas.Result.{on_ok_weaker}
 use Rattle.std.proofs.lemmas.List.{get_or-set_same, get_or-set_other}
 use Rattle.cell_core.specs.bpf_isa.declared.operation.Size.{Size}
@@ -35,13 +35,17 @@ use Rattle.operator_cells.specs.Rising.{Rises, RiseAll}
 use Rattle.operator_cells.proofs.RisingLaws.{stand_none, stand_more, rises_then}
 use Rattle.operator_cells.specs.row_rules.declared.place_rows.span.Span.{Span}
 use Rattle.operator_cells.specs.row_rules.PlaceRows.Spans.{no_place, one, region, slots_of, bytes_of, is_in, span_row, spans_row}
-use Rattle.operator_cells.specs.row_rules.PlaceRows.Origins.{is_open, open_row, has_data}
+use Rattle.operator_cells.specs.row_rules.PlaceRows.Origins.{is_open, open_row, has_data, data_by}
 use Rattle.operator_cells.specs.row_rules.PlaceRows.Reading.{in_slot, result_as}
 use Rattle.operator_cells.specs.row_rules.PlaceRows.Writing.{is_open_in, writes_as, record_as, taken_row}
+use Rattle.operator_cells.specs.row_rules.declared.place_rows.location.Location.{Location}
+use Rattle.operator_cells.specs.row_rules.declared.place_rows.location.Location.TheVariants as location
+use Rattle.operator_cells.specs.row_rules.PlaceRows.Locations.{first_slot, first_byte, location_at}
+use Rattle.operator_cells.proofs.row_rules_laws.PlaceRows.LocationLaws.{at_number, numbered_as}
 use Rattle.operator_cells.proofs.row_rules_laws.PlaceRows.SpanLaws.{inside as in_span, is_inside, in_none, one_row}
 use Rattle.operator_cells.specs.declared.held_cells.machine_cells.RegisterCells.{RegisterCells}
 use Rattle.operator_cells.specs.HeldCells.RegisterCells.{PointerView}
-use Rattle.operator_cells.specs.HeldCells.Rows.{number_row, value_row, kind_at, number_at, held_row, LeavesTo, CarriesTo}
+use Rattle.operator_cells.specs.HeldCells.Rows.{number_row, value_row, kind_at, number_at, held_row, LeavesTo, CarriesTo, number_by}
 use Rattle.operator_cells.proofs.HeldCells.RowLaws.{grows_by, register_row, byte_row, slot_changed, slot_kept}
 use Rattle.register_cells.specs.Rows.{ValueTo, left_row, stored_row, StoresTo}
 use Rattle.register_cells.proofs.ValueLaws.{same_most, trans_most, value_by, value_risen}
@@ -109,23 +113,25 @@ open_first k s place h d =
 
 -- ---- a store into the stack
 
-one_slot : (o offset : ℤ) (size : Size) (at place : ℕ) → machine.in_stack (o +ℤ offset) (bytes_in size) ≡ Some at → at % 8 + bytes_in size ≤ 8 → is_in place (region (Stack o) offset (bytes_in size)) ≡ true → place ≡ 11 + at / 8
+one_slot : (o offset : ℤ) (size : Size) (at place : ℕ) → machine.in_stack (o +ℤ offset) (bytes_in size) ≡ Some at → at % 8 + bytes_in size ≤ 8 → is_in place (region (Stack o) offset (bytes_in size)) ≡ true → place ≡ first_slot + at / 8
 one_slot o offset size at place e fits h =
     let b = in_span place (slots_of at (bytes_in size)) (subst (λ (z : ℤ). is_in place (slots_of (unsigned_abs z) (bytes_in size)) ≡ true) (aligned_is (o +ℤ offset +ℤ pos 512) (bytes_in size) 512 at e).0 h) in
     omega (arith, b.0, b.1, fits)
 
-slot_has : (k : Kinds) (s : ℕ) (x : Kind) → s < 64 → length k.slots ≡ 64 → has_data (with_slot k s x) (11 + s) ≡ is_open x
-slot_has k s x l ks =
-    let same : 11 + s - 11 ≡ s = omega arith in
-    rw (le-ltb (11 + s) 11 (omega arith), lt-ltb (11 + s) 75 (omega (arith, l)), same, get_or-set_same k.slots s x Unset (omega (arith, l, ks))) refl
+slot_has : (k : Kinds) (s : ℕ) (x : Kind) → s < 64 → length k.slots ≡ 64 → has_data (with_slot k s x) (first_slot + s) ≡ is_open x
+slot_has k s x l ks = ap (data_by (with_slot k s x)) (at_number (location.StackSlot s) l) ∙ ap is_open (get_or-set_same k.slots s x Unset (omega (arith, l, ks)))
 
-slot_number : (h : RegisterCells) (s c place : ℕ) → place ≢ 11 + s → number_at (record h { slots = slice_set h.slots s c }) place ≡ number_at h place
-slot_number h s c place other = by (nat_lt place 11) refl (nat_lt place 75) refl
+slot_number : (h : RegisterCells) (s c place : ℕ) → place ≢ first_slot + s → number_at (record h { slots = slice_set h.slots s c }) place ≡ number_at h place
+slot_number h s c place other = by (location_at place) refl
   where
-    by : (a : Bool) → nat_lt place 11 ≡ a → (b : Bool) → nat_lt place 75 ≡ b → number_at (record h { slots = slice_set h.slots s c }) place ≡ number_at h place
-    by true e b f = rw e refl
-    by false e true f = let off : place - 11 ≢ s = λ same. other (omega (arith, same, ltb-false place 11 e)) in rw (e, f, get_or-set_other h.slots s (place - 11) c 0 off) refl
-    by false e false f = rw (e, f) refl
+    by : (l : Location) → location_at place ≡ l → number_by (record h { slots = slice_set h.slots s c }) l ≡ number_by h l
+    by (location.Register r) e = refl
+    by (location.StackSlot t) e =
+        let off : t ≢ s = λ same. other (numbered_as place (location.StackSlot t) e ∙ ap (λ (n : ℕ). first_slot + n) same) in
+        rw (get_or-set_other h.slots s t c 0 off) refl
+    by (location.PacketByte i) e = refl
+    by location.Target e = refl
+    by (location.PendingWrites q) e = refl
 
 left_above : (ps : List PointerView) (h : RegisterCells) (k : Kinds) (o offset : ℤ) (size : Size) (at : ℕ) → at < 512 → machine.in_stack (o +ℤ offset) (bytes_in size) ≡ Some at → (row : ℕ → ℕ)
     → left_row row ps size (get_or k.slots (at / 8) Unset) (slice_index h.slots (at / 8)) ≤ span_row (held_row row ps h k) (in_slot (Stack o) offset size)
@@ -148,7 +154,7 @@ open_within x m n any some h = by (is_open x) some
 le_of : {a b : ℕ} → a ≡ b → a ≤ b
 le_of e = omega (arith, e)
 
-differs : (place s : ℕ) (sp : Span) → is_in (11 + s) sp ≡ true → list_any (is_in place) (sp ∷ no_place ∷ []) ≡ false → place ≢ 11 + s
+differs : (place s : ℕ) (sp : Span) → is_in (first_slot + s) sp ≡ true → list_any (is_in place) (sp ∷ no_place ∷ []) ≡ false → place ≢ first_slot + s
 differs place s sp h out same = let e : true ≡ false = sym h ∙ ap (λ (p : ℕ). is_in p sp) (sym same) ∙ sym (in_first place sp) ∙ out in absurd cc
 
 slot_stores : (ps : List PointerView) (k : Kinds) (h : RegisterCells) (old new : List CellView) (o offset : ℤ) (size : Size) (b : Kind) (q at c : ℕ) (x : Kind)
@@ -162,7 +168,7 @@ slot_stores ps k h old new o offset size b q at c x ks hs within fits e v =
     let R : (ℕ → ℕ) → ℕ = λ row. stored_row row ps h k (Stack o) offset size b q in
     let w : ValueTo old new ps x c R = value_by v (λ row. max_by _ (value_row row ps b q) _ (left_above ps h k o offset size at within e row)) in record {
       grows = grows_by w.grows (λ row. open_within x (R row) (R row) (list_any (is_open_in (with_slot k (at / 8) x)) (sp ∷ no_place ∷ []))
-          (λ g. open_first (with_slot k (at / 8) x) sp (11 + at / 8) there (slot_has k (at / 8) x slot ks ∙ g)) same_most);
+          (λ g. open_first (with_slot k (at / 8) x) sp (first_slot + at / 8) there (slot_has k (at / 8) x slot ks ∙ g)) same_most);
       written = λ row rows place is_written.
           let is_slot = one_slot o offset size at place e fits (sym (in_first place sp) ∙ is_written) in
           le_by (ap (held_row row ps (record h { slots = slice_set h.slots (at / 8) c }) (with_slot k (at / 8) x)) is_slot ∙ slot_changed row ps h k x (at / 8) c slot ks hs) (w.value row rows);
@@ -186,45 +192,48 @@ greatest_at row (x ∷ xs) zero l = omega arith
 greatest_at row (x ∷ xs) (suc j) l = omega (arith, greatest_at row xs j (omega (arith, l)))
 
 -- places of the packet that are not among those that are written
-window_number_at : (h : RegisterCells) (at : ℕ) (bs : List ℕ) (place : ℕ) → length h.window ≡ 256 → at + length bs ≤ 256 → ((place < 75 + at) ⊎ (75 + at + length bs ≤ place)) → number_at (record h { window = patched h.window at bs }) place ≡ number_at h place
-window_number_at h at bs place whole fits out = by (nat_lt place 11) refl (nat_lt place 75) refl out
+window_number_at : (h : RegisterCells) (at : ℕ) (bs : List ℕ) (place : ℕ) → length h.window ≡ 256 → at + length bs ≤ 256 → ((place < first_byte + at) ⊎ (first_byte + at + length bs ≤ place)) → number_at (record h { window = patched h.window at bs }) place ≡ number_at h place
+window_number_at h at bs place whole fits out = by (location_at place) refl out
   where
-    by : (a : Bool) → nat_lt place 11 ≡ a → (b : Bool) → nat_lt place 75 ≡ b → ((place < 75 + at) ⊎ (75 + at + length bs ≤ place)) → number_at (record h { window = patched h.window at bs }) place ≡ number_at h place
-    by true e b f g = rw e refl
-    by false e true f g = rw (e, f) refl
-    by false e false f (inl l) = rw (e, f) (ap (λ (c : ℕ). if nat_lt place 331 then c else h.target) (patched_low h.window bs at (place - 75) (omega (arith, l, ltb-false place 75 f)) (omega (arith, fits, whole))))
-    by false e false f (inr l) = rw (e, f) (ap (λ (c : ℕ). if nat_lt place 331 then c else h.target) (patched_past h.window bs at (place - 75) (omega (arith, l)) (omega (arith, fits, whole))))
+    by : (l : Location) → location_at place ≡ l → ((place < first_byte + at) ⊎ (first_byte + at + length bs ≤ place)) → number_by (record h { window = patched h.window at bs }) l ≡ number_by h l
+    by (location.Register r) e g = refl
+    by (location.StackSlot s) e g = refl
+    by (location.PacketByte i) e (inl l) = let n : place ≡ first_byte + i = numbered_as place (location.PacketByte i) e in patched_low h.window bs at i (omega (arith, l, n)) (omega (arith, fits, whole))
+    by (location.PacketByte i) e (inr l) = let n : place ≡ first_byte + i = numbered_as place (location.PacketByte i) e in patched_past h.window bs at i (omega (arith, l, n)) (omega (arith, fits, whole))
+    by location.Target e g = refl
+    by (location.PendingWrites q) e g = refl
 
-outside : (at n place : ℕ) → is_in place (bytes_of at n) ≡ false → (place < 75 + at) ⊎ (75 + at + n ≤ place)
-outside at n place h = by (cases_lt place (75 + at)) (cases_lt place (75 + at + n))
+outside : (at n place : ℕ) → is_in place (bytes_of at n) ≡ false → (place < first_byte + at) ⊎ (first_byte + at + n ≤ place)
+outside at n place h = by (cases_lt place (first_byte + at)) (cases_lt place (first_byte + at + n))
   where
-    by : (place < 75 + at) ⊎ (75 + at ≤ place) → (place < 75 + at + n) ⊎ (75 + at + n ≤ place) → (place < 75 + at) ⊎ (75 + at + n ≤ place)
+    by : (place < first_byte + at) ⊎ (first_byte + at ≤ place) → (place < first_byte + at + n) ⊎ (first_byte + at + n ≤ place) → (place < first_byte + at) ⊎ (first_byte + at + n ≤ place)
     by (inl l) m = inl l
     by (inr l) (inr m) = inr m
     by (inr l) (inl m) = let e : true ≡ false = sym (is_inside place (bytes_of at n) l m) ∙ h in absurd cc
 
-byte_written : (row : ℕ → ℕ) (ps : List PointerView) (h : RegisterCells) (k : Kinds) (at : ℕ) (bs : List ℕ) (place : ℕ) → length h.window ≡ 256 → at + length bs ≤ 256 → 75 + at ≤ place → place < 75 + at + length bs
+byte_written : (row : ℕ → ℕ) (ps : List PointerView) (h : RegisterCells) (k : Kinds) (at : ℕ) (bs : List ℕ) (place : ℕ) → length h.window ≡ 256 → at + length bs ≤ 256 → first_byte + at ≤ place → place < first_byte + at + length bs
     → held_row row ps (record h { window = patched h.window at bs }) k place ≤ greatest row bs
 byte_written row ps h k at bs place whole fits low high =
-    let is_place : place ≡ 75 + (place - 75) = omega (arith, low) in
-    le_by (ap (held_row row ps (record h { window = patched h.window at bs }) k) is_place ∙ byte_row row ps (record h { window = patched h.window at bs }) k (place - 75) (omega (arith, low, high, fits))
-    ∙ ap row (patched_in h.window bs at (place - 75) (omega (arith, low)) (omega (arith, low, high)) (omega (arith, fits, whole))))
-    (greatest_at row bs (place - 75 - at) (omega (arith, low, high)))
+    let is_place : place ≡ first_byte + (place - first_byte) = omega (arith, low) in
+    le_by (ap (held_row row ps (record h { window = patched h.window at bs }) k) is_place ∙ byte_row row ps (record h { window = patched h.window at bs }) k (place - first_byte) (omega (arith, low, high, fits))
+    ∙ ap row (patched_in h.window bs at (place - first_byte) (omega (arith, low)) (omega (arith, low, high)) (omega (arith, fits, whole))))
+    (greatest_at row bs (place - first_byte - at) (omega (arith, low, high)))
 
 byte_kept : (h : RegisterCells) (at n : ℕ) (bs : List ℕ) (place : ℕ) → length h.window ≡ 256 → at + n ≤ 256 → length bs ≡ n → list_any (is_in place) (bytes_of at n ∷ no_place ∷ []) ≡ false
     → number_at (record h { window = patched h.window at bs }) place ≡ number_at h place
 byte_kept h at n bs place whole fits count out =
     window_number_at h at bs place whole (omega (arith, fits, count))
-    (subst (λ (m : ℕ). (place < 75 + at) ⊎ (75 + at + m ≤ place)) (sym count) (outside at n place (sym (in_first place (bytes_of at n)) ∙ out)))
+    (subst (λ (m : ℕ). (place < first_byte + at) ⊎ (first_byte + at + m ≤ place)) (sym count) (outside at n place (sym (in_first place (bytes_of at n)) ∙ out)))
 
 window_stores : (ps : List PointerView) (k : Kinds) (h : RegisterCells) (old new : List CellView) (at n : ℕ) (last : (ℕ → ℕ) → ℕ) (bs : List ℕ) → 1 ≤ n → length h.window ≡ 256 → at + n ≤ 256 → length bs ≡ n → RiseAll old new bs last
     → LeavesTo (λ row. held_row row ps h k) ps h k (record h { window = patched h.window at bs }) old new (bytes_of at n ∷ no_place ∷ []) (λ row. if list_any (is_open_in k) (bytes_of at n ∷ no_place ∷ []) then last row else 0) last
 window_stores ps k h old new at n last bs some whole fits count r =
     let next : RegisterCells = record h { window = patched h.window at bs } in
     let fits2 : at + length bs ≤ 256 = omega (arith, fits, count) in
-    let first : is_in (75 + at) (bytes_of at n) ≡ true = is_inside (75 + at) (bytes_of at n) (omega arith) (omega (arith, some)) in
-    let data_there : has_data k (75 + at) ≡ true = rw (le-ltb (75 + at) 11 (omega arith), le-ltb (75 + at) 75 (omega arith)) refl in
-    let any = open_first k (bytes_of at n) (75 + at) first data_there in
+    let first : is_in (first_byte + at) (bytes_of at n) ≡ true = is_inside (first_byte + at) (bytes_of at n) (omega arith) (omega (arith, some)) in
+    let room : at < 256 = omega (arith, some, fits) in
+    let data_there : has_data k (first_byte + at) ≡ true = ap (data_by k) (at_number (location.PacketByte at) room) in
+    let any = open_first k (bytes_of at n) (first_byte + at) first data_there in
     record {
       grows = grows_by r.grows (λ row. subst (λ (t : Bool). last row ≤ (if t then last row else 0)) (sym any) same_most);
       written = λ row rows place is_written.

@@ -1,7 +1,7 @@
 //! The helpers that ask no map.
 
-ghost use Rattle.std.specs.Prelude.{◌≡◌, ◌<◌, ◌+◌, ◌==◌, max, true, false, pos, ℕ, Bool, List, length, if◌then◌else◌, IfOk, OnOk};
-ghost use Rattle.cell_core.specs.bpf_isa.Spelling.{IsInsn};
+ghost use Rattle.std.specs.Prelude.{◌≡◌, ◌<◌, ◌+◌, ◌==◌, max, true, false, ℕ, Bool, List, length, if◌then◌else◌, IfOk, OnOk};
+ghost use Rattle.cell_core.specs.bpf_isa.Helpers.{helper_of};
 ghost use Rattle.cell_core.specs.xdp_maps.declared.decl.MapDecl.{MapDecl};
 ghost use Rattle.cell_core.specs.xdp_machine.Arithmetic.{low};
 ghost use Rattle.kind_core.specs.Effects.{effect_of, verdict};
@@ -13,6 +13,7 @@ ghost use Rattle.operator_cells.specs.Making.{seen, Makes, Grows};
 ghost use Rattle.operator_cells.specs.Rising.{Rises};
 ghost use Rattle.kind_core.specs.declared.kind.Kind.TheVariants as kind_is;
 ghost use Rattle.kind_core.specs.declared.number.Number.{Number};
+ghost use Rattle.register_cells.specs.Plain as spec;
 ghost use Rattle.register_cells.specs.Reading.{HasNumber};
 ghost use Rattle.operator_cells.specs.HeldCells.RegisterCells.{PointerView, AreInside, number_of, IsThere};
 ghost use Rattle.operator_cells.specs.HeldCells.Carrying.{Carries};
@@ -22,12 +23,22 @@ ghost use Rattle.operator_cells.specs.HeldCells.Pointing.{KeepPointers};
 use crate::sizes::are_whole;
 use cell_core::cell::Cell;
 use cell_core::operator::Operator;
-use cell_core::xdp_state::bpf_isa::{Insn, Op};
+use cell_core::xdp_state::bpf_isa::{Helper, Insn, Op};
 use kind_core::{Kind, Kinds, Number};
 use operator_cells::cells::{constant, operate, slice};
 use operator_cells::held_cells::machine_cells::RegisterCells;
 use operator_cells::held_cells::operand::number_cell;
 use std::alloc::AllocError;
+
+/// Whether a helper asks no map.
+pub fn asks_no_map(helper: Option<Helper>) -> bool
+    ensures { result ≡ spec.asks_no_map helper }
+{
+    match helper {
+        Some(Helper::Time) | Some(Helper::Redirect) => true,
+        _ => false,
+    }
+}
 
 // When the packet was captured; helpers answer a row later.
 fn time(cells: &mut Vec<Cell>) -> Result<u32, AllocError>
@@ -39,15 +50,15 @@ fn time(cells: &mut Vec<Cell>) -> Result<u32, AllocError>
     Ok(c)
 }
 
-/// The time: R0 gets that of the packet's capture.
-pub fn carry_time(
+// The time: R0 gets that of the packet's capture.
+fn carry_time(
     cells: &mut Vec<Cell>,
     held: &mut RegisterCells,
     kinds: &Kinds,
     insn: &Insn,
 ) -> Result<(), AllocError>
     requires op { insn.now.op ≡ Op.Call }
-    requires helper { insn.now.imm ≡ pos 5 }
+    requires helper { helper_of insn.now.imm ≡ Some Helper.Time }
     ensures carries { (decls : List MapDecl) (ps : List PointerView) (node : ℕ) (is_ref : Bool) → verdict (effect_of decls kinds.now insn.now) ≡ passed → AreInside decls (length (seen cells.old.items)) ps held.old kinds.now → OnOk result (Carries decls ps insn.now node is_ref false kinds.now held.old held.new (seen cells.old.items) (seen cells.new.items)) }
     ensures rows { (decls : List MapDecl) (ps : List PointerView) (node : ℕ) (is_ref : Bool) → verdict (effect_of decls kinds.now insn.now) ≡ passed → OnOk result (CarriesTo decls (λ row. held_row row ps held.old kinds.now) ps insn.now kinds.now held.old (transferred decls kinds.now insn.now node is_ref false) held.new (seen cells.old.items) (seen cells.new.items)) }
     ensures points { (decls : List MapDecl) (node : ℕ) (is_ref : Bool) → verdict (effect_of decls kinds.now insn.now) ≡ passed → OnOk result (KeepPointers kinds.now held.old (transferred decls kinds.now insn.now node is_ref false) held.new) }
@@ -114,15 +125,15 @@ fn number_in(cells: &mut Vec<Cell>, kind: Kind, held: u32) -> Result<u32, AllocE
     }
 }
 
-/// A redirect: where its flags are 0, R0 gets XDP_REDIRECT and the target becomes the interface; else R0 gets XDP_ABORTED.
-pub fn carry_redirect(
+// A redirect: where its flags are 0, R0 gets XDP_REDIRECT and the target becomes the interface; else R0 gets XDP_ABORTED.
+fn carry_redirect(
     cells: &mut Vec<Cell>,
     held: &mut RegisterCells,
     kinds: &Kinds,
     insn: &Insn,
 ) -> Result<(), AllocError>
     requires op { insn.now.op ≡ Op.Call }
-    requires helper { insn.now.imm ≡ pos 23 }
+    requires helper { helper_of insn.now.imm ≡ Some Helper.Redirect }
     requires formed { AreFormed (seen cells.old.items) }
     requires inside { (decls : List MapDecl) × (ps : List PointerView) × AreInside decls (length (seen cells.old.items)) ps held.old kinds.now }
     ensures carries { (decls : List MapDecl) (ps : List PointerView) (node : ℕ) (is_ref : Bool) → verdict (effect_of decls kinds.now insn.now) ≡ passed → AreInside decls (length (seen cells.old.items)) ps held.old kinds.now → OnOk result (Carries decls ps insn.now node is_ref false kinds.now held.old held.new (seen cells.old.items) (seen cells.new.items)) }
@@ -138,4 +149,25 @@ pub fn carry_redirect(
     held.registers[0] = c;
     held.target = t;
     Ok(())
+}
+
+/// A call of a helper that asks no map: its cells, and what they hold.
+pub fn carry_call(
+    cells: &mut Vec<Cell>,
+    held: &mut RegisterCells,
+    kinds: &Kinds,
+    insn: &Insn,
+) -> Result<(), AllocError>
+    requires op { insn.now.op ≡ Op.Call }
+    requires helper { spec.asks_no_map (helper_of insn.now.imm) ≡ true }
+    requires formed { AreFormed (seen cells.old.items) }
+    requires inside { (decls : List MapDecl) × (ps : List PointerView) × AreInside decls (length (seen cells.old.items)) ps held.old kinds.now }
+    ensures carries { (decls : List MapDecl) (ps : List PointerView) (node : ℕ) (is_ref : Bool) → verdict (effect_of decls kinds.now insn.now) ≡ passed → AreInside decls (length (seen cells.old.items)) ps held.old kinds.now → OnOk result (Carries decls ps insn.now node is_ref false kinds.now held.old held.new (seen cells.old.items) (seen cells.new.items)) }
+    ensures rows { (decls : List MapDecl) (ps : List PointerView) (node : ℕ) (is_ref : Bool) → verdict (effect_of decls kinds.now insn.now) ≡ passed → OnOk result (CarriesTo decls (λ row. held_row row ps held.old kinds.now) ps insn.now kinds.now held.old (transferred decls kinds.now insn.now node is_ref false) held.new (seen cells.old.items) (seen cells.new.items)) }
+    ensures points { (decls : List MapDecl) (node : ℕ) (is_ref : Bool) → verdict (effect_of decls kinds.now insn.now) ≡ passed → OnOk result (KeepPointers kinds.now held.old (transferred decls kinds.now insn.now node is_ref false) held.new) }
+{
+    match Helper::known(insn.imm) {
+        Helper::Time => carry_time(cells, held, kinds, insn),
+        _ => carry_redirect(cells, held, kinds, insn),
+    }
 }

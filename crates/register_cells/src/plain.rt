@@ -15,11 +15,11 @@ ghost use Rattle.operator_cells.specs.HeldCells.Rows.{held_row, CarriesTo};
 ghost use Rattle.operator_cells.specs.HeldCells.Pointing.{KeepPointers};
 ghost use Rattle.register_cells.specs.Plain as spec;
 
-use crate::helpers::{carry_redirect, carry_time};
+use crate::helpers::{asks_no_map, carry_call};
 use crate::registers::carry_register;
 use crate::storing::carry_store;
 use cell_core::cell::Cell;
-use cell_core::xdp_state::bpf_isa::{Insn, Op};
+use cell_core::xdp_state::bpf_isa::{Helper, Insn, Op};
 use kind_core::{Kind, Kinds};
 use operator_cells::held_cells::machine_cells::{Pointer, RegisterCells};
 use std::alloc::AllocError;
@@ -47,7 +47,7 @@ pub fn is_plain(kinds: &Kinds, insn: &Insn) -> bool
         Op::Alu(_, _, _) | Op::Neg(_) | Op::End(_) | Op::Swap | Op::LoadImm => true,
         Op::Load(_) | Op::LoadSigned(_) => !is_entry(kinds.registers[insn.src as usize]),
         Op::StoreImm(_) | Op::Store(_) => !is_entry(kinds.registers[insn.dst as usize]),
-        Op::Call => insn.imm == 5 || insn.imm == 23,
+        Op::Call => asks_no_map(Helper::of(insn.imm)),
         _ => false,
     }
 }
@@ -72,8 +72,7 @@ pub fn carry_plain(
         return carry_store(cells, pointers, held, kinds, insn);
     }
     match insn.op {
-        Op::Call if insn.imm == 5 => carry_time(cells, held, kinds, insn),
-        Op::Call => carry_redirect(cells, held, kinds, insn),
+        Op::Call => carry_call(cells, held, kinds, insn),
         _ => carry_register(cells, held, kinds, insn),
     }
 }

@@ -1,2 +1,3 @@
+pub mod LocationLaws
 pub mod PlaceLaws
 pub mod SpanLaws

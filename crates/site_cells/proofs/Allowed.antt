@@ -1,11 +1,14 @@
 -- What is known of instructions on maps where they are allowed.
-use Rattle.std.proofs.Common.{◌≡◌, ℕ, ◌*◌, ◌<◌, ℤ, pos, ◌+ℤ◌, nat_lt, if◌then◌else◌, Bool, true, false, Some, None, Result, Ok, Err, IfOk, List, length, refl, sym, ◌∙◌, ap, subst, arith}
+use Rattle.std.proofs.Common.{◌≡◌, ℕ, ◌*◌, ◌<◌, ℤ, pos, ◌+ℤ◌, nat_lt, if◌then◌else◌, Bool, true, false, Some, None, Result, Ok, Err, IfOk, List, length, refl, sym, ◌∙◌, ap, subst, arith, Option}
 use Rattle.std.proofs.lemmas.Bool.Decides.{nat_tests}
 use Rattle.cell_core.specs.bpf_isa.declared.operation.Size.{Size}
 use Rattle.cell_core.specs.bpf_isa.declared.operation.Op.TheVariants.{Call, Load, LoadSigned, Atomic}
 use Rattle.cell_core.specs.bpf_isa.declared.operation.Width.TheVariants.{Bits64}
 use Rattle.kind_core.specs.Numbers.{number_extended}
 use Rattle.cell_core.specs.bpf_isa.declared.instruction.Insn.{Insn}
+use Rattle.cell_core.specs.bpf_isa.declared.helper.Helper.{Helper}
+use Rattle.cell_core.specs.bpf_isa.declared.helper.Helper.TheVariants.{Lookup, Update, Delete}
+use Rattle.cell_core.specs.bpf_isa.Helpers.{helper_of}
 use Rattle.cell_core.specs.xdp_maps.declared.decl.MapDecl.{MapDecl}
 use Rattle.cell_core.specs.xdp_machine.Memory.{bytes_in}
 use Rattle.kind_core.specs.declared.number.Number.{Number}
@@ -18,7 +21,7 @@ use Rattle.xdp_state.specs.declared.refusal.Why.TheVariants as why
 use Rattle.kind_core.specs.Kinds as kinds
 use Rattle.kind_core.specs.Kinds.{key_bytes, value_bytes, with_register}
 use Rattle.kind_core.specs.Calls as calls
-use Rattle.kind_core.specs.Calls.{declared, fits_argument, called, helper_of}
+use Rattle.kind_core.specs.Calls.{declared, called}
 use Rattle.cell_core.specs.xdp_machine.Atomics.{fetches}
 use Rattle.kind_core.proofs.xdp_machine_laws.ChangeLaws.{some_inj}
 use Rattle.kind_core.specs.Access as access
@@ -53,23 +56,23 @@ map_and_key decls k rest e h =
     let m = is_map decls (kinds.register k 1) r.1 in
     (r.0, m.0, m.1, r.1, r.2, two.2)
 
-pub allowed_call : (decls : List MapDecl) (k : Kinds) (i : Insn) (id : ℤ) → i.op ≡ Call → i.imm ≡ id → verdict (effect_of decls k i) ≡ passed
-    → (e : _) × (called decls k id (helper_of id) ≡ Ok e) × ((node : ℕ) (is_ref taken : Bool) → transferred decls k i node is_ref taken ≡ changed_if node is_ref taken k (Ok e))
+pub allowed_call : (decls : List MapDecl) (k : Kinds) (i : Insn) (helper : Option Helper) → i.op ≡ Call → helper_of i.imm ≡ helper → verdict (effect_of decls k i) ≡ passed
+    → (e : _) × (called decls k i.imm helper ≡ Ok e) × ((node : ℕ) (is_ref taken : Bool) → transferred decls k i node is_ref taken ≡ changed_if node is_ref taken k (Ok e))
 unfolding effect_of
-allowed_call decls k i id op imm allowed =
+allowed_call decls k i helper op same allowed =
     let e = ok (effect_of decls k i) allowed in
     let b = bind_passed (profile.profiled i k) (λ u. effect_as decls k i i.op) e.0 e.1 in
-    (e.0, sym (ap (effect_as decls k i) op ∙ ap (λ (z : ℤ). called decls k z (helper_of z)) imm) ∙ b.2, λ node is_ref taken. ap (changed_if node is_ref taken k) e.1)
+    (e.0, sym (ap (effect_as decls k i) op ∙ ap (called decls k i.imm) same) ∙ b.2, λ node is_ref taken. ap (changed_if node is_ref taken k) e.1)
   where
     ok : (r : _) → verdict r ≡ passed → (e : _) × (r ≡ Ok e)
     ok (Ok e) h = (e, refl)
     ok (Err w) h = absurd (cc)
 
-pub lookup_allowed : (decls : List MapDecl) (k : Kinds) (i : Insn) → i.op ≡ Call → i.imm ≡ pos 1 → verdict (effect_of decls k i) ≡ passed
+pub lookup_allowed : (decls : List MapDecl) (k : Kinds) (i : Insn) → i.op ≡ Call → helper_of i.imm ≡ Some Lookup → verdict (effect_of decls k i) ≡ passed
     → (q : ℕ) × (kinds.register k 1 ≡ MapRef q) × (q < length decls) × (calls.region k (key_bytes decls q) (kinds.register k 2) ≡ passed)
     × ((node : ℕ) (is_ref taken : Bool) → transferred decls k i node is_ref taken ≡ kinds.answering (Maybe q node) k)
-lookup_allowed decls k i op imm allowed =
-    let e = allowed_call decls k i (pos 1) op imm allowed in
+lookup_allowed decls k i op helper allowed =
+    let e = allowed_call decls k i (Some Lookup) op helper allowed in
     let f = map_and_key decls k _ e.0 e.1 in
     let a = bind_passed (declared decls (kinds.register k 1)) _ e.0 f.5 in
     let same : Ok f.0 ≡ Ok a.0 = sym f.3 ∙ a.1 in
@@ -153,22 +156,22 @@ store_allowed decls k i size q o x is base allowed =
 
 -- ---- changes
 
-pub delete_allowed : (decls : List MapDecl) (k : Kinds) (i : Insn) → i.op ≡ Call → i.imm ≡ pos 3 → verdict (effect_of decls k i) ≡ passed
+pub delete_allowed : (decls : List MapDecl) (k : Kinds) (i : Insn) → i.op ≡ Call → helper_of i.imm ≡ Some Delete → verdict (effect_of decls k i) ≡ passed
     → (q : ℕ) × (kinds.register k 1 ≡ MapRef q) × (q < length decls) × (calls.region k (key_bytes decls q) (kinds.register k 2) ≡ passed)
     × ((node : ℕ) (is_ref taken : Bool) → transferred decls k i node is_ref taken ≡ changed node is_ref taken k (calls.change_of decls q))
-delete_allowed decls k i op imm allowed =
-    let e = allowed_call decls k i (pos 3) op imm allowed in
+delete_allowed decls k i op helper allowed =
+    let e = allowed_call decls k i (Some Delete) op helper allowed in
     let f = map_and_key decls k _ e.0 e.1 in
     let a = bind_passed (declared decls (kinds.register k 1)) _ e.0 f.5 in
     let same : Ok f.0 ≡ Ok a.0 = sym f.3 ∙ a.1 in
     let q : f.0 ≡ a.0 = cc in
     (f.0, f.1, f.2, f.4, λ node is_ref taken. e.2 node is_ref taken ∙ ap (changed_if node is_ref taken k) (sym a.2) ∙ ap (λ (p : ℕ). changed node is_ref taken k (calls.change_of decls p)) (sym q))
 
-pub update_allowed : (decls : List MapDecl) (k : Kinds) (i : Insn) → i.op ≡ Call → i.imm ≡ pos 2 → verdict (effect_of decls k i) ≡ passed
+pub update_allowed : (decls : List MapDecl) (k : Kinds) (i : Insn) → i.op ≡ Call → helper_of i.imm ≡ Some Update → verdict (effect_of decls k i) ≡ passed
     → (q : ℕ) × (kinds.register k 1 ≡ MapRef q) × (q < length decls) × (calls.region k (key_bytes decls q) (kinds.register k 2) ≡ passed) × (calls.region k (value_bytes decls q) (kinds.register k 3) ≡ passed)
     × (x : Number) × (kinds.register k 4 ≡ Num x) × ((node : ℕ) (is_ref taken : Bool) → transferred decls k i node is_ref taken ≡ changed node is_ref taken k (calls.change_of decls q))
-update_allowed decls k i op imm allowed =
-    let e = allowed_call decls k i (pos 2) op imm allowed in
+update_allowed decls k i op helper allowed =
+    let e = allowed_call decls k i (Some Update) op helper allowed in
     let f = map_and_key decls k _ e.0 e.1 in
     let v = bind_passed (declared decls (kinds.register k 1) >>= (λ q. calls.region k (value_bytes decls q) (kinds.register k 3))) _ e.0 f.5 in
     let w = bind_passed (declared decls (kinds.register k 1)) (λ q. calls.region k (value_bytes decls q) (kinds.register k 3)) v.0 v.1 in

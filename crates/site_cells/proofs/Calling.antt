@@ -2,9 +2,10 @@
 use Rattle.std.proofs.Common.{◌≡◌, ℕ, ◌==◌, if◌then◌else◌, Bool, true, false, Option, Some, None, List, get_or, refl, sym, ◌∙◌, ap}
 use Rattle.std.proofs.lemmas.Option.{get_or_from_slice_get}
 use Rattle.std.specs.Prelude.{slice_get}
-use Rattle.std.specs.Int.{w64, cast_unsigned}
 use Rattle.cell_core.specs.bpf_isa.declared.operation.Op.TheVariants.{Call}
 use Rattle.cell_core.specs.bpf_isa.declared.instruction.Insn.{Insn}
+use Rattle.cell_core.specs.bpf_isa.declared.helper.Helper.{Helper}
+use Rattle.cell_core.specs.bpf_isa.Helpers.{helper_of}
 use Rattle.cell_core.specs.xdp_maps.declared.decl.MapDecl.{MapDecl}
 use Rattle.cell_core.specs.xdp_maps.State.{no_decl, contents_at}
 use Rattle.cell_core.specs.xdp_maps.Operations.{Operation}
@@ -12,9 +13,8 @@ use Rattle.cell_core.specs.xdp_machine.Values.{Value, map_in, ◌>>=◌}
 use Rattle.cell_core.specs.xdp_machine.Values as is
 use Rattle.cell_core.specs.xdp_machine.State.{Machine, register}
 use Rattle.cell_core.specs.xdp_machine.Helpers as helpers
-use Rattle.cell_core.specs.xdp_machine.Helpers.{region}
+use Rattle.cell_core.specs.xdp_machine.Helpers.{region, under_key}
 use Rattle.cell_core.specs.xdp_machine.Step.{effect}
-use Rattle.cell_core.specs.xdp_machine.Touched.{under_key}
 use Rattle.kind_core.proofs.xdp_machine_laws.ChangeLaws.{some_inj}
 use Rattle.kind_core.specs.Kinds as kinds
 use Rattle.kind_core.specs.Kinds.{key_bytes, key_in}
@@ -22,11 +22,11 @@ use Rattle.site_cells.proofs.Slots.{bound}
 
 -- ---- what is done
 
-pub helper_called : (refs : List ℕ) (m n : Machine) (i : Insn) (id : ℕ) → i.op ≡ Call → cast_unsigned w64 i.imm ≡ id → effect refs m i i.op ≡ Some n → helpers.called id m ≡ Some n
-helper_called refs m n i id op imm e = by (i.src == 0) (sym (ap (effect refs m i) op) ∙ e)
+pub helper_called : (refs : List ℕ) (m n : Machine) (i : Insn) (helper : Option Helper) → i.op ≡ Call → helper_of i.imm ≡ helper → effect refs m i i.op ≡ Some n → helpers.called helper m ≡ Some n
+helper_called refs m n i helper op same e = by (i.src == 0) (sym (ap (effect refs m i) op) ∙ e)
   where
-    by : (t : Bool) → (if t then helpers.called (cast_unsigned w64 i.imm) m else None) ≡ Some n → helpers.called id m ≡ Some n
-    by true f = ap (λ (j : ℕ). helpers.called j m) (sym imm) ∙ f
+    by : (t : Bool) → (if t then helpers.called (helper_of i.imm) m else None) ≡ Some n → helpers.called helper m ≡ Some n
+    by true f = ap (λ (h : Option Helper). helpers.called h m) (sym same) ∙ f
     by false f = absurd cc
 
 -- the declaration of the map and the bytes of the key

@@ -1,9 +1,11 @@
 -- In which rows stand the cells of updates and deletes.
-use Rattle.std.proofs.Common.{◌≡◌, ◌∙◌, ℕ, ◌+◌, ◌<◌, ◌≤◌, ℤ, pos, max, Bool, true, false, Some, List, [], ◌∷◌, ◌++◌, length, slice_index, slice_set, refl, sym, ap, subst, arith}
+use Rattle.std.proofs.Common.{◌≡◌, ◌∙◌, ℕ, ◌+◌, ◌<◌, ◌≤◌, pos, max, Bool, true, false, Some, List, [], ◌∷◌, ◌++◌, length, slice_index, slice_set, refl, sym, ap, subst, arith, Option}
 use Rattle.std.specs.List.{list_any}
-use Rattle.std.specs.Ordering.{int_eq}
 use Rattle.cell_core.specs.bpf_isa.declared.operation.Op.TheVariants.{Call}
 use Rattle.cell_core.specs.bpf_isa.declared.instruction.Insn.{Insn}
+use Rattle.cell_core.specs.bpf_isa.declared.helper.Helper.{Helper}
+use Rattle.cell_core.specs.bpf_isa.declared.helper.Helper.TheVariants.{Update, Delete}
+use Rattle.cell_core.specs.bpf_isa.Helpers.{helper_of}
 use Rattle.cell_core.specs.xdp_maps.declared.decl.MapDecl.{MapDecl}
 use Rattle.kind_core.proofs.xdp_machine_laws.ChangeLaws.{some_inj}
 use Rattle.kind_core.specs.declared.number.Number.TheVariants.{Unknown}
@@ -25,8 +27,9 @@ use Rattle.operator_cells.specs.Rising.{GrowsTo, Rises, RiseAll}
 use Rattle.operator_cells.proofs.RisingLaws.{stand_none, stand_more, stand_all, rises_then}
 use Rattle.operator_cells.specs.row_rules.declared.place_rows.span.Span.{Span}
 use Rattle.operator_cells.specs.row_rules.PlaceRows.Spans.{no_place, one, region, map_of, pending_of, value_in, span_row, spans_row}
-use Rattle.operator_cells.specs.row_rules.PlaceRows.Reading.{key_span, call_reads, result_row}
-use Rattle.operator_cells.specs.row_rules.PlaceRows.Writing.{writes_as, record_as, called_on, is_open_in, taken_row, made_row}
+use Rattle.operator_cells.specs.row_rules.PlaceRows.Calls.{key_span, value_span, call_reads, call_writes, called_on}
+use Rattle.operator_cells.specs.row_rules.PlaceRows.Reading.{result_row}
+use Rattle.operator_cells.specs.row_rules.PlaceRows.Writing.{writes_as, record_as, is_open_in, taken_row, made_row}
 use Rattle.operator_cells.specs.declared.held_cells.machine_cells.RegisterCells.{RegisterCells}
 use Rattle.operator_cells.specs.HeldCells.RegisterCells.{PointerView}
 use Rattle.operator_cells.specs.HeldCells.Rows.{value_row, held_row, map_used, row_before, is_some_place, written_row, LeavesTo, OperatesTo}
@@ -36,11 +39,11 @@ use Rattle.site_cells.specs.Siting.{Changes, change_site}
 use Rattle.site_cells.proofs.Allowed.{delete_allowed, update_allowed}
 use Rattle.site_cells.proofs.Shedding.{Sheds, changed_sheds}
 use Rattle.site_cells.proofs.Leaving.{trans_le, span_before, register_before, pending_before, shed_leaves}
-use Rattle.site_cells.proofs.LookupRows.{call_used, call_writes, call_result, key_is_span}
+use Rattle.site_cells.proofs.LookupRows.{call_used, call_places, call_result, key_is_span}
 use Rattle.site_cells.proofs.Recording.{made_taken, made_result, written_taken, written_result, open_register, some_place, one_write}
 
 -- ---- a change
-module _ (decls : List MapDecl) (i : Insn) (here : Here) (is_ref : Bool) (k : Kinds) (h : RegisterCells) (ps : List PointerView) (q : ℕ) (z : ℤ) (op : i.op ≡ Call) (imm : i.imm ≡ z) (plain : int_eq z (pos 23) ≡ false) (map : register k 1 ≡ MapRef q)
+module _ (decls : List MapDecl) (i : Insn) (here : Here) (is_ref : Bool) (k : Kinds) (h : RegisterCells) (ps : List PointerView) (q : ℕ) (helper : Option Helper) (op : i.op ≡ Call) (called : helper_of i.imm ≡ helper) (plain : call_writes helper ≡ no_place) (map : register k 1 ≡ MapRef q)
     (there : q < length decls) (is : transferred decls k i here.node is_ref false ≡ changed here.node is_ref false k (calls.change_of decls q)) where
   abbrev before : (ℕ → ℕ) → ℕ → ℕ
   before row = row_before row ps h k (map_used k i i.op) here.pending
@@ -58,13 +61,13 @@ module _ (decls : List MapDecl) (i : Insn) (here : Here) (is_ref : Bool) (k : Ki
   used = call_used k i q op map
 
   writes : writes_as k i i.op ≡ one 0 ∷ no_place ∷ []
-  writes = call_writes k i z op imm plain
+  writes = call_places k i helper op called plain
 
-  pub last_is : (row : ℕ → ℕ) → last row ≡ spans_row (before row) (call_reads decls k z) + 1
-  last_is row = call_result (before row) decls k after i z op imm
+  pub last_is : (row : ℕ → ℕ) → last row ≡ spans_row (before row) (call_reads decls k helper) + 1
+  last_is row = call_result (before row) decls k after i helper op called
 
-  pub record_is : record_as decls k i i.op ≡ called_on decls k z (Some q)
-  record_is = ap (record_as decls k i) op ∙ ap (λ y. called_on decls k y (map_of (register k 1))) imm ∙ ap (λ (x : Kind). called_on decls k z (map_of x)) map
+  pub record_is : record_as decls k i i.op ≡ called_on decls k helper (Some q)
+  record_is = ap (record_as decls k i) op ∙ ap (λ (h : Option Helper). called_on decls k h (map_of (register k 1))) called ∙ ap (λ (x : Kind). called_on decls k helper (map_of x)) map
 
   pub waits : (row : ℕ → ℕ) → row here.pending ≤ span_row (before row) (pending_of (register k 1))
   waits row = pending_before row ps h k (map_used k i i.op) (map_of (register k 1)) q here.pending used (ap map_of map)
@@ -95,27 +98,27 @@ module _ (decls : List MapDecl) (i : Insn) (here : Here) (is_ref : Bool) (k : Ki
 
 -- ---- deletes
 pub delete_rows : (decls : List MapDecl) (i : Insn) (here : Here) (is_ref : Bool) (k : Kinds) (h : RegisterCells) (old mid new : List CellView) (ps : List PointerView) (sites sites2 : List SiteView) (base : Kind) (count map c : ℕ) (key words looked none : List ℕ)
-    → i.op ≡ Call → i.imm ≡ pos 3 → verdict (effect_of decls k i) ≡ passed → length h.registers ≡ 11
+    → i.op ≡ Call → helper_of i.imm ≡ Some Delete → verdict (effect_of decls k i) ≡ passed → length h.registers ≡ 11
     → base ≡ register k 2 → count ≡ key_bytes decls map → ((q : ℕ) → register k 1 ≡ MapRef q → map ≡ q) → key ≡ words → looked ≡ [] → none ≡ []
     → RiseAll old mid words (λ row. span_row (held_row row ps h k) (region base (pos 0) count)) → Changes mid new sites sites2 here map act.Delete key looked none c
     → OperatesTo decls i here.pending k h (transferred decls k i here.node is_ref false) (record h { registers = slice_set h.registers 0 c }) old new ps ps sites sites2
-delete_rows decls i here is_ref k h old mid new ps sites sites2 base count map c key words looked none op imm allowed whole base_is count_is map_is key_is looked_is none_is rises made =
-    let f = delete_allowed decls k i op imm allowed in
+delete_rows decls i here is_ref k h old mid new ps sites sites2 base count map c key words looked none op helper allowed whole base_is count_is map_is key_is looked_is none_is rises made =
+    let f = delete_allowed decls k i op helper allowed in
     let is = f.4 here.node is_ref false in
     let before : (ℕ → ℕ) → ℕ → ℕ = λ row. row_before row ps h k (map_used k i i.op) here.pending in
     let last : (ℕ → ℕ) → ℕ = λ row. result_row (before row) decls k (transferred decls k i here.node is_ref false) i in
     let taken : (ℕ → ℕ) → ℕ = λ row. taken_row (before row) (record_as decls k i i.op) in
-    let result = last_is decls i here is_ref k h ps f.0 (pos 3) op imm refl f.1 f.2 is in
-    let wait = waits decls i here is_ref k h ps f.0 (pos 3) op imm refl f.1 f.2 is in
+    let result = last_is decls i here is_ref k h ps f.0 (Some Delete) op helper refl f.1 f.2 is in
+    let wait = waits decls i here is_ref k h ps f.0 (Some Delete) op helper refl f.1 f.2 is in
     let low : (row : ℕ → ℕ) → span_row (held_row row ps h k) (region base (pos 0) count) ≤ span_row (before row) (key_span decls k) = λ row.
-    key_low decls i here is_ref k h ps f.0 (pos 3) op imm refl f.1 f.2 is row base count map base_is count_is (map_is f.0 f.1) in
+    key_low decls i here is_ref k h ps f.0 (Some Delete) op helper refl f.1 f.2 is row base count map base_is count_is (map_is f.0 f.1) in
     let most : (ℕ → ℕ) → ℕ = λ row. max (last row) (taken row) in
     let first = stand_all {last = most} (stand_none {last = most}) rises (λ row p. let l = low row in let r = result row in omega (arith, l, r)) in
     let reading : (row : ℕ → ℕ) → greatest row words ≤ span_row (held_row row ps h k) (region base (pos 0) count) → greatest row (key ++ looked ++ here.pending ∷ []) + 1 ≤ last row = λ row g.
     let l = low row in let r = result row in let w = wait row in
     omega (arith, g, l, r, w, ap (greatest row) key_is, ap (greatest row) looked_is, greatest_append row (key ++ looked) (here.pending ∷ []), greatest_append row key looked) in
     let all = rises_then first made.rises (λ row p. let r = reading row p.1 in omega (arith, r)) in
-    change_rows decls i here is_ref k h ps f.0 (pos 3) op imm refl f.1 f.2 is old new sites sites2 act.Delete key none c (key_span decls k ∷ no_place ∷ no_place ∷ []) (record_is decls i here is_ref k h ps f.0 (pos 3) op imm refl f.1 f.2 is) whole all.grows
+    change_rows decls i here is_ref k h ps f.0 (Some Delete) op helper refl f.1 f.2 is old new sites sites2 act.Delete key none c (key_span decls k ∷ no_place ∷ no_place ∷ []) (record_is decls i here is_ref k h ps f.0 (Some Delete) op helper refl f.1 f.2 is) whole all.grows
     (λ row rows. trans_le (made.rises.result row rows) (reading row (first.known row (made.rises.grows.rows row rows)).1))
     (λ row rows. let g = (first.known row (made.rises.grows.rows row rows)).1 in let l = low row in let r = result row in
     omega (arith, g, l, r, ap (greatest row) key_is, ap (greatest row) none_is, greatest_append row key none))
@@ -123,24 +126,24 @@ delete_rows decls i here is_ref k h old mid new ps sites sites2 base count map c
 
 -- ---- updates
 pub update_rows : (decls : List MapDecl) (i : Insn) (here : Here) (is_ref : Bool) (k : Kinds) (h : RegisterCells) (old mid next end new : List CellView) (ps : List PointerView) (sites sites2 : List SiteView) (base second : Kind) (count size map c flags : ℕ) (key words looked values operands : List ℕ)
-    → i.op ≡ Call → i.imm ≡ pos 2 → verdict (effect_of decls k i) ≡ passed → length h.registers ≡ 11
+    → i.op ≡ Call → helper_of i.imm ≡ Some Update → verdict (effect_of decls k i) ≡ passed → length h.registers ≡ 11
     → base ≡ register k 2 → second ≡ register k 3 → count ≡ key_bytes decls map → size ≡ value_bytes decls map → ((q : ℕ) → register k 1 ≡ MapRef q → map ≡ q) → key ≡ words → looked ≡ flags ∷ [] → operands ≡ flags ∷ values
     → RiseAll old mid words (λ row. span_row (held_row row ps h k) (region base (pos 0) count)) → RiseAll mid next values (λ row. span_row (held_row row ps h k) (region second (pos 0) size))
     → Rises next end flags (λ row. value_row row ps (register k 4) (slice_index h.registers 4)) → Changes end new sites sites2 here map act.Update key looked operands c
     → OperatesTo decls i here.pending k h (transferred decls k i here.node is_ref false) (record h { registers = slice_set h.registers 0 c }) old new ps ps sites sites2
-update_rows decls i here is_ref k h old mid next end new ps sites sites2 base second count size map c flags key words looked values operands op imm allowed whole base_is second_is count_is size_is map_is key_is looked_is operands_are rises others flag made =
-    let f = update_allowed decls k i op imm allowed in
+update_rows decls i here is_ref k h old mid next end new ps sites sites2 base second count size map c flags key words looked values operands op helper allowed whole base_is second_is count_is size_is map_is key_is looked_is operands_are rises others flag made =
+    let f = update_allowed decls k i op helper allowed in
     let is = f.7 here.node is_ref false in
     let before : (ℕ → ℕ) → ℕ → ℕ = λ row. row_before row ps h k (map_used k i i.op) here.pending in
     let last : (ℕ → ℕ) → ℕ = λ row. result_row (before row) decls k (transferred decls k i here.node is_ref false) i in
     let taken : (ℕ → ℕ) → ℕ = λ row. taken_row (before row) (record_as decls k i i.op) in
-    let takes : List Span = key_span decls k ∷ region (register k 3) (pos 0) (value_in decls (Some f.0)) ∷ no_place ∷ [] in
-    let write = record_is decls i here is_ref k h ps f.0 (pos 2) op imm refl f.1 f.2 is in
+    let takes : List Span = key_span decls k ∷ value_span decls k (Some f.0) ∷ no_place ∷ [] in
+    let write = record_is decls i here is_ref k h ps f.0 (Some Update) op helper refl f.1 f.2 is in
     let takes_is : (row : ℕ → ℕ) → taken row ≡ spans_row (before row) takes = λ row. ap (taken_row (before row)) write in
-    let result = last_is decls i here is_ref k h ps f.0 (pos 2) op imm refl f.1 f.2 is in
-    let wait = waits decls i here is_ref k h ps f.0 (pos 2) op imm refl f.1 f.2 is in
+    let result = last_is decls i here is_ref k h ps f.0 (Some Update) op helper refl f.1 f.2 is in
+    let wait = waits decls i here is_ref k h ps f.0 (Some Update) op helper refl f.1 f.2 is in
     let low : (row : ℕ → ℕ) → span_row (held_row row ps h k) (region base (pos 0) count) ≤ span_row (before row) (key_span decls k) = λ row.
-    key_low decls i here is_ref k h ps f.0 (pos 2) op imm refl f.1 f.2 is row base count map base_is count_is (map_is f.0 f.1) in
+    key_low decls i here is_ref k h ps f.0 (Some Update) op helper refl f.1 f.2 is row base count map base_is count_is (map_is f.0 f.1) in
     let value_is : region second (pos 0) size ≡ region (register k 3) (pos 0) (value_in decls (Some f.0)) =
     ap (λ (x : Kind). region x (pos 0) size) second_is ∙ ap (region (register k 3) (pos 0)) (size_is ∙ ap (value_bytes decls) (map_is f.0 f.1)) in
     let value_low : (row : ℕ → ℕ) → span_row (held_row row ps h k) (region second (pos 0) size) ≤ taken row = λ row.
@@ -158,7 +161,7 @@ update_rows decls i here is_ref k h old mid next end new ps sites sites2 base se
     omega (arith, g, e, l, v, w, result row, ap (greatest row) key_is, ap (greatest row) looked_is, greatest_append row (key ++ looked) (here.pending ∷ []), greatest_append row key looked) in
     let all = rises_then three made.rises (λ row p. let r = reading row p.0.0.1 p.1 in omega (arith, r)) in
     let known = λ (row : ℕ → ℕ) (rows : AreRows new row). three.known row (made.rises.grows.rows row rows) in
-    change_rows decls i here is_ref k h ps f.0 (pos 2) op imm refl f.1 f.2 is old new sites sites2 act.Update key operands c takes write whole all.grows
+    change_rows decls i here is_ref k h ps f.0 (Some Update) op helper refl f.1 f.2 is old new sites sites2 act.Update key operands c takes write whole all.grows
     (λ row rows. let p = known row rows in trans_le (made.rises.result row rows) (reading row p.0.0.1 p.1))
     (λ row rows. let p = known row rows in let l = key_under row in let v = value_low row in let e = flag_low row in
     omega (arith, p.0.0.1, p.0.1, p.1, l, v, e, ap (greatest row) key_is, ap (greatest row) operands_are, greatest_append row key operands))

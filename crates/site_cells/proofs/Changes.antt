@@ -1,16 +1,19 @@
 -- Updates and deletes.
-use Rattle.std.proofs.Common.{◌≡◌, ℕ, ◌^◌, ◌<◌, ◌≤◌, pos, Bool, true, Some, List, [], ◌∷◌, ◌++◌, length, map as map_list, slice_index, slice_set, refl, sym, ◌∙◌, ap, subst, arith}
+use Rattle.std.proofs.Common.{◌≡◌, ℕ, ◌^◌, ◌<◌, ◌≤◌, Bool, true, Some, List, [], ◌∷◌, ◌++◌, length, map as map_list, slice_index, slice_set, refl, sym, ◌∙◌, ap, subst, arith, Option}
 use Rattle.std.specs.Int.{w64, cast_unsigned}
 use Rattle.std.proofs.lemmas.List.{append-nil}
 use Rattle.std.proofs.lemmas.List.Elements.{All-nil, All-cons}
 use Rattle.cell_core.specs.bpf_isa.declared.operation.Op.TheVariants.{Call}
 use Rattle.cell_core.specs.bpf_isa.declared.instruction.Insn.{Insn}
+use Rattle.cell_core.specs.bpf_isa.declared.helper.Helper.{Helper}
+use Rattle.cell_core.specs.bpf_isa.declared.helper.Helper.TheVariants.{Update, Delete}
+use Rattle.cell_core.specs.bpf_isa.Helpers.{helper_of}
 use Rattle.cell_core.specs.xdp_maps.declared.decl.MapDecl.{MapDecl}
 use Rattle.cell_core.specs.xdp_maps.State.{MapState, decl_at, contents_at, with_contents}
 use Rattle.cell_core.specs.xdp_maps.Calls.{delete_number, deleted, update_number, updated}
 use Rattle.cell_core.specs.xdp_maps.Operations as map
 use Rattle.cell_core.specs.xdp_maps.Operations.{Operation, operated}
-use Rattle.cell_core.specs.xdp_machine.Values.{Value, ◌>>=◌}
+use Rattle.cell_core.specs.xdp_machine.Values.{◌>>=◌}
 use Rattle.cell_core.specs.xdp_machine.Values as is
 use Rattle.cell_core.specs.xdp_machine.State.{Machine, PacketIn, register}
 use Rattle.cell_core.specs.xdp_machine.Helpers as helpers
@@ -111,13 +114,13 @@ change_operates decls i here is_ref taken k h old mid new ps sites sites2 q c a 
 
 -- ---- deletes
 
-delete_helps : (R : ℕ → ℕ → Type 0) (decls : List MapDecl) (i : Insn) (here : Here) (k : Kinds) (h : RegisterCells) (old mid new : List CellView) (ps : List PointerView) (q : ℕ) (words : List ℕ) → i.op ≡ Call → i.imm ≡ pos 3 → kinds.register k 1 ≡ MapRef q
+delete_helps : (R : ℕ → ℕ → Type 0) (decls : List MapDecl) (i : Insn) (here : Here) (k : Kinds) (h : RegisterCells) (old mid new : List CellView) (ps : List PointerView) (q : ℕ) (words : List ℕ) → i.op ≡ Call → helper_of i.imm ≡ Some Delete → kinds.register k 1 ≡ MapRef q
     → GrowsWith R mid new → HoldsRegion decls ps here.node k h old mid (kinds.register k 2) (key_bytes decls q) words
     → (packet : PacketIn) (v : ℕ → ℕ) (m n : Machine) (refs : List ℕ) → IsRun packet new v → IsKnown decls packet v ps here.node k h m → effect refs m i i.op ≡ Some n → Helps i v m n q (change_site here q act.Delete words [])
-delete_helps R decls i here k h old mid new ps q words op imm one grows region packet v m n refs run known e =
+delete_helps R decls i here k h old mid new ps q words op helper one grows region packet v m n refs run known e =
     let d1 : register m.registers 1 ≡ is.Map q = subst (λ (x : Kind). Describes known.world m.maps x (register m.registers 1)) one (known.stands.described.registers 1) in
     let l = key_is m q (λ p d key. Some (helpers.answering (is.Number (cast_unsigned w64 (delete_number d (contents_at m.maps p) key))) (record m { maps = with_contents m.maps p (deleted d (contents_at m.maps p) key) }))) n d1
-    (helper_called refs m n i 3 op (ap (cast_unsigned w64) imm) e) in
+    (helper_called refs m n i (Some Delete) op helper e) in
     let d : MapDecl = l.0 in
     let key : List ℕ = l.1 in
     let decl = decl_is m.maps.decls q d l.2.decl in
@@ -129,7 +132,7 @@ delete_helps R decls i here k h old mid new ps q words op imm one grows region p
       op = map.Delete key;
       number = cast_unsigned w64 (delete_number (decl_at m.maps q) (contents_at m.maps q) key);
       site_is = ap (λ (x : MapDecl). map.Delete (bytes_of x.key (map_list v words))) decl.0 ∙ ap map.Delete words_are;
-      does = ap (touched.operation_as m i) op ∙ ap (λ z. touched.calls_on (cast_unsigned w64 z) m) imm ∙ keyed_operation m q d key (λ x bytes. Some (map.Delete bytes)) (map.Delete key) l.2 refl;
+      does = ap (touched.operation_as m i) op ∙ ap (λ (h : Option Helper). helpers.calls_on h m) helper ∙ keyed_operation m q d key (λ x bytes. Some (map.Delete bytes)) (map.Delete key) l.2 refl;
       leaves = sym (some_inj _ n l.3)
           ∙ ap (λ (x : MapDecl). helpers.answering (is.Number (cast_unsigned w64 (delete_number x (contents_at m.maps q) key))) (record m { maps = with_contents m.maps q (deleted x (contents_at m.maps q) key) })) (sym decl.0);
       answers = refl;
@@ -137,12 +140,12 @@ delete_helps R decls i here k h old mid new ps q words op imm one grows region p
     }
 
 pub delete_made : (decls : List MapDecl) (i : Insn) (here : Here) (is_ref taken : Bool) (k : Kinds) (h : RegisterCells) (old mid new : List CellView) (ps : List PointerView) (sites sites2 : List SiteView) (base : Kind) (count map c : ℕ) (key words looked none : List ℕ)
-    → i.op ≡ Call → i.imm ≡ pos 3 → verdict (effect_of decls k i) ≡ passed → here.guard < length old → length h.registers ≡ 11 → AreInside decls (length old) ps h k
+    → i.op ≡ Call → helper_of i.imm ≡ Some Delete → verdict (effect_of decls k i) ≡ passed → here.guard < length old → length h.registers ≡ 11 → AreInside decls (length old) ps h k
     → base ≡ kinds.register k 2 → count ≡ key_bytes decls map → ((q : ℕ) → kinds.register k 1 ≡ MapRef q → map ≡ q) → key ≡ words → none ≡ []
     → (calls.region k count base ≡ passed → HoldsRegion decls ps here.node k h old mid base count words) → Changes mid new sites sites2 here map act.Delete key looked none c
     → Operates decls i here.node here.guard is_ref taken k h (record h { registers = slice_set h.registers 0 c }) old new ps ps sites sites2
-delete_made decls i here is_ref taken k h old mid new ps sites sites2 base count map c key words looked none op imm allowed guard_there whole inside base_is count_is map_is key_is none_is region made =
-    let f = delete_allowed decls k i op imm allowed in
+delete_made decls i here is_ref taken k h old mid new ps sites sites2 base count map c key words looked none op helper allowed guard_there whole inside base_is count_is map_is key_is none_is region made =
+    let f = delete_allowed decls k i op helper allowed in
     let q : map ≡ f.0 = map_is f.0 f.1 in
     let n : count ≡ key_bytes decls f.0 = count_is ∙ ap (key_bytes decls) q in
     let there = region (ap (calls.region k count) base_is ∙ ap (λ (j : ℕ). calls.region k j (kinds.register k 2)) n ∙ f.3) in
@@ -151,22 +154,22 @@ delete_made decls i here is_ref taken k h old mid new ps sites sites2 base count
     change_operates decls i here is_ref taken k h old mid new ps sites sites2 f.0 c act.Delete words looked [] (f.4 here.node is_ref taken) whole inside holds.grows
     (fits_map decls (change_site here f.0 act.Delete words []) f.2 holds.enough tt tt)
     (record { guard = omega (arith, guard_there, holds.grows.longer); key = holds.there; operands = All-nil (λ j. j < length mid) }) changes refl
-    (delete_helps (ReadsNext sites) decls i here k h old mid new ps f.0 words op imm f.1 changes.grows holds)
+    (delete_helps (ReadsNext sites) decls i here k h old mid new ps f.0 words op helper f.1 changes.grows holds)
 
 -- ---- updates
 
-updates_is : (m : Machine) (d : MapDecl) (key value : List ℕ) (flags : ℕ) → helpers.region m.stack m.frame d.value (register m.registers 3) ≡ Some value → is.number_in (register m.registers 4) ≡ Some flags → touched.updates m d key ≡ Some (map.Update key value flags)
+updates_is : (m : Machine) (d : MapDecl) (key value : List ℕ) (flags : ℕ) → helpers.region m.stack m.frame d.value (register m.registers 3) ≡ Some value → is.number_in (register m.registers 4) ≡ Some flags → helpers.updates m d key ≡ Some (map.Update key value flags)
 updates_is m d key value flags e f = rw (e, f) refl
 
-update_helps : (R : ℕ → ℕ → Type 0) (decls : List MapDecl) (i : Insn) (here : Here) (k : Kinds) (h : RegisterCells) (old mid next last new : List CellView) (ps : List PointerView) (q flags : ℕ) (x : Number) (words values : List ℕ) → i.op ≡ Call → i.imm ≡ pos 2
+update_helps : (R : ℕ → ℕ → Type 0) (decls : List MapDecl) (i : Insn) (here : Here) (k : Kinds) (h : RegisterCells) (old mid next last new : List CellView) (ps : List PointerView) (q flags : ℕ) (x : Number) (words values : List ℕ) → i.op ≡ Call → helper_of i.imm ≡ Some Update
     → kinds.register k 1 ≡ MapRef q → kinds.register k 4 ≡ Num x → GrowsWith R last new → HoldsRegion decls ps here.node k h old mid (kinds.register k 2) (key_bytes decls q) words
     → HoldsRegion decls ps here.node k h mid next (kinds.register k 3) (value_bytes decls q) values → Makes next last flags (λ packet v. number_of v x (slice_index h.registers 4))
     → (packet : PacketIn) (v : ℕ → ℕ) (m n : Machine) (refs : List ℕ) → IsRun packet new v → IsKnown decls packet v ps here.node k h m → effect refs m i i.op ≡ Some n → Helps i v m n q (change_site here q act.Update words (flags ∷ values))
-update_helps R decls i here k h old mid next last new ps q flags x words values op imm one four grows region second made packet v m n refs run known e =
+update_helps R decls i here k h old mid next last new ps q flags x words values op helper one four grows region second made packet v m n refs run known e =
     let d1 : register m.registers 1 ≡ is.Map q = subst (λ (y : Kind). Describes known.world m.maps y (register m.registers 1)) one (known.stands.described.registers 1) in
     let l = key_is m q (λ p d key. helpers.region m.stack m.frame d.value (register m.registers 3) >>= (λ value. is.number_in (register m.registers 4) >>= (λ f.
     Some (helpers.answering (is.Number (cast_unsigned w64 (update_number d (contents_at m.maps p) key f))) (record m { maps = with_contents m.maps p (updated d (contents_at m.maps p) key value f) }))))) n d1
-    (helper_called refs m n i 2 op (ap (cast_unsigned w64) imm) e) in
+    (helper_called refs m n i (Some Update) op helper e) in
     let d : MapDecl = l.0 in
     let key : List ℕ = l.1 in
     let b = bound (helpers.region m.stack m.frame d.value (register m.registers 3)) _ n l.3 in
@@ -190,7 +193,7 @@ update_helps R decls i here k h old mid next last new ps q flags x words values 
           ∙ ap (λ (bs : List ℕ). map.Update bs (bytes_of d.value (map_list v values)) (v flags)) words_are
           ∙ ap (λ (bs : List ℕ). map.Update key bs (v flags)) values_are
           ∙ ap (map.Update key b.0) flags_are;
-      does = ap (touched.operation_as m i) op ∙ ap (λ z. touched.calls_on (cast_unsigned w64 z) m) imm ∙ keyed_operation m q d key (touched.updates m) (map.Update key b.0 f.0) l.2 (updates_is m d key b.0 f.0 b.1 f.1);
+      does = ap (touched.operation_as m i) op ∙ ap (λ (h : Option Helper). helpers.calls_on h m) helper ∙ keyed_operation m q d key (helpers.updates m) (map.Update key b.0 f.0) l.2 (updates_is m d key b.0 f.0 b.1 f.1);
       leaves = sym (some_inj _ n f.2)
           ∙ ap (λ (y : MapDecl). helpers.answering (is.Number (cast_unsigned w64 (update_number y (contents_at m.maps q) key f.0))) (record m { maps = with_contents m.maps q (updated y (contents_at m.maps q) key b.0 f.0) })) (sym decl.0);
       answers = refl;
@@ -198,14 +201,14 @@ update_helps R decls i here k h old mid next last new ps q flags x words values 
     }
 
 pub update_made : (decls : List MapDecl) (i : Insn) (here : Here) (is_ref taken : Bool) (k : Kinds) (h : RegisterCells) (old mid next last new : List CellView) (ps : List PointerView) (sites sites2 : List SiteView) (base second : Kind) (count size map c flags : ℕ) (key words looked values operands : List ℕ)
-    → i.op ≡ Call → i.imm ≡ pos 2 → verdict (effect_of decls k i) ≡ passed → here.guard < length old → length h.registers ≡ 11 → AreInside decls (length old) ps h k
+    → i.op ≡ Call → helper_of i.imm ≡ Some Update → verdict (effect_of decls k i) ≡ passed → here.guard < length old → length h.registers ≡ 11 → AreInside decls (length old) ps h k
     → base ≡ kinds.register k 2 → second ≡ kinds.register k 3 → count ≡ key_bytes decls map → size ≡ value_bytes decls map → ((q : ℕ) → kinds.register k 1 ≡ MapRef q → map ≡ q) → key ≡ words → operands ≡ flags ∷ values
     → (calls.region k count base ≡ passed → HoldsRegion decls ps here.node k h old mid base count words) → (calls.region k size second ≡ passed → HoldsRegion decls ps here.node k h mid next second size values)
     → ((x : Number) → kinds.register k 4 ≡ Num x → Makes next last flags (λ packet v. number_of v x (slice_index h.registers 4)))
     → Changes last new sites sites2 here map act.Update key looked operands c
     → Operates decls i here.node here.guard is_ref taken k h (record h { registers = slice_set h.registers 0 c }) old new ps ps sites sites2
-update_made decls i here is_ref taken k h old mid next last new ps sites sites2 base second count size map c flags key words looked values operands op imm allowed guard_there whole inside base_is second_is count_is size_is map_is key_is operands_are region other makes made =
-    let f = update_allowed decls k i op imm allowed in
+update_made decls i here is_ref taken k h old mid next last new ps sites sites2 base second count size map c flags key words looked values operands op helper allowed guard_there whole inside base_is second_is count_is size_is map_is key_is operands_are region other makes made =
+    let f = update_allowed decls k i op helper allowed in
     let q : map ≡ f.0 = map_is f.0 f.1 in
     let n : count ≡ key_bytes decls f.0 = count_is ∙ ap (key_bytes decls) q in
     let s : size ≡ value_bytes decls f.0 = size_is ∙ ap (value_bytes decls) q in
@@ -223,7 +226,7 @@ update_made decls i here is_ref taken k h old mid next last new ps sites sites2 
       key = λ j d l. omega (arith, holds.there j d l, behind);
       operands = All-cons (λ j. j < length last) flags values flag.there (λ j d l. omega (arith, others.there j d l, flag.grows.longer));
     }) changes refl
-    (update_helps (ReadsNext sites) decls i here k h old mid next last new ps f.0 flags f.5 words values op imm f.1 f.6 changes.grows holds others flag)
+    (update_helps (ReadsNext sites) decls i here k h old mid next last new ps f.0 flags f.5 words values op helper f.1 f.6 changes.grows holds others flag)
   where
     held_region : {a b : List CellView} {x y : Kind} {c d : ℕ} {ws : List ℕ} → x ≡ y → c ≡ d → HoldsRegion decls ps here.node k h a b x c ws → HoldsRegion decls ps here.node k h a b y d ws
     held_region {a} {b} {x} {y} {c} {d} {ws} e g r = subst (λ (j : ℕ). HoldsRegion decls ps here.node k h a b y j ws) g (subst (λ (z : Kind). HoldsRegion decls ps here.node k h a b z c ws) e r)

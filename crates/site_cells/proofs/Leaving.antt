@@ -1,9 +1,8 @@
 -- In which rows stands what is held after an operation on a map.
-use Rattle.std.proofs.Common.{◌≡◌, ◌≢◌, ℕ, ◌+◌, ◌-◌, ◌<◌, ◌≤◌, ◌⊎◌, inl, inr, ◌==◌, nat_lt, ◌||◌, if◌then◌else◌, Bool, true, false, Option, Some, List, [], ◌∷◌, ◌++◌, length, get_or, slice_index, refl, sym, subst, arith}
+use Rattle.std.proofs.Common.{◌≡◌, ◌≢◌, ℕ, ◌+◌, ◌-◌, ◌<◌, ◌≤◌, ◌⊎◌, inl, inr, ◌==◌, ◌||◌, if◌then◌else◌, Bool, true, false, Option, Some, List, [], ◌∷◌, ◌++◌, length, get_or, slice_index, refl, sym, subst, arith}
 use Rattle.std.specs.List.{list_any}
-use Rattle.std.proofs.lemmas.Bool.{cases_lt, ltb-true, ltb-false, lt-ltb, le-ltb}
+use Rattle.std.proofs.lemmas.Bool.{cases_lt, lt-ltb, le-ltb}
 use Rattle.cell_core.specs.xdp_maps.declared.decl.MapDecl.{MapDecl}
-use Rattle.kind_core.specs.declared.number.Number.TheVariants.{Unknown}
 use Rattle.kind_core.specs.declared.kind.Kind.{Kind}
 use Rattle.kind_core.specs.declared.kind.Kind.TheVariants.{Unset, Num, Maybe, Entry, Stale}
 use Rattle.kind_core.specs.declared.kind.Kinds.{Kinds}
@@ -13,11 +12,15 @@ use Rattle.cell_core.specs.Rows.{AreRows, greatest}
 use Rattle.operator_cells.specs.Rising.{GrowsTo}
 use Rattle.operator_cells.specs.row_rules.declared.place_rows.span.Span.{Span}
 use Rattle.operator_cells.specs.row_rules.PlaceRows.Spans.{no_place, one, pending, pending_in, is_in, span_row}
+use Rattle.operator_cells.specs.row_rules.declared.place_rows.location.Location.{Location}
+use Rattle.operator_cells.specs.row_rules.declared.place_rows.location.Location.TheVariants as location
+use Rattle.operator_cells.specs.row_rules.PlaceRows.Locations.{first_pending, location_at, IsLocation}
+use Rattle.operator_cells.proofs.row_rules_laws.PlaceRows.LocationLaws.{location_there}
 use Rattle.operator_cells.proofs.row_rules_laws.PlaceRows.SpanLaws.{in_none, in_one, is_inside, span_above, span_within}
 use Rattle.operator_cells.specs.declared.held_cells.machine_cells.RegisterCells.{RegisterCells}
 use Rattle.operator_cells.specs.HeldCells.RegisterCells.{PointerView, Counts, AreInside}
-use Rattle.operator_cells.specs.HeldCells.Rows.{kind_at, number_at, cells_of_pointer, value_row, held_row, row_before, LeavesTo}
-use Rattle.operator_cells.proofs.HeldCells.RowLaws.{register_row, put_register, number_kept}
+use Rattle.operator_cells.specs.HeldCells.Rows.{located_row, kind_at, number_at, cells_of_pointer, value_row, held_row, row_before, LeavesTo}
+use Rattle.operator_cells.proofs.HeldCells.RowLaws.{register_row, past_held, put_register, number_kept}
 use Rattle.site_cells.proofs.Adding.{old_pointer}
 use Rattle.site_cells.proofs.Shedding.{IsBare, IsLess, Sheds, answer_kind, shed_kind, number_put}
 
@@ -26,18 +29,15 @@ trans_le p q = omega (arith, p, q)
 
 -- ---- before an instruction
 module _ (row : ℕ → ℕ) (ps : List PointerView) (h : RegisterCells) (k : Kinds) where
-  past_none : (place : ℕ) → 332 ≤ place → held_row row ps h k place ≡ 0
-  past_none place l = rw (le-ltb place 11 (omega (arith, l)), le-ltb place 75 (omega (arith, l)), le-ltb place 332 l) refl
-
-  before_held : (q : Option ℕ) (c place : ℕ) → place < 332 → row_before row ps h k q c place ≡ held_row row ps h k place
-  before_held q c place l = rw (lt-ltb place 332 l) refl
+  before_held : (q : Option ℕ) (c place : ℕ) → place < first_pending → row_before row ps h k q c place ≡ held_row row ps h k place
+  before_held q c place l = rw (lt-ltb place first_pending l) refl
 
   held_before : (q : Option ℕ) (c place : ℕ) → held_row row ps h k place ≤ row_before row ps h k q c place
-  held_before q c place = by (cases_lt place 332)
+  held_before q c place = by (cases_lt place first_pending)
     where
-      by : (place < 332) ⊎ (332 ≤ place) → held_row row ps h k place ≤ row_before row ps h k q c place
+      by : (place < first_pending) ⊎ (first_pending ≤ place) → held_row row ps h k place ≤ row_before row ps h k q c place
       by (inl l) = subst (λ (n : ℕ). held_row row ps h k place ≤ n) (sym (before_held q c place l)) (omega arith)
-      by (inr l) = subst (λ (n : ℕ). n ≤ row_before row ps h k q c place) (sym (past_none place l)) (omega arith)
+      by (inr l) = subst (λ (n : ℕ). n ≤ row_before row ps h k q c place) (sym (past_held row ps h k place l)) (omega arith)
 
   pub span_before : (q : Option ℕ) (c : ℕ) (s : Span) → span_row (held_row row ps h k) s ≤ span_row (row_before row ps h k q c) s
   span_before q c s = span_within (held_row row ps h k) s (span_row (row_before row ps h k q c) s) (λ place i. trans_le (held_before q c place) (span_above (row_before row ps h k q c) s place i))
@@ -47,10 +47,10 @@ module _ (row : ℕ → ℕ) (ps : List PointerView) (h : RegisterCells) (k : Ki
       subst (λ (n : ℕ). n ≤ span_row (row_before row ps h k q c) (one r)) (register_row row ps h k r (omega (arith, l)))
       (trans_le (held_before q c r) (span_above (row_before row ps h k q c) (one r) r (is_inside r (one r) (omega arith) (omega arith))))
 
-  same_pending : (q c : ℕ) → row_before row ps h k (Some q) c (332 + q) ≡ row c
-  same_pending q c = rw (le-ltb (332 + q) 332 (omega arith)) (by (332 + q == 332 + q) refl)
+  same_pending : (q c : ℕ) → row_before row ps h k (Some q) c (first_pending + q) ≡ row c
+  same_pending q c = rw (le-ltb (first_pending + q) first_pending (omega arith)) (by (first_pending + q == first_pending + q) refl)
     where
-      by : (b : Bool) → (332 + q == 332 + q) ≡ b → (if b then row c else 0) ≡ row c
+      by : (b : Bool) → (first_pending + q == first_pending + q) ≡ b → (if b then row c else 0) ≡ row c
       by true e = refl
       by false e = absurd (grind arith)
 
@@ -59,7 +59,7 @@ module _ (row : ℕ → ℕ) (ps : List PointerView) (h : RegisterCells) (k : Ki
       subst (λ (u : Option ℕ). row c ≤ span_row (row_before row ps h k u c) (pending_in x)) (sym e)
       (subst (λ (y : Option ℕ). row c ≤ span_row (row_before row ps h k (Some q) c) (pending_in y)) (sym f)
       (subst (λ (n : ℕ). n ≤ span_row (row_before row ps h k (Some q) c) (pending q)) (same_pending q c)
-      (span_above (row_before row ps h k (Some q) c) (pending q) (332 + q) (is_inside (332 + q) (pending q) (omega arith) (omega arith)))))
+      (span_above (row_before row ps h k (Some q) c) (pending q) (first_pending + q) (is_inside (first_pending + q) (pending q) (omega arith) (omega arith)))))
 
 -- ---- which places are written
 in_first : (place r : ℕ) → list_any (is_in place) (one r ∷ no_place ∷ []) ≡ true → place ≡ r
@@ -96,16 +96,14 @@ among_more decls n ps more row x c h = omega arith
 
 -- what is held stands in no later row among more
 pub rows_among : (decls : List MapDecl) (n : ℕ) (ps more : List PointerView) (h : RegisterCells) (k : Kinds) → AreInside decls n ps h k → (row : ℕ → ℕ) (place : ℕ) → held_row row (ps ++ more) h k place ≤ held_row row ps h k place
-rows_among decls n ps more h k inside row place = by (nat_lt place 11) refl (nat_lt place 75) refl
+rows_among decls n ps more h k inside row place = by (location_at place) (location_there place)
   where
-    rest : (b : Bool) (c : ℕ) → value_row row (ps ++ more) (if b then Num Unknown else Unset) c ≤ value_row row ps (if b then Num Unknown else Unset) c
-    rest true c = omega arith
-    rest false c = omega arith
-
-    by : (a : Bool) → nat_lt place 11 ≡ a → (b : Bool) → nat_lt place 75 ≡ b → held_row row (ps ++ more) h k place ≤ held_row row ps h k place
-    by true e b f = rw e (among_more decls n ps more row (register k place) _ (inside.registers place (omega (arith, ltb-true place 11 e))))
-    by false e true f = rw (e, f) (among_more decls n ps more row (get_or k.slots (place - 11) Unset) _ (inside.slots (place - 11) (omega (arith, ltb-false place 11 e, ltb-true place 75 f))))
-    by false e false f = rw (e, f) (rest (nat_lt place 332) (if nat_lt place 331 then slice_index h.window (place - 75) else h.target))
+    by : (l : Location) → IsLocation l → located_row row (ps ++ more) h k l ≤ located_row row ps h k l
+    by (location.Register r) there = among_more decls n ps more row (register k r) _ (inside.registers r (let small : r < 11 = there in omega (arith, small)))
+    by (location.StackSlot s) there = among_more decls n ps more row (get_or k.slots s Unset) _ (inside.slots s (let small : s < 64 = there in omega (arith, small)))
+    by (location.PacketByte i) there = omega arith
+    by location.Target there = omega arith
+    by (location.PendingWrites q) there = omega arith
 
 -- ---- one register gets a value, and others keep what they have, or have no data any more
 less_row : (row : ℕ → ℕ) (ps : List PointerView) (a b : Kind) (c : ℕ) → IsLess a b → value_row row ps b c ≤ value_row row ps a c

@@ -1,9 +1,11 @@
 -- In which rows stand the cells of lookups.
-use Rattle.std.proofs.Common.{◌≡◌, ◌∙◌, ℕ, ◌+◌, ◌<◌, ◌≤◌, ℤ, pos, if◌then◌else◌, Bool, true, false, Some, List, [], ◌∷◌, ◌++◌, length, slice_set, refl, sym, ap, subst, arith}
+use Rattle.std.proofs.Common.{◌≡◌, ◌∙◌, ℕ, ◌+◌, ◌<◌, ◌≤◌, pos, Bool, true, false, Some, List, [], ◌∷◌, ◌++◌, length, slice_set, refl, sym, ap, subst, arith, Option}
 use Rattle.std.specs.List.{list_any}
-use Rattle.std.specs.Ordering.{int_eq}
 use Rattle.cell_core.specs.bpf_isa.declared.operation.Op.TheVariants.{Call}
 use Rattle.cell_core.specs.bpf_isa.declared.instruction.Insn.{Insn}
+use Rattle.cell_core.specs.bpf_isa.declared.helper.Helper.{Helper}
+use Rattle.cell_core.specs.bpf_isa.declared.helper.Helper.TheVariants.{Lookup}
+use Rattle.cell_core.specs.bpf_isa.Helpers.{helper_of}
 use Rattle.cell_core.specs.xdp_maps.declared.decl.MapDecl.{MapDecl}
 use Rattle.kind_core.proofs.xdp_machine_laws.ChangeLaws.{some_inj}
 use Rattle.kind_core.specs.declared.kind.Kind.{Kind}
@@ -22,8 +24,9 @@ use Rattle.operator_cells.specs.Rising.{RiseAll}
 use Rattle.operator_cells.proofs.MakingLaws.{grown_with, reads_none}
 use Rattle.operator_cells.proofs.RisingLaws.{stand_none, stand_all, rises_then}
 use Rattle.operator_cells.specs.row_rules.declared.place_rows.span.Span.{Span}
-use Rattle.operator_cells.specs.row_rules.PlaceRows.Spans.{no_place, one, target, region, map_of, pending_of, key_in, span_row, spans_row}
-use Rattle.operator_cells.specs.row_rules.PlaceRows.Reading.{key_span, call_reads, result_as, result_row}
+use Rattle.operator_cells.specs.row_rules.PlaceRows.Spans.{no_place, one, region, map_of, pending_of, key_in, span_row, spans_row}
+use Rattle.operator_cells.specs.row_rules.PlaceRows.Calls.{key_span, call_reads, call_writes}
+use Rattle.operator_cells.specs.row_rules.PlaceRows.Reading.{result_as, result_row}
 use Rattle.operator_cells.specs.row_rules.PlaceRows.Writing.{writes_as, record_as, is_open_in, made_row}
 use Rattle.operator_cells.specs.declared.held_cells.machine_cells.RegisterCells.{RegisterCells}
 use Rattle.operator_cells.specs.HeldCells.RegisterCells.{PointerView, AreInside, pointer_at}
@@ -41,11 +44,11 @@ use Rattle.site_cells.proofs.Recording.{made_result, open_register, no_write}
 pub call_used : (k : Kinds) (i : Insn) (q : ℕ) → i.op ≡ Call → register k 1 ≡ MapRef q → map_used k i i.op ≡ Some q
 call_used k i q op one = ap (map_used k i) op ∙ ap map_of one
 
-pub call_writes : (k : Kinds) (i : Insn) (z : ℤ) → i.op ≡ Call → i.imm ≡ z → int_eq z (pos 23) ≡ false → writes_as k i i.op ≡ one 0 ∷ no_place ∷ []
-call_writes k i z op imm other = ap (writes_as k i) op ∙ ap (λ (y : ℤ). one 0 ∷ (if int_eq y (pos 23) then target else no_place) ∷ []) imm ∙ ap (λ t. one 0 ∷ (if t then target else no_place) ∷ []) other
+pub call_places : (k : Kinds) (i : Insn) (helper : Option Helper) → i.op ≡ Call → helper_of i.imm ≡ helper → call_writes helper ≡ no_place → writes_as k i i.op ≡ one 0 ∷ no_place ∷ []
+call_places k i helper op same none = ap (writes_as k i) op ∙ ap (λ (h : Option Helper). one 0 ∷ call_writes h ∷ []) same ∙ ap (λ (s : Span). one 0 ∷ s ∷ []) none
 
-pub call_result : (before : ℕ → ℕ) (decls : List MapDecl) (k after : Kinds) (i : Insn) (z : ℤ) → i.op ≡ Call → i.imm ≡ z → result_row before decls k after i ≡ spans_row before (call_reads decls k z) + 1
-call_result before decls k after i z op imm = ap (result_as before decls k after i) op ∙ ap (λ (y : ℤ). spans_row before (call_reads decls k y) + 1) imm
+pub call_result : (before : ℕ → ℕ) (decls : List MapDecl) (k after : Kinds) (i : Insn) (helper : Option Helper) → i.op ≡ Call → helper_of i.imm ≡ helper → result_row before decls k after i ≡ spans_row before (call_reads decls k helper) + 1
+call_result before decls k after i helper op same = ap (result_as before decls k after i) op ∙ ap (λ (h : Option Helper). spans_row before (call_reads decls k h) + 1) same
 
 -- the key that the code reads is that of the call
 pub key_is_span : (decls : List MapDecl) (k : Kinds) (base : Kind) (count map q : ℕ) → base ≡ register k 2 → count ≡ key_bytes decls map → map ≡ q → register k 1 ≡ MapRef q → region base (pos 0) count ≡ key_span decls k
@@ -54,18 +57,18 @@ key_is_span decls k base count map q base_is count_is map_is one =
     ∙ ap (region (register k 2) (pos 0)) (count_is ∙ ap (key_bytes decls) map_is ∙ sym (ap (λ (x : Kind). key_in decls (map_of x)) one))
 
 pub lookup_rows : (decls : List MapDecl) (i : Insn) (here : Here) (is_ref : Bool) (k : Kinds) (h : RegisterCells) (old mid new : List CellView) (ps qs : List PointerView) (sites sites2 : List SiteView) (base : Kind) (count map c : ℕ) (key words : List ℕ)
-    → i.op ≡ Call → i.imm ≡ pos 1 → verdict (effect_of decls k i) ≡ passed → length h.registers ≡ 11 → AreInside decls (length old) ps h k
+    → i.op ≡ Call → helper_of i.imm ≡ Some Lookup → verdict (effect_of decls k i) ≡ passed → length h.registers ≡ 11 → AreInside decls (length old) ps h k
     → base ≡ register k 2 → count ≡ key_bytes decls map → ((q : ℕ) → register k 1 ≡ MapRef q → map ≡ q) → key ≡ words
     → Grows old mid → RiseAll old mid words (λ row. span_row (held_row row ps h k) (region base (pos 0) count)) → LooksUp mid new ps qs sites sites2 here map key c
     → OperatesTo decls i here.pending k h (transferred decls k i here.node is_ref false) (record h { registers = slice_set h.registers 0 c }) old new ps qs sites sites2
-lookup_rows decls i here is_ref k h old mid new ps qs sites sites2 base count map c key words op imm allowed whole inside base_is count_is map_is key_is before rises looks =
-    let f = lookup_allowed decls k i op imm allowed in
+lookup_rows decls i here is_ref k h old mid new ps qs sites sites2 base count map c key words op helper allowed whole inside base_is count_is map_is key_is before rises looks =
+    let f = lookup_allowed decls k i op helper allowed in
     let used : map_used k i i.op ≡ Some f.0 = call_used k i f.0 op f.1 in
     let after : Kinds = transferred decls k i here.node is_ref false in
     let becomes : after ≡ answering (Maybe f.0 here.node) k = f.4 here.node is_ref false in
     let b : (ℕ → ℕ) → ℕ → ℕ = λ row. row_before row ps h k (map_used k i i.op) here.pending in
     let last : (ℕ → ℕ) → ℕ = λ row. result_row (b row) decls k after i in
-    let result : (row : ℕ → ℕ) → last row ≡ spans_row (b row) (call_reads decls k (pos 1)) + 1 = λ row. call_result (b row) decls k after i (pos 1) op imm in
+    let result : (row : ℕ → ℕ) → last row ≡ spans_row (b row) (call_reads decls k (Some Lookup)) + 1 = λ row. call_result (b row) decls k after i (Some Lookup) op helper in
     let span_is = key_is_span decls k base count map f.0 base_is count_is (map_is f.0 f.1) f.1 in
     let low : (row : ℕ → ℕ) → span_row (held_row row ps h k) (region base (pos 0) count) ≤ span_row (b row) (key_span decls k) = λ row.
     subst (λ (s : Span). span_row (held_row row ps h k) (region base (pos 0) count) ≤ span_row (b row) s) span_is (span_before row ps h k (map_used k i i.op) here.pending (region base (pos 0) count)) in
@@ -73,7 +76,7 @@ lookup_rows decls i here is_ref k h old mid new ps qs sites sites2 base count ma
     let s = stand_all {last = last} (stand_none {last = last}) rises (λ row p. omega (arith, result row, low row)) in
     let all = rises_then s looks.rises (λ row p. omega (arith, result row, low row, waits row, p.1, greatest_append row key (here.pending ∷ []), ap (greatest row) key_is)) in
     let known = λ (row : ℕ → ℕ) (rows : AreRows new row). s.known row (looks.rises.grows.rows row rows) in
-    let spans = call_writes k i (pos 1) op imm refl in
+    let spans = call_places k i (Some Lookup) op helper refl in
     let sheds : Sheds k after 0 (Maybe f.0 here.node) = subst (λ (x : Kinds). Sheds k x 0 (Maybe f.0 here.node)) (sym becomes) (answering_sheds k (Maybe f.0 here.node)) in
     let among = λ (row : ℕ → ℕ) (place : ℕ). subst (λ (xs : List PointerView). held_row row xs h k place ≤ held_row row ps h k place) (sym looks.pointers_are) (rows_among decls (length old) ps ((record { found = looks.found; key = key }) ∷ []) h k inside row place) in
     let at : pointer_at qs c ≡ record { found = looks.found; key = key } = ap (λ (xs : List PointerView). pointer_at xs c) looks.pointers_are

@@ -1,17 +1,18 @@
 -- Lookups.
-use Rattle.std.proofs.Common.{◌≡◌, ℕ, pos, if◌then◌else◌, Bool, true, false, Some, List, [], ◌∷◌, ◌++◌, ◌<◌, length, length-append, map as map_list, slice_set, refl, sym, ◌∙◌, ap, subst, arith}
+use Rattle.std.proofs.Common.{◌≡◌, ℕ, pos, if◌then◌else◌, Bool, true, false, Some, List, [], ◌∷◌, ◌++◌, ◌<◌, length, length-append, map as map_list, slice_set, refl, sym, ◌∙◌, ap, subst, arith, Option}
 use Rattle.std.specs.Prelude.{is_some}
-use Rattle.std.specs.Int.{w64, cast_unsigned}
 use Rattle.std.proofs.lemmas.List.Elements.{All-nil}
 use Rattle.kind_core.specs.Edges.{transferred}
 use Rattle.operator_cells.specs.HeldCells.RegisterCells.{AreHeld}
 use Rattle.cell_core.specs.bpf_isa.declared.operation.Op.TheVariants.{Call}
 use Rattle.cell_core.specs.bpf_isa.declared.instruction.Insn.{Insn}
+use Rattle.cell_core.specs.bpf_isa.declared.helper.Helper.{Helper}
+use Rattle.cell_core.specs.bpf_isa.declared.helper.Helper.TheVariants.{Lookup}
+use Rattle.cell_core.specs.bpf_isa.Helpers.{helper_of}
 use Rattle.cell_core.specs.xdp_maps.declared.decl.MapDecl.{MapDecl}
 use Rattle.cell_core.specs.xdp_maps.State.{MapState, decl_at, contents_at}
 use Rattle.cell_core.specs.xdp_maps.Calls.{lookup_of}
 use Rattle.cell_core.specs.xdp_maps.Operations as map
-use Rattle.cell_core.specs.xdp_machine.Values.{Value}
 use Rattle.cell_core.specs.xdp_machine.Values as is
 use Rattle.cell_core.specs.xdp_machine.State.{Machine, register}
 use Rattle.cell_core.specs.xdp_machine.Helpers as helpers
@@ -47,11 +48,11 @@ entry_is : (q : ℕ) (key : List ℕ) (t : Bool) (f : ℕ) (words : List ℕ) �
 entry_is q key t f words e w = rw (e, w) refl
 
 pub lookup_operates : (decls : List MapDecl) (i : Insn) (here : Here) (is_ref taken : Bool) (k : Kinds) (h : RegisterCells) (old mid new : List CellView) (ps qs : List PointerView) (sites sites2 : List SiteView) (q c : ℕ) (words : List ℕ)
-    → i.op ≡ Call → i.imm ≡ pos 1 → kinds.register k 1 ≡ MapRef q → ((node : ℕ) (is_ref taken : Bool) → transferred decls k i node is_ref taken ≡ kinds.answering (Maybe q node) k)
+    → i.op ≡ Call → helper_of i.imm ≡ Some Lookup → kinds.register k 1 ≡ MapRef q → ((node : ℕ) (is_ref taken : Bool) → transferred decls k i node is_ref taken ≡ kinds.answering (Maybe q node) k)
     → q < length decls → here.guard < length old → length h.registers ≡ 11 → AreInside decls (length old) ps h k
     → HoldsRegion decls ps here.node k h old mid (kinds.register k 2) (key_bytes decls q) words → LooksUp mid new ps qs sites sites2 here q words c
     → Operates decls i here.node here.guard is_ref taken k h (record h { registers = slice_set h.registers 0 c }) old new ps qs sites sites2
-lookup_operates decls i here is_ref taken k h old mid new ps qs sites sites2 q c words op imm one becomes there guard_there whole inside region looks =
+lookup_operates decls i here is_ref taken k h old mid new ps qs sites sites2 q c words op helper one becomes there guard_there whole inside region looks =
     let p : PointerView = record { found = looks.found; key = words } in
     let site : SiteView = lookup_site here q words in
     let adds = adds_site decls here old mid new sites sites2 site region.grows looks.grows looks.sites_are refl refl (fits_map decls site there region.enough tt tt)
@@ -72,7 +73,7 @@ lookup_operates decls i here is_ref taken k h old mid new ps qs sites sites2 q c
           (omega (arith, looks.number_is, ap length looks.pointers_are, length-append ps (p ∷ [])), subst (IsPointer decls (length new) q) (sym at) is_pointer));
       holds = λ packet maps v m n refs run read guard after_is known at_ref e.
           let d1 : register m.registers 1 ≡ is.Map q = subst (λ (x : Kind). Describes known.world m.maps x (register m.registers 1)) one (known.stands.described.registers 1) in
-          let l = lookup_is m n q d1 (helper_called refs m n i 1 op (ap (cast_unsigned w64) imm) e) in
+          let l = lookup_is m n q d1 (helper_called refs m n i (Some Lookup) op helper e) in
           let d : MapDecl = l.0 in
           let decl = decl_is m.maps.decls q d l.2.decl in
           let keys : key_bytes decls q ≡ d.key = ap (λ (ds : List MapDecl). key_bytes ds q) (sym known.decls_are) ∙ decl.1 in
@@ -92,20 +93,20 @@ lookup_operates decls i here is_ref taken k h old mid new ps qs sites sites2 q c
           let held = subst (λ (xs : List PointerView). AreHeld decls packet v xs h k m) (sym looks.pointers_are) (held_among decls packet (length old) v ps (p ∷ []) h k m inside known.held) in (
             rw (becomes here.node is_ref taken, l.3) (answered_held decls packet v qs h k m (Maybe q here.node) c (helpers.entry_or_null q l.1 (contents_at m.maps q)) whole held same),
             ap (after v maps) looks.sites_are ∙ after_one v maps sites site ∙ after_is ∙ sym (ap (λ (x : Machine). x.maps) l.3),
-            ap (machine.operation_as m i) op ∙ ap (λ z. machine.calls_on (cast_unsigned w64 z) m) imm ∙ keyed_operation m q d l.1 (λ x bytes. Some (map.Lookup bytes)) (map.Lookup l.1) l.2 refl ∙ ap (λ (o : map.Operation). Some (q, o)) (sym lookup),
+            ap (machine.operation_as m i) op ∙ ap (λ (h : Option Helper). helpers.calls_on h m) helper ∙ keyed_operation m q d l.1 (λ x bytes. Some (map.Lookup bytes)) (map.Lookup l.1) l.2 refl ∙ ap (λ (o : map.Operation). Some (q, o)) (sym lookup),
           );
     }
 
 pub lookup_made : (decls : List MapDecl) (i : Insn) (here : Here) (is_ref taken : Bool) (k : Kinds) (h : RegisterCells) (old mid new : List CellView) (ps qs : List PointerView) (sites sites2 : List SiteView) (base : Kind) (count map c : ℕ) (key words : List ℕ)
-    → i.op ≡ Call → i.imm ≡ pos 1 → verdict (effect_of decls k i) ≡ passed → here.guard < length old → length h.registers ≡ 11 → AreInside decls (length old) ps h k
+    → i.op ≡ Call → helper_of i.imm ≡ Some Lookup → verdict (effect_of decls k i) ≡ passed → here.guard < length old → length h.registers ≡ 11 → AreInside decls (length old) ps h k
     → base ≡ kinds.register k 2 → count ≡ key_bytes decls map → ((q : ℕ) → kinds.register k 1 ≡ MapRef q → map ≡ q) → key ≡ words
     → (calls.region k count base ≡ passed → HoldsRegion decls ps here.node k h old mid base count words) → LooksUp mid new ps qs sites sites2 here map key c
     → Operates decls i here.node here.guard is_ref taken k h (record h { registers = slice_set h.registers 0 c }) old new ps qs sites sites2
-lookup_made decls i here is_ref taken k h old mid new ps qs sites sites2 base count map c key words op imm allowed guard_there whole inside base_is count_is map_is key_is region looks =
-    let f = lookup_allowed decls k i op imm allowed in
+lookup_made decls i here is_ref taken k h old mid new ps qs sites sites2 base count map c key words op helper allowed guard_there whole inside base_is count_is map_is key_is region looks =
+    let f = lookup_allowed decls k i op helper allowed in
     let q : map ≡ f.0 = map_is f.0 f.1 in
     let n : count ≡ key_bytes decls f.0 = count_is ∙ ap (key_bytes decls) q in
     let there = region (ap (calls.region k count) base_is ∙ ap (λ (j : ℕ). calls.region k j (kinds.register k 2)) n ∙ f.3) in
-    lookup_operates decls i here is_ref taken k h old mid new ps qs sites sites2 f.0 c words op imm f.1 f.4 f.2 guard_there whole inside
+    lookup_operates decls i here is_ref taken k h old mid new ps qs sites sites2 f.0 c words op helper f.1 f.4 f.2 guard_there whole inside
     (subst (λ (j : ℕ). HoldsRegion decls ps here.node k h old mid (kinds.register k 2) j words) n (subst (λ (x : Kind). HoldsRegion decls ps here.node k h old mid x count words) base_is there))
     (subst (λ (j : ℕ). LooksUp mid new ps qs sites sites2 here j words c) q (subst (λ (ws : List ℕ). LooksUp mid new ps qs sites sites2 here map ws c) key_is looks))

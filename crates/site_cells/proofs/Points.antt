@@ -1,6 +1,6 @@
 -- Which pointers are held after an operation on a map.
-use Rattle.std.proofs.Common.{◌≡◌, ◌≢◌, ◌∙◌, ℕ, ◌-◌, ◌<◌, ◌≤◌, ◌⊎◌, inl, inr, ◌==◌, nat_lt, if◌then◌else◌, Bool, true, false, Some, None, List, [], ◌∷◌, ◌++◌, length, take, drop, slice_index, refl, sym, ap, subst, arith}
-use Rattle.std.proofs.lemmas.Bool.{cases_lt, cases_eq, eqb-false, lt-ltb}
+use Rattle.std.proofs.Common.{◌≡◌, ◌≢◌, ◌∙◌, ℕ, ◌-◌, ◌<◌, ◌≤◌, ◌⊎◌, inl, inr, ◌==◌, if◌then◌else◌, Bool, true, false, Some, None, List, [], ◌∷◌, ◌++◌, length, take, drop, slice_index, refl, sym, ap, subst, arith}
+use Rattle.std.proofs.lemmas.Bool.{cases_lt, cases_eq, eqb-false}
 use Rattle.cell_core.specs.bpf_isa.declared.operation.Op.{Op}
 use Rattle.cell_core.specs.bpf_isa.declared.operation.Op.TheVariants.{Call}
 use Rattle.cell_core.specs.bpf_isa.declared.instruction.Insn.{Insn}
@@ -22,11 +22,15 @@ use Rattle.cell_core.specs.Sites.{SiteView}
 use Rattle.operator_cells.specs.Making.{Grows}
 use Rattle.operator_cells.specs.declared.held_cells.machine_cells.RegisterCells.{RegisterCells}
 use Rattle.operator_cells.specs.HeldCells.RegisterCells.{PointerView, pointer_at}
-use Rattle.operator_cells.specs.HeldCells.Rows.{kind_at, number_at, map_used}
-use Rattle.operator_cells.specs.HeldCells.Pointing.{Pointing, pointing_as, HoldsPointer, KeepPointers, changes_keys, IsThrough, ChangePoints, AccessPoints, PointsAs, OperationPoints}
+use Rattle.operator_cells.specs.HeldCells.Rows.{kind_at, number_at, map_used, kind_by}
+use Rattle.operator_cells.specs.HeldCells.Pointing.{Pointing, pointing_as, HoldsPointer, KeepPointers, changes_keys, IsThrough, ChangePoints, AccessPoints, PointsAs, OperationPoints, pointing_by}
 use Rattle.operator_cells.specs.HeldCells.Reading.{OperationReads}
 use Rattle.operator_cells.proofs.HeldCells.RowLaws.{put_register, number_kept}
 use Rattle.operator_cells.specs.row_rules.PlaceRows.Spans.{map_of}
+use Rattle.operator_cells.specs.row_rules.declared.place_rows.location.Location.{Location}
+use Rattle.operator_cells.specs.row_rules.declared.place_rows.location.Location.TheVariants as location
+use Rattle.operator_cells.specs.row_rules.PlaceRows.Locations.{location_at}
+use Rattle.operator_cells.proofs.row_rules_laws.PlaceRows.LocationLaws.{at_number}
 use Rattle.site_cells.specs.declared.here.Here.{Here}
 use Rattle.site_cells.specs.Siting.{LooksUp, Changes, lookup_site, access_site, change_site}
 use Rattle.site_cells.proofs.SiteReads.{change_reads, lookup_reads}
@@ -95,13 +99,16 @@ access_points decls i here k after h next old new ps sites sites2 q o r a p oper
     kept = kept;
     through = record {
       pointer = slice_index h.registers r;
-      holds = (r, rw (lt-ltb r 11 (omega (arith, small)), base) refl);
+      holds = (r, ap (pointing_by k h) (at_number (location.Register r) low) ∙ ap (λ (x : Kind). pointing_as x (slice_index h.registers r)) base);
       key = ap (λ (x : PointerView). x.key) p_is;
       through = subst (λ (c : ℕ). IsThrough a (operands ++ p.found ∷ []) c) (ap (λ (x : PointerView). x.found) p_is) through;
     };
   });
 }
   where
+    low : r < 11
+    low = omega (arith, small)
+
     by : (b : Act) → IsThrough b (operands ++ p.found ∷ []) p.found → AccessPoints k h after next ps ps (access_site here q a p operands) → PointsAs b decls k h after next old new ps ps (length sites) (access_site here q a p operands)
     by (act.Load at size) t points = points
     by (act.Store at size) t points = points
@@ -110,16 +117,14 @@ access_points decls i here k after h next old new ps sites sites2 q o r a p oper
 
 -- ---- changes
 stale_kind : (q : ℕ) (k : Kinds) (place : ℕ) → kind_at (stale_all q k) place ≡ stale q (kind_at k place)
-stale_kind q k place = by (nat_lt place 11) refl (nat_lt place 75) refl
+stale_kind q k place = by (location_at place)
   where
-    rest : (b : Bool) → (if b then Num Unknown else Unset) ≡ stale q (if b then Num Unknown else Unset)
-    rest true = refl
-    rest false = refl
-
-    by : (a : Bool) → nat_lt place 11 ≡ a → (b : Bool) → nat_lt place 75 ≡ b → kind_at (stale_all q k) place ≡ stale q (kind_at k place)
-    by true e b f = rw e (stale_at q k.registers place)
-    by false e true f = rw (e, f) (stale_at q k.slots (place - 11))
-    by false e false f = rw (e, f) (rest (nat_lt place 332))
+    by : (l : Location) → kind_by (stale_all q k) l ≡ stale q (kind_by k l)
+    by (location.Register r) = stale_at q k.registers r
+    by (location.StackSlot s) = stale_at q k.slots s
+    by (location.PacketByte i) = refl
+    by location.Target = refl
+    by (location.PendingWrites p) = refl
 
 other_map : (q : ℕ) (a : Kind) (c : ℕ) (y : Pointing) → pointing_as (stale q a) c ≡ Some y → y.map ≢ q
 other_map q (Maybe p n) c y = by (p == q) refl

@@ -1,5 +1,5 @@
 -- What is made, taken and answered by an operation on a map, by the rows of data places.
-use Rattle.std.proofs.Common.{◌≡◌, ◌∙◌, ℕ, ◌+◌, ◌<◌, ◌≤◌, ◌||◌, if◌then◌else◌, Bool, true, false, Option, Some, max, List, [], ◌∷◌, ◌++◌, length, length-append, refl, sym, ap, subst, arith}
+use Rattle.std.proofs.Common.{◌≡◌, ◌∙◌, ℕ, ◌+◌, ◌<◌, ◌≤◌, ◌||◌, if◌then◌else◌, Bool, true, false, Option, Some, max, List, [], ◌∷◌, ◌++◌, length, length-append, sym, ap, subst, arith}
 use Rattle.std.specs.List.{list_any}
 use Rattle.std.proofs.Math.Seq.{get_or-append_seam}
 use Rattle.std.proofs.lemmas.Bool.{lt-ltb}
@@ -13,9 +13,11 @@ use Rattle.cell_core.specs.Sites.{SiteView, site_at, no_site, records}
 use Rattle.cell_core.specs.Rows.{greatest}
 use Rattle.operator_cells.specs.row_rules.declared.place_rows.recording.Record.{Record}
 use Rattle.operator_cells.specs.row_rules.PlaceRows.Spans.{no_place, one}
-use Rattle.operator_cells.specs.row_rules.PlaceRows.Origins.{is_open, has_data}
+use Rattle.operator_cells.specs.row_rules.PlaceRows.Origins.{is_open, has_data, data_by}
 use Rattle.operator_cells.specs.row_rules.PlaceRows.Reading.{result_row}
 use Rattle.operator_cells.specs.row_rules.PlaceRows.Writing.{writes_as, record_as, is_open_in, taken_row, made_row}
+use Rattle.operator_cells.specs.row_rules.declared.place_rows.location.Location.TheVariants as location
+use Rattle.operator_cells.proofs.row_rules_laws.PlaceRows.LocationLaws.{at_number}
 use Rattle.operator_cells.proofs.row_rules_laws.PlaceRows.SpanLaws.{one_number}
 use Rattle.operator_cells.specs.HeldCells.Rows.{is_some_place, written_row, IsRecord, WriteWithin}
 
@@ -40,7 +42,7 @@ open_register after x r small e opens =
     ∙ ap (λ (t : Bool). (t || false) || list_any (is_open_in after) (no_place ∷ [])) (has r small ∙ ap is_open e ∙ opens)
   where
     has : (s : ℕ) → s ≤ 10 → has_data after s ≡ is_open (register after s)
-    has s l = rw (lt-ltb s 11 (omega (arith, l))) refl
+    has s l = let low : s < 11 = omega (arith, l) in ap (data_by after) (at_number (location.Register s) low)
 
 pub some_place : (r : ℕ) → is_some_place (one r ∷ no_place ∷ []) ≡ true
 some_place r = lt-ltb r (r + 1) (omega arith)

@@ -1,6 +1,5 @@
 -- What an operation on a map leaves of kinds: one register gets a value, and other registers and slots keep what they have, or have no data any more.
-use Rattle.std.proofs.Common.{◌≡◌, ◌≢◌, ℕ, zero, suc, ◌+◌, ◌-◌, ◌<◌, ◌≤◌, ◌⊎◌, inl, inr, ◌==◌, nat_lt, if◌then◌else◌, Bool, true, false, List, length, get_or, refl, sym, ◌∙◌, ap, subst, arith}
-use Rattle.std.proofs.lemmas.Bool.{ltb-true, ltb-false, lt-ltb}
+use Rattle.std.proofs.Common.{◌≡◌, ◌≢◌, ℕ, zero, suc, ◌+◌, ◌-◌, ◌<◌, ◌≤◌, ◌⊎◌, inl, inr, ◌==◌, if◌then◌else◌, Bool, true, false, List, length, get_or, refl, sym, ◌∙◌, ap, subst, arith}
 use Rattle.std.proofs.lemmas.List.{get_or-drop, get_or-set_same, get_or-set_other}
 use Rattle.cell_core.specs.xdp_maps.declared.decl.MapDecl.{MapDecl}
 use Rattle.kind_core.specs.declared.number.Number.TheVariants.{Unknown}
@@ -11,9 +10,13 @@ use Rattle.kind_core.specs.Kinds.{register, with_register, answering, is_hash}
 use Rattle.kind_core.specs.Calls as calls
 use Rattle.kind_core.specs.Edges.{changed}
 use Rattle.operator_cells.specs.declared.held_cells.machine_cells.RegisterCells.{RegisterCells}
-use Rattle.operator_cells.specs.HeldCells.Rows.{kind_at, number_at}
+use Rattle.operator_cells.specs.HeldCells.Rows.{kind_at, number_at, kind_by, number_by}
 use Rattle.operator_cells.proofs.HeldCells.RowLaws.{put_register}
 use Rattle.site_cells.proofs.Stale.{stale, stale_all, stale_at, becomes}
+use Rattle.operator_cells.specs.row_rules.declared.place_rows.location.Location.{Location}
+use Rattle.operator_cells.specs.row_rules.declared.place_rows.location.Location.TheVariants as location
+use Rattle.operator_cells.specs.row_rules.PlaceRows.Locations.{location_at, IsLocation}
+use Rattle.operator_cells.proofs.row_rules_laws.PlaceRows.LocationLaws.{at_number, numbered_as, location_there}
 
 -- a kind that is the same, or has no data
 abbrev pub IsBare : Kind → Type 0
@@ -37,18 +40,20 @@ pub record Sheds (k after : Kinds) (r : ℕ) (x : Kind) : Type 0 where
 -- ---- by data places
 module _ (k after : Kinds) (r : ℕ) (x : Kind) (sheds : Sheds k after r x) where
   pub answer_kind : r ≤ 10 → kind_at after r ≡ x
-  answer_kind l = rw (lt-ltb r 11 (omega (arith, l))) sheds.answer
+  answer_kind l = let low : r < 11 = omega (arith, l) in ap (kind_by after) (at_number (location.Register r) low) ∙ sheds.answer
 
   pub shed_kind : (place : ℕ) → place ≢ r → IsLess (kind_at k place) (kind_at after place)
-  shed_kind place other = by (nat_lt place 11) refl (nat_lt place 75) refl
+  shed_kind place other = by (location_at place) refl (location_there place)
     where
-      by : (a : Bool) → nat_lt place 11 ≡ a → (b : Bool) → nat_lt place 75 ≡ b → IsLess (kind_at k place) (kind_at after place)
-      by true e b f = rw e (sheds.registers place (ltb-true place 11 e) other)
-      by false e true f = rw (e, f) (sheds.slots (place - 11) (omega (arith, ltb-false place 11 e, ltb-true place 75 f)))
-      by false e false f = rw (e, f) (inl refl)
+      by : (l : Location) → location_at place ≡ l → IsLocation l → IsLess (kind_by k l) (kind_by after l)
+      by (location.Register s) e there = sheds.registers s there (λ same. other (numbered_as place (location.Register s) e ∙ same))
+      by (location.StackSlot s) e there = sheds.slots s there
+      by (location.PacketByte i) e there = inl refl
+      by location.Target e there = inl refl
+      by (location.PendingWrites q) e there = inl refl
 
 pub number_put : (h : RegisterCells) (r c : ℕ) → r ≤ 10 → length h.registers ≡ 11 → number_at (put_register h r c) r ≡ c
-number_put h r c l whole = rw (lt-ltb r 11 (omega (arith, l))) (get_or-set_same h.registers r c 0 (omega (arith, l, whole)))
+number_put h r c l whole = let low : r < 11 = omega (arith, l) in ap (number_by (put_register h r c)) (at_number (location.Register r) low) ∙ get_or-set_same h.registers r c 0 (omega (arith, l, whole))
 
 -- ---- a register alone
 pub written_sheds : (k : Kinds) (r : ℕ) (x : Kind) → r ≤ 10 → length k.registers ≡ 11 → Sheds k (with_register k r x) r x

@@ -12,6 +12,7 @@ use Rattle.operator_cells.specs.Rising.{RiseAll}
 use Rattle.operator_cells.proofs.RisingLaws.{greatest_part, stand_none, stand_all}
 use Rattle.operator_cells.specs.row_rules.PlaceRows.Spans.{slots_of, bytes_of, span_row}
 use Rattle.operator_cells.specs.row_rules.PlaceRows.Spans as places
+use Rattle.operator_cells.specs.row_rules.PlaceRows.Locations.{first_slot, first_byte}
 use Rattle.operator_cells.proofs.row_rules_laws.PlaceRows.SpanLaws.{is_inside, span_above}
 use Rattle.operator_cells.specs.declared.held_cells.machine_cells.RegisterCells.{RegisterCells}
 use Rattle.operator_cells.specs.HeldCells.RegisterCells.{PointerView}
@@ -39,7 +40,7 @@ pub slot_within : (row : ℕ → ℕ) (ps : List PointerView) (h : RegisterCells
 slot_within row ps h k at count i within l =
     let s : ℕ = (at + i) / 8 in
     subst (λ (n : ℕ). n ≤ span_row (held_row row ps h k) (slots_of at count)) (slot_row row ps h k s (omega (arith, within, l)))
-    (span_above (held_row row ps h k) (slots_of at count) (11 + s) (is_inside (11 + s) (slots_of at count) (omega (arith, l)) (omega (arith, l))))
+    (span_above (held_row row ps h k) (slots_of at count) (first_slot + s) (is_inside (first_slot + s) (slots_of at count) (omega (arith, l)) (omega (arith, l))))
 
 -- ---- bytes of the packet
 pub window_within : (row : ℕ → ℕ) (ps : List PointerView) (h : RegisterCells) (k : Kinds) (at count : ℕ) → length h.window ≡ 256 → at + count ≤ 256
@@ -52,7 +53,7 @@ window_within row ps h k at count whole within =
     let below : i < count = omega (arith, l, part_long h.window at (at + count) (omega (arith, within, whole))) in
     subst (λ (c : ℕ). row c ≤ span_row (held_row row ps h k) span) (sym (part_at h.window at count i below))
     (subst (λ (n : ℕ). n ≤ span_row (held_row row ps h k) span) (byte_row row ps h k (at + i) (omega (arith, within, below)))
-    (span_above (held_row row ps h k) span (75 + (at + i)) (is_inside (75 + (at + i)) span (omega (arith, first)) (omega (arith, first, below))))))
+    (span_above (held_row row ps h k) span (first_byte + (at + i)) (is_inside (first_byte + (at + i)) span (omega (arith, first)) (omega (arith, first, below))))))
 
 -- cells for some bytes, and then those that are made of them
 pub rise_through : {a b d : List CellView} {bs ws : List ℕ} {f : (ℕ → ℕ) → ℕ} → RiseAll a b bs f → RiseAll b d ws (λ row. greatest row bs) → RiseAll a d ws f

@@ -1,6 +1,7 @@
 //! Updates and deletes.
 
-ghost use Rattle.std.specs.Prelude.{◌≡◌, ◌<◌, ◌≤◌, ◌++◌, [], ◌∷◌, ℕ, Bool, pos, List, length, All, IfOk, OnOk, false};
+ghost use Rattle.std.specs.Prelude.{◌≡◌, ◌<◌, ◌≤◌, ◌++◌, [], ◌∷◌, ℕ, Bool, List, length, All, IfOk, OnOk, false};
+ghost use Rattle.cell_core.specs.bpf_isa.Helpers.{helper_of};
 ghost use Rattle.kind_core.specs.Tests.{passed};
 ghost use Rattle.kind_core.specs.Kinds as kind;
 ghost use Rattle.kind_core.specs.Effects.{effect_of, verdict};
@@ -21,7 +22,7 @@ use crate::sizes::are_whole;
 use crate::words::region_words;
 use cell_core::cell::{Cell, Cells};
 use cell_core::site::{Act, Site};
-use cell_core::xdp_state::bpf_isa::{Insn, Op};
+use cell_core::xdp_state::bpf_isa::{Helper, Insn, Op};
 use cell_core::xdp_state::xdp_maps::decl::MapDecl;
 use kind_core::Kinds;
 use operator_cells::cells::{answer, found};
@@ -72,7 +73,7 @@ pub fn operate_delete(
     here: Here,
 ) -> Result<(), AllocError>
     requires op { insn.now.op ≡ Op.Call }
-    requires helper { insn.now.imm ≡ pos 3 }
+    requires helper { helper_of insn.now.imm ≡ Some Helper.Delete }
     requires keys { (q : ℕ) → kind.key_bytes decls.now q ≤ 64 }
     requires pending { here.pending < length (seen cells.old.items) }
     requires guard { here.guard < length (seen cells.old.items) }
@@ -115,7 +116,7 @@ pub fn operate_update(
     here: Here,
 ) -> Result<(), AllocError>
     requires op { insn.now.op ≡ Op.Call }
-    requires helper { insn.now.imm ≡ pos 2 }
+    requires helper { helper_of insn.now.imm ≡ Some Helper.Update }
     requires keys { (q : ℕ) → kind.key_bytes decls.now q ≤ 64 }
     requires values { (q : ℕ) → kind.value_bytes decls.now q ≤ 64 }
     requires pending { here.pending < length (seen cells.old.items) }

@@ -1,6 +1,7 @@
 //! Lookups.
 
-ghost use Rattle.std.specs.Prelude.{◌≡◌, ◌<◌, ◌≤◌, ◌++◌, [], ◌∷◌, ℕ, Bool, pos, List, length, All, IfOk, OnOk, false};
+ghost use Rattle.std.specs.Prelude.{◌≡◌, ◌<◌, ◌≤◌, ◌++◌, [], ◌∷◌, ℕ, Bool, List, length, All, IfOk, OnOk, false};
+ghost use Rattle.cell_core.specs.bpf_isa.Helpers.{helper_of};
 ghost use Rattle.cell_core.specs.xdp_maps.declared.decl.MapDecl.{MapDecl};
 ghost use Rattle.kind_core.specs.Tests.{passed};
 ghost use Rattle.kind_core.specs.Kinds as kind;
@@ -20,7 +21,7 @@ use crate::sizes::are_whole;
 use crate::words::region_words;
 use cell_core::cell::{Cell, Cells};
 use cell_core::site::{Act, Site};
-use cell_core::xdp_state::bpf_isa::{Insn, Op};
+use cell_core::xdp_state::bpf_isa::{Helper, Insn, Op};
 use cell_core::xdp_state::xdp_maps::decl::MapDecl;
 use kind_core::{Kind, Kinds};
 use operator_cells::cells::found;
@@ -90,7 +91,7 @@ pub fn operate_lookup(
     here: Here,
 ) -> Result<(), AllocError>
     requires op { insn.now.op ≡ Op.Call }
-    requires helper { insn.now.imm ≡ pos 1 }
+    requires helper { helper_of insn.now.imm ≡ Some Helper.Lookup }
     requires keys { (q : ℕ) → kind.key_bytes decls.now q ≤ 64 }
     requires pending { here.pending < length (seen cells.old.items) }
     requires guard { here.guard < length (seen cells.old.items) }

@@ -11,6 +11,9 @@ use Rattle.bpf_isa.specs.declared.operation.Op.TheVariants.{Alu, Neg, End, Swap,
 use Rattle.bpf_isa.specs.declared.operation.Width.TheVariants.{Bits32, Bits64}
 use Rattle.bpf_isa.specs.declared.operation.Size.{Size}
 use Rattle.bpf_isa.specs.declared.instruction.Insn.{Insn}
+use Rattle.bpf_isa.specs.declared.helper.Helper.{Helper}
+use Rattle.bpf_isa.specs.declared.helper.Helper.TheVariants.{Lookup, Update, Delete, Time, Redirect}
+use Rattle.bpf_isa.specs.Helpers.{helper_of}
 use Rattle.bpf_isa.specs.Spelling.{units_of}
 use Rattle.bpf_isa.specs.Text.{insn_at}
 use Rattle.xdp_maps.specs.declared.change.Change.{Change}
@@ -24,7 +27,7 @@ use Rattle.xdp_machine.specs.Values.{Value, Unset, Number, Packet, Stack, Entry,
 use Rattle.xdp_machine.specs.State.{Code, Machine, register, put, with_registers, begins}
 use Rattle.xdp_machine.specs.Memory.{bytes_in, inside, aligned, in_stack, to_slot, to_frame, to_stack, to_entry, number_stored, stored}
 use Rattle.xdp_machine.specs.Atomics.{fetches, change_of, taking, changed_entry, changed_at, atomic}
-use Rattle.xdp_machine.specs.Helpers.{region, answering, entry_or_null, lookup, update, delete, redirected, redirect, packet_time, called}
+use Rattle.xdp_machine.specs.Helpers.{region, answering, entry_or_null, lookup, update, delete, redirected, redirect, called}
 use Rattle.xdp_machine.specs.Step.{Goes, NoCase, goes_to, goes_on, jumps, exits, assigned, renumbered, alu, effect, outcome, outcome_at}
 use Rattle.xdp_machine.specs.MachineLaws.{map_under, map_named_as, ChangesOnly, StepsChangeOnly}
 
@@ -277,13 +280,13 @@ pub chosen : {P : Type 0} (b : Bool) (x y : Option Machine) (new : Machine) → 
 chosen true x y new e f g = f e
 chosen false x y new e f g = g e
 
-called-changes : (id : ℕ) (m new : Machine) → length m.registers ≡ 11 → called id m ≡ Some new → ChangesOnly (map_in (register m.registers 1)) m new
-called-changes id m new len e =
-    chosen (id == 1) (lookup m) _ new e (lookup-changes m new len) (λ h.
-    chosen (id == 2) (update m) _ new h (update-changes m new len) (λ k.
-    chosen (id == 3) (delete m) _ new k (delete-changes m new len) (λ l.
-    chosen (id == 5) (packet_time m) _ new l (answering-changes _ m m new (Number m.time) len refl (same _ m)) (λ n.
-    chosen (id == 23) (redirect m) None new n (redirect-changes _ m new len) (λ o. absurd (cc))))))
+called-changes : (h : Option Helper) (m new : Machine) → length m.registers ≡ 11 → called h m ≡ Some new → ChangesOnly (map_in (register m.registers 1)) m new
+called-changes (Some Lookup) m new len e = lookup-changes m new len e
+called-changes (Some Update) m new len e = update-changes m new len e
+called-changes (Some Delete) m new len e = delete-changes m new len e
+called-changes (Some Time) m new len e = answering-changes _ m m new (Number m.time) len refl (same _ m) e
+called-changes (Some Redirect) m new len e = redirect-changes _ m new len e
+called-changes None m new len e = absurd (cc)
 
 -- what an instruction that does not jump changes
 effect-changes : (refs : List ℕ) (m : Machine) (i : Insn) (op : Op) (new : Machine) → length m.registers ≡ 11 → effect refs m i op ≡ Some new → ChangesOnly (map_named_as m i op) m new
@@ -293,7 +296,7 @@ effect-changes refs m i (LoadSigned size) new len e = with_registers-changes _ m
 effect-changes refs m i (StoreImm size) new len e = stored-changes m _ _ size _ new e
 effect-changes refs m i (Store size) new len e = stored-changes m _ _ size _ new e
 effect-changes refs m i (Atomic size) new len e = atomic-changes m i size new e
-effect-changes refs m i Call new len e = chosen (i.src == 0) (called (cast_unsigned w64 i.imm) m) None new e (called-changes (cast_unsigned w64 i.imm) m new len) (λ n. absurd (cc))
+effect-changes refs m i Call new len e = chosen (i.src == 0) (called (helper_of i.imm) m) None new e (called-changes (helper_of i.imm) m new len) (λ n. absurd (cc))
 effect-changes refs m i (Abs size) new len e = absurd (cc)
 effect-changes refs m i (Ind size) new len e = absurd (cc)
 effect-changes refs m i op new len e = with_registers-changes _ m new _ (λ r h. alu-keeps m.registers i op r h) e

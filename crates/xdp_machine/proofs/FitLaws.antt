@@ -1,6 +1,6 @@
 -- The operation of a step fits the map that it is done on.
 use Rattle.std.proofs.Common.{◌≡◌, ℕ, ◌+◌, ◌<◌, ◌≤◌, ℤ, ◌+ℤ◌, Bool, true, false, List, length, Some, None, refl, sym, ◌∙◌, ap, subst, arith}
-use Rattle.std.specs.Prelude.{Option, if◌then◌else◌, slice_get, ◌==◌}
+use Rattle.std.specs.Prelude.{Option, slice_get}
 use Rattle.std.proofs.lemmas.Option.{get_or_from_slice_get, slice_get_within}
 use Rattle.std.specs.Int.{w64, cast_unsigned}
 use Rattle.byteorder.specs.Endian.{little_bytes}
@@ -9,6 +9,9 @@ use Rattle.bpf_isa.specs.declared.operation.Op.TheVariants.{Call, Load, LoadSign
 use Rattle.bpf_isa.specs.declared.operation.Size.{Size}
 use Rattle.bpf_isa.specs.declared.operation.Size.TheVariants.{B, H, W, Dw}
 use Rattle.bpf_isa.specs.declared.instruction.Insn.{Insn}
+use Rattle.bpf_isa.specs.declared.helper.Helper.{Helper}
+use Rattle.bpf_isa.specs.declared.helper.Helper.TheVariants.{Lookup, Update, Delete, Time, Redirect}
+use Rattle.bpf_isa.specs.Helpers.{helper_of}
 use Rattle.bpf_isa.specs.Text.{insn_at}
 use Rattle.xdp_maps.specs.declared.change.Change.{Change}
 use Rattle.xdp_maps.specs.declared.decl.MapDecl.{MapDecl}
@@ -22,8 +25,8 @@ use Rattle.xdp_machine.specs.Values.{Value, Number, Entry, number_in, map_in, �
 use Rattle.xdp_machine.specs.State.{Code, Machine, register}
 use Rattle.xdp_machine.specs.Memory.{bytes_in, aligned}
 use Rattle.xdp_machine.specs.Atomics.{wide_of, kind_of, comparand, change_of}
-use Rattle.xdp_machine.specs.Helpers.{region}
-use Rattle.xdp_machine.specs.Touched.{accesses, stores, answers_old, atomics, under_key, updates, operation_as, operation_at}
+use Rattle.xdp_machine.specs.Helpers.{region, under_key, updates, calls_on}
+use Rattle.xdp_machine.specs.Touched.{accesses, stores, answers_old, atomics, operation_as, operation_at}
 use Rattle.xdp_machine.specs.Ranges.{InRange, IsInRange}
 use Rattle.xdp_machine.proofs.ChangeLaws.{some_inj, bind_inv}
 use Rattle.xdp_machine.proofs.PartLaws.{register_in_range, aligned-within, IsBytes-region}
@@ -98,12 +101,13 @@ updates_fit m range d key op bytes e =
     bind_inv (number_in (register m.registers 4)) _ op h (λ flags _ k.
     subst (Fits d) (some_inj (map.Update key value flags) op k) (bytes, IsBytes-region m.stack m.frame d.value (register m.registers 3) value range.frame at)))
 
-calls_fit : (m : Machine) (one two three : Bool) → IsInRange m
-    → FitsIn m.maps (if one then under_key m (λ d key. Some (map.Lookup key)) else if two then under_key m (updates m) else if three then under_key m (λ d key. Some (map.Delete key)) else None)
-calls_fit m true two three range = under_key_fits m (λ d key. Some (map.Lookup key)) range (λ d key op bytes e. subst (Fits d) (some_inj (map.Lookup key) op e) (bytes, tt))
-calls_fit m false true three range = under_key_fits m (updates m) range (updates_fit m range)
-calls_fit m false false true range = under_key_fits m (λ d key. Some (map.Delete key)) range (λ d key op bytes e. subst (Fits d) (some_inj (map.Delete key) op e) (bytes, tt))
-calls_fit m false false false range = tt
+calls_fit : (m : Machine) (h : Option Helper) → IsInRange m → FitsIn m.maps (calls_on h m)
+calls_fit m (Some Lookup) range = under_key_fits m (λ d key. Some (map.Lookup key)) range (λ d key op bytes e. subst (Fits d) (some_inj (map.Lookup key) op e) (bytes, tt))
+calls_fit m (Some Update) range = under_key_fits m (updates m) range (updates_fit m range)
+calls_fit m (Some Delete) range = under_key_fits m (λ d key. Some (map.Delete key)) range (λ d key op bytes e. subst (Fits d) (some_inj (map.Delete key) op e) (bytes, tt))
+calls_fit m (Some Time) range = tt
+calls_fit m (Some Redirect) range = tt
+calls_fit m None range = tt
 
 operation_fits : (m : Machine) (i : Insn) (op : Op) → IsInRange m → FitsIn m.maps (operation_as m i op)
 operation_fits m i (Load size) range =
@@ -115,8 +119,7 @@ operation_fits m i (StoreImm size) range =
 operation_fits m i (Store size) range =
     stores_fit m (register m.registers i.dst) i.offset size (register m.registers i.src) (register_in_range m.maps.decls m.registers i.dst range.registers)
 operation_fits m i (Atomic size) range = atomics_fit m i size range
-operation_fits m i Call range =
-    calls_fit m (cast_unsigned w64 i.imm == 1) (cast_unsigned w64 i.imm == 2) (cast_unsigned w64 i.imm == 3) range
+operation_fits m i Call range = calls_fit m (helper_of i.imm) range
 operation_fits m i op range = tt
 
 pub fits_at : (code : Code) (m : Machine) → IsInRange m → FitsIn m.maps (operation_at code m)

@@ -24,6 +24,9 @@ use Rattle.bpf_isa.specs.declared.operation.AluCode.TheVariants.{Add, Sub, Mov}
 use Rattle.bpf_isa.specs.declared.operation.Size.{Size}
 use Rattle.bpf_isa.specs.declared.operation.Size.TheVariants.{W, Dw}
 use Rattle.bpf_isa.specs.declared.instruction.Insn.{Insn}
+use Rattle.bpf_isa.specs.declared.helper.Helper.{Helper}
+use Rattle.bpf_isa.specs.declared.helper.Helper.TheVariants.{Lookup, Update, Delete, Time, Redirect}
+use Rattle.bpf_isa.specs.Helpers.{helper_of}
 use Rattle.bpf_isa.specs.Rules.{Allows, rules_of}
 use Rattle.bpf_isa.specs.Spelling.{IsInsn, FitsOp, units_of}
 use Rattle.bpf_isa.specs.Text.{insn_at}
@@ -44,7 +47,7 @@ use Rattle.xdp_machine.specs.Arithmetic.{low}
 use Rattle.xdp_machine.specs.Pointers.{at_offset, moved, sum, difference, copied, computed, combined}
 use Rattle.xdp_machine.specs.Memory.{bytes_in, inside, aligned, in_stack, from_slot, from_entry, loaded, from_context, loaded_plain, loaded_signed, to_frame, underlying, to_slot, to_stack, to_entry, stored}
 use Rattle.xdp_machine.specs.Atomics.{fetches, change_of, taking, changed_entry, changed_at}
-use Rattle.xdp_machine.specs.Helpers.{region, answering, entry_or_null, lookup, update, delete, redirected, redirect, packet_time, called}
+use Rattle.xdp_machine.specs.Helpers.{region, answering, entry_or_null, lookup, update, delete, redirected, redirect, called}
 use Rattle.xdp_machine.specs.Step.{Goes, NoCase, goes_to, goes_on, jumps, operand, assigned, renumbered, constant, alu, effect, outcome, outcome_at, Outcome, Ends, exits, step}
 use Rattle.xdp_machine.specs.Runs.{Progress, Ended, Leaves, leaves, run, then_on}
 use Rattle.xdp_machine.specs.Touched.{after, operation_at}
@@ -373,13 +376,13 @@ redirect_own m new range e =
     bind_inv (number_in (register m.registers 1)) _ new e (λ ifindex _ h.
     bind_inv (number_in (register m.registers 2)) _ new h (λ flags _ k. redirected_own m new ifindex flags range k))
 
-called_own : (id : ℕ) (m new : Machine) → IsInRange m → called id m ≡ Some new → Own m new
-called_own id m new range e =
-    chosen (id == 1) (lookup m) _ new e (lookup_own m new range) (λ h.
-    chosen (id == 2) (update m) _ new h (update_own m new range) (λ k.
-    chosen (id == 3) (delete m) _ new k (delete_own m new range) (λ l.
-    chosen (id == 5) (packet_time m) _ new l (answering_own m m new (Number m.time) (own m range) range.time) (λ n.
-    chosen (id == 23) (redirect m) None new n (redirect_own m new range) (λ o. absurd (cc))))))
+called_own : (h : Option Helper) (m new : Machine) → IsInRange m → called h m ≡ Some new → Own m new
+called_own (Some Lookup) m new range e = lookup_own m new range e
+called_own (Some Update) m new range e = update_own m new range e
+called_own (Some Delete) m new range e = delete_own m new range e
+called_own (Some Time) m new range e = answering_own m m new (Number m.time) (own m range) range.time e
+called_own (Some Redirect) m new range e = redirect_own m new range e
+called_own None m new range e = absurd (cc)
 
 -- ---- steps
 
@@ -397,7 +400,7 @@ effect_own refs m i (Store size) new range legal e =
 effect_own refs m i (Atomic size) new range legal e =
     bind_inv (change_of m.registers i size) _ new e (λ x _ h. changed_at_own m i size (register m.registers i.dst) i.offset x new range h)
 effect_own refs m i Call new range legal e =
-    chosen (i.src == 0) (called (cast_unsigned w64 i.imm) m) None new e (called_own (cast_unsigned w64 i.imm) m new range) (λ n. absurd (cc))
+    chosen (i.src == 0) (called (helper_of i.imm) m) None new e (called_own (helper_of i.imm) m new range) (λ n. absurd (cc))
 effect_own refs m i (Abs size) new range legal e = absurd (cc)
 effect_own refs m i (Ind size) new range legal e = absurd (cc)
 effect_own refs m i op new range legal e = registers_own m m new _ (own m range) (λ r h. alu_in_range m.maps.decls m.registers i op r range.registers legal h) e

@@ -12,6 +12,9 @@ use Rattle.bpf_isa.specs.declared.operation.Width.TheVariants.{Bits32, Bits64}
 use Rattle.bpf_isa.specs.declared.operation.Size.{Size}
 use Rattle.bpf_isa.specs.declared.operation.Size.TheVariants.{W}
 use Rattle.bpf_isa.specs.declared.instruction.Insn.{Insn}
+use Rattle.bpf_isa.specs.declared.helper.Helper.{Helper}
+use Rattle.bpf_isa.specs.declared.helper.Helper.TheVariants.{Lookup, Update, Delete, Time, Redirect}
+use Rattle.bpf_isa.specs.Helpers.{helper_of}
 use Rattle.bpf_isa.specs.Spelling.{units_of}
 use Rattle.bpf_isa.specs.Text.{insn_at}
 use Rattle.xdp_maps.specs.declared.change.Change.{Change}
@@ -29,9 +32,9 @@ use Rattle.xdp_machine.specs.State.{Code, Machine, register, put, with_registers
 use Rattle.xdp_machine.specs.Memory.{bytes_in, aligned, number_at, loaded, from_entry, from_context, loaded_plain, loaded_signed, to_frame, to_stack, to_entry, number_stored, stored}
 use Rattle.xdp_machine.specs.Arithmetic.{extended}
 use Rattle.xdp_machine.specs.Atomics.{fetches, change_of, taking, changed_entry, changed_at, atomic}
-use Rattle.xdp_machine.specs.Helpers.{region, answering, lookup, update, delete, redirected, redirect, packet_time, called}
+use Rattle.xdp_machine.specs.Helpers.{region, answering, lookup, update, delete, redirected, redirect, packet_time, called, under_key, updates, calls_on}
 use Rattle.xdp_machine.specs.Step.{Goes, NoCase, goes_to, goes_on, jumps, exits, assigned, constant, alu, effect, outcome, outcome_at, step}
-use Rattle.xdp_machine.specs.Touched.{accesses, stores, answers_old, atomics, under_key, updates, calls_on, operation_as, operation_at, after}
+use Rattle.xdp_machine.specs.Touched.{accesses, stores, answers_old, atomics, operation_as, operation_at, after}
 use Rattle.xdp_machine.specs.MachineLaws.{with_maps, StepsOperate}
 use Rattle.xdp_machine.proofs.ChangeLaws.{some_inj, bind_inv}
 
@@ -350,22 +353,19 @@ time_same : (m : Machine) (cs : List Contents) (new other : Machine) → packet_
 time_same m cs new other e e' _ =
     sym (some_inj _ other e') ∙ ap (λ (x : Machine). record x { maps = holding m.maps cs }) (some_inj (answering (Number m.time) m) new e)
 
--- by the tests of the helper's number
-called_by : (m : Machine) (cs : List Contents) (one two three times redirects : Bool) (new other : Machine)
-    → (if one then lookup m else if two then update m else if three then delete m else if times then packet_time m else if redirects then redirect m else None) ≡ Some new
-    → (if one then lookup (over m cs) else if two then update (over m cs) else if three then delete (over m cs) else if times then packet_time (over m cs) else if redirects then redirect (over m cs) else None) ≡ Some other
-    → Same m cs (if one then under_key m (λ d key. Some (map.Lookup key)) else if two then under_key m (updates m) else if three then under_key m (λ d key. Some (map.Delete key)) else None) new other
-called_by m cs true two three times redirects new other e e' = lookup_same m cs new other e e'
-called_by m cs false true three times redirects new other e e' = update_same m cs new other e e'
-called_by m cs false false true times redirects new other e e' = delete_same m cs new other e e'
-called_by m cs false false false true redirects new other e e' = time_same m cs new other e e'
-called_by m cs false false false false true new other e e' = redirect_same m cs new other e e'
-called_by m cs false false false false false new other e e' = absurd (cc)
+-- by the helper
+called_same : (m : Machine) (cs : List Contents) (h : Option Helper) (new other : Machine) → called h m ≡ Some new → called h (over m cs) ≡ Some other → Same m cs (calls_on h m) new other
+called_same m cs (Some Lookup) new other e e' = lookup_same m cs new other e e'
+called_same m cs (Some Update) new other e e' = update_same m cs new other e e'
+called_same m cs (Some Delete) new other e e' = delete_same m cs new other e e'
+called_same m cs (Some Time) new other e e' = time_same m cs new other e e'
+called_same m cs (Some Redirect) new other e e' = redirect_same m cs new other e e'
+called_same m cs None new other e e' = absurd (cc)
 
-calls_same : (m : Machine) (cs : List Contents) (helper : Bool) (id : ℕ) (new other : Machine) → (if helper then called id m else None) ≡ Some new
-    → (if helper then called id (over m cs) else None) ≡ Some other → Same m cs (calls_on id m) new other
-calls_same m cs true id new other e e' = called_by m cs (id == 1) (id == 2) (id == 3) (id == 5) (id == 23) new other e e'
-calls_same m cs false id new other e e' = absurd (cc)
+calls_same : (m : Machine) (cs : List Contents) (plain : Bool) (h : Option Helper) (new other : Machine) → (if plain then called h m else None) ≡ Some new
+    → (if plain then called h (over m cs) else None) ≡ Some other → Same m cs (calls_on h m) new other
+calls_same m cs true h new other e e' = called_same m cs h new other e e'
+calls_same m cs false h new other e e' = absurd (cc)
 
 -- ---- what an instruction makes of both machines
 
@@ -379,7 +379,7 @@ effect_same refs m cs i (LoadSigned size) new other e e' =
 effect_same refs m cs i (StoreImm size) new other e e' = stored_same m cs (register m.registers i.dst) i.offset size (Number (cast_unsigned w64 i.imm)) new other e e'
 effect_same refs m cs i (Store size) new other e e' = stored_same m cs (register m.registers i.dst) i.offset size (register m.registers i.src) new other e e'
 effect_same refs m cs i (Atomic size) new other e e' = atomic_same m cs i size new other e e'
-effect_same refs m cs i Call new other e e' = calls_same m cs (i.src == 0) (cast_unsigned w64 i.imm) new other e e'
+effect_same refs m cs i Call new other e e' = calls_same m cs (i.src == 0) (helper_of i.imm) new other e e'
 effect_same refs m cs i (Abs size) new other e e' = absurd (cc)
 effect_same refs m cs i (Ind size) new other e e' = absurd (cc)
 effect_same refs m cs i op new other e e' = alone_same m cs (alu m.registers i op) new other e e'

@@ -1,11 +1,15 @@
--- Calls of helpers (bpf-helpers(7)), by their numbers: bpf_map_lookup_elem 1, bpf_map_update_elem 2, bpf_map_delete_elem 3,
--- bpf_ktime_get_ns 5, bpf_redirect 23.
-use Rattle.std.specs.Prelude.{ℕ, zero, suc, pos, ◌+◌, ◌/◌, ◌%◌, ◌^◌, ◌+ℤ◌, ◌==◌, if◌then◌else◌, is_some, Option, Some, None, List, [], ◌∷◌, length, drop, get_or, slice_get, slice_index, slice_range}
+-- Calls of helpers (bpf-helpers(7)): what each does to the machine, and its operation on a map.
+use Rattle.std.specs.Prelude.{ℕ, zero, suc, pos, ◌+◌, ◌/◌, ◌%◌, ◌^◌, ◌+ℤ◌, if◌then◌else◌, is_some, Option, Some, None, List, [], ◌∷◌, length, drop, get_or, slice_get, slice_index, slice_range}
 use Rattle.std.specs.Int.{w64, cast_unsigned}
 use Rattle.byteorder.specs.Endian.{little_bytes}
+use Rattle.bpf_isa.specs.declared.helper.Helper.{Helper}
+use Rattle.bpf_isa.specs.declared.helper.Helper.TheVariants.{Lookup, Update, Delete, Time, Redirect}
+use Rattle.xdp_maps.specs.declared.decl.MapDecl.{MapDecl}
 use Rattle.xdp_maps.specs.Contents.{Contents}
 use Rattle.xdp_maps.specs.State.{contents_at, with_contents}
 use Rattle.xdp_maps.specs.Calls.{lookup_of, update_number, updated, delete_number, deleted}
+use Rattle.xdp_maps.specs.Operations as map
+use Rattle.xdp_maps.specs.Operations.{Operation}
 use Rattle.xdp_machine.specs.Values.{Value, Unset, Number, Packet, Stack, Entry, number_in, map_in, ◌>>=◌}
 use Rattle.xdp_machine.specs.State.{Machine, register}
 use Rattle.xdp_machine.specs.Memory.{inside}
@@ -73,11 +77,35 @@ redirect m = number_in (register m.registers 1) >>= λ ifindex. number_in (regis
 abbrev pub packet_time : Machine → Option Machine
 packet_time m = Some (answering (Number m.time) m)
 
-abbrev pub called : ℕ → Machine → Option Machine
-called id m =
-    if id == 1 then lookup m else
-    if id == 2 then update m else
-    if id == 3 then delete m else
-    if id == 5 then packet_time m else
-    if id == 23 then redirect m else
-    None
+-- a call of a helper, if it is one that the machine has
+abbrev pub called : Option Helper → Machine → Option Machine
+called (Some Lookup) m = lookup m
+called (Some Update) m = update m
+called (Some Delete) m = delete m
+called (Some Time) m = packet_time m
+called (Some Redirect) m = redirect m
+called None m = None
+
+-- ---- the operation of a call on the map in R1, under the key that R2 leads to
+
+abbrev pub under_key : Machine → (MapDecl → List ℕ → Option Operation) → Option (ℕ × Operation)
+under_key m f =
+    map_in (register m.registers 1) >>= λ q.
+    slice_get m.maps.decls q >>= λ d.
+    region m.stack m.frame d.key (register m.registers 2) >>= λ key.
+    f d key >>= λ op.
+    Some (q, op)
+
+abbrev pub updates : Machine → MapDecl → List ℕ → Option Operation
+updates m d key =
+    region m.stack m.frame d.value (register m.registers 3) >>= λ value.
+    number_in (register m.registers 4) >>= λ flags.
+    Some (map.Update key value flags)
+
+abbrev pub calls_on : Option Helper → Machine → Option (ℕ × Operation)
+calls_on (Some Lookup) m = under_key m (λ d key. Some (map.Lookup key))
+calls_on (Some Update) m = under_key m (updates m)
+calls_on (Some Delete) m = under_key m (λ d key. Some (map.Delete key))
+calls_on (Some Time) m = None
+calls_on (Some Redirect) m = None
+calls_on None m = None

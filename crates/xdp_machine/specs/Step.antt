@@ -8,6 +8,7 @@ use Rattle.bpf_isa.specs.declared.operation.Width.TheVariants.{Bits32, Bits64}
 use Rattle.bpf_isa.specs.declared.operation.Op.{Op}
 use Rattle.bpf_isa.specs.declared.operation.Op.TheVariants.{Alu, Neg, End, Swap, Ja, Jump, Call, Exit, LoadImm, Load, LoadSigned, Abs, Ind, StoreImm, Store, Atomic}
 use Rattle.bpf_isa.specs.declared.instruction.Insn.{Insn}
+use Rattle.bpf_isa.specs.Helpers.{helper_of}
 use Rattle.bpf_isa.specs.Spelling.{units_of}
 use Rattle.bpf_isa.specs.Text.{insn_at}
 use Rattle.xdp_machine.specs.Values.{Value, Number, Map, number_in, ◌>>=◌}
@@ -64,9 +65,9 @@ constant refs place i =
     then Some (if list_any (λ r. r == place) refs then Map (low 32 (cast_unsigned w64 i.imm)) else Number (cast_unsigned w64 i.imm))
     else None
 
--- the functions of source 0 are the helpers
+-- the functions of source 0 are the helpers, by the immediate number
 abbrev pub calls : Machine → Insn → Option Machine
-calls m i = if i.src == 0 then called (cast_unsigned w64 i.imm) m else None
+calls m i = if i.src == 0 then called (helper_of i.imm) m else None
 
 -- the registers after arithmetic
 abbrev pub alu : List Value → Insn → Op → Option (List Value)

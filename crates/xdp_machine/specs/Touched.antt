@@ -1,24 +1,24 @@
 -- The operations on maps that a run does, and the resources that it reads and writes.
-use Rattle.std.specs.Prelude.{ℕ, zero, suc, ℤ, ◌≡◌, ◌+◌, ◌+ℤ◌, ◌==◌, Bool, true, if◌then◌else◌, Option, Some, None, List, [], ◌∷◌, ◌++◌, slice_get}
+use Rattle.std.specs.Prelude.{ℕ, zero, suc, ℤ, ◌≡◌, ◌+◌, ◌+ℤ◌, Bool, true, Option, Some, None, List, [], ◌∷◌, ◌++◌, slice_get}
 use Rattle.std.specs.Int.{w64, cast_unsigned}
 use Rattle.byteorder.specs.Endian.{little_bytes}
 use Rattle.bpf_isa.specs.declared.operation.Op.{Op}
 use Rattle.bpf_isa.specs.declared.operation.Op.TheVariants.{Call, Load, LoadSigned, StoreImm, Store, Atomic}
 use Rattle.bpf_isa.specs.declared.operation.Size.{Size}
 use Rattle.bpf_isa.specs.declared.instruction.Insn.{Insn}
+use Rattle.bpf_isa.specs.Helpers.{helper_of}
 use Rattle.bpf_isa.specs.Text.{insn_at}
 use Rattle.xdp_maps.specs.declared.change.ChangeKind.{ChangeKind}
 use Rattle.xdp_maps.specs.declared.change.ChangeKind.TheVariants.{Cmpxchg}
-use Rattle.xdp_maps.specs.declared.decl.MapDecl.{MapDecl}
 use Rattle.xdp_maps.specs.State.{MapState}
 use Rattle.xdp_maps.specs.Operations as map
 use Rattle.xdp_maps.specs.Operations.{Operation, operated}
 use Rattle.xdp_maps.specs.Touched.{Resource, reads, writes}
-use Rattle.xdp_machine.specs.Values.{Value, Number, Entry, number_in, map_in, ◌>>=◌}
+use Rattle.xdp_machine.specs.Values.{Value, Number, Entry, number_in, ◌>>=◌}
 use Rattle.xdp_machine.specs.State.{Code, Machine, PacketIn, register, start}
 use Rattle.xdp_machine.specs.Memory.{bytes_in, aligned}
 use Rattle.xdp_machine.specs.Atomics.{fetches, change_of}
-use Rattle.xdp_machine.specs.Helpers.{region}
+use Rattle.xdp_machine.specs.Helpers.{calls_on}
 use Rattle.xdp_machine.specs.Step.{Outcome, Goes, Ends, NoCase, step}
 use Rattle.xdp_machine.specs.Runs.{Leaves, Ended, run}
 
@@ -47,28 +47,6 @@ atomics m i size =
     change_of m.registers i size >>= λ x.
     accesses m.maps (register m.registers i.dst) i.offset size (λ key a. map.Atomic key a x (answers_old x.kind (cast_unsigned w64 i.imm)))
 
--- of a call on the map in R1, under the key that R2 leads to
-abbrev pub under_key : Machine → (MapDecl → List ℕ → Option Operation) → Option (ℕ × Operation)
-under_key m f =
-    map_in (register m.registers 1) >>= λ q.
-    slice_get m.maps.decls q >>= λ d.
-    region m.stack m.frame d.key (register m.registers 2) >>= λ key.
-    f d key >>= λ op.
-    Some (q, op)
-
-abbrev pub updates : Machine → MapDecl → List ℕ → Option Operation
-updates m d key =
-    region m.stack m.frame d.value (register m.registers 3) >>= λ value.
-    number_in (register m.registers 4) >>= λ flags.
-    Some (map.Update key value flags)
-
-abbrev pub calls_on : ℕ → Machine → Option (ℕ × Operation)
-calls_on id m =
-    if id == 1 then under_key m (λ d key. Some (map.Lookup key)) else
-    if id == 2 then under_key m (updates m) else
-    if id == 3 then under_key m (λ d key. Some (map.Delete key)) else
-    None
-
 -- the operation of an instruction whose step has a case, if it is one on a map
 abbrev pub operation_as : Machine → Insn → Op → Option (ℕ × Operation)
 operation_as m i (Load size) = accesses m.maps (register m.registers i.src) i.offset size (λ key a. map.Load key)
@@ -76,7 +54,7 @@ operation_as m i (LoadSigned size) = accesses m.maps (register m.registers i.src
 operation_as m i (StoreImm size) = stores m (register m.registers i.dst) i.offset size (Number (cast_unsigned w64 i.imm))
 operation_as m i (Store size) = stores m (register m.registers i.dst) i.offset size (register m.registers i.src)
 operation_as m i (Atomic size) = atomics m i size
-operation_as m i Call = calls_on (cast_unsigned w64 i.imm) m
+operation_as m i Call = calls_on (helper_of i.imm) m
 operation_as m i op = None
 
 abbrev pub operation_at : Code → Machine → Option (ℕ × Operation)

@@ -1,6 +1,7 @@
 // Calls of helpers.
 
 ghost use Rattle.std.specs.Prelude.{◌≡◌, ℕ, List};
+ghost use Rattle.xdp_state.specs.bpf_isa.Helpers.{helper_of};
 ghost use Rattle.xdp_state.specs.xdp_maps.State.{MapState};
 ghost use Rattle.xdp_state.specs.xdp_machine.Values as seen;
 ghost use Rattle.xdp_state.specs.xdp_machine.Helpers.{lookup, update, delete, packet_time, redirect, called};
@@ -9,6 +10,7 @@ ghost use Rattle.xdp_state.specs.Cases.{Makes};
 ghost use Rattle.xdp_state.specs.Machines.{machine_of};
 
 use xdp_state::beat_core::Frame;
+use xdp_state::bpf_isa::Helper;
 use xdp_state::xdp_maps::state::Maps;
 use xdp_state::{Key, State, Value, declared, fill, number_in};
 
@@ -130,16 +132,25 @@ fn redirect(state: &mut State) -> bool
     true
 }
 
-/// A call of the helper of this number.
-pub(crate) fn call(state: &mut State, frame: &Frame, maps: &mut Maps, id: u64) -> bool
-    ensures { Makes result (called id (machine_of state.old frame.now maps.old)) (machine_of state.old frame.now maps.old) (machine_of state.new frame.now maps.new) }
+// A call of a helper.
+fn help(state: &mut State, frame: &Frame, maps: &mut Maps, helper: Helper) -> bool
+    ensures { Makes result (called (Some helper) (machine_of state.old frame.now maps.old)) (machine_of state.old frame.now maps.old) (machine_of state.new frame.now maps.new) }
 {
-    match id {
-        1 => lookup(state, frame, maps),
-        2 => update(state, frame, maps),
-        3 => delete(state, frame, maps),
-        5 => packet_time(state),
-        23 => redirect(state),
-        _ => false,
+    match helper {
+        Helper::Lookup => lookup(state, frame, maps),
+        Helper::Update => update(state, frame, maps),
+        Helper::Delete => delete(state, frame, maps),
+        Helper::Time => packet_time(state),
+        Helper::Redirect => redirect(state),
+    }
+}
+
+/// A call of the helper of this number, if there is one.
+pub(crate) fn call(state: &mut State, frame: &Frame, maps: &mut Maps, id: i64) -> bool
+    ensures { Makes result (called (helper_of id) (machine_of state.old frame.now maps.old)) (machine_of state.old frame.now maps.old) (machine_of state.new frame.now maps.new) }
+{
+    match Helper::of(id) {
+        Some(helper) => help(state, frame, maps, helper),
+        None => false,
     }
 }

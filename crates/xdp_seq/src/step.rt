@@ -150,7 +150,7 @@ fn effect(refs: &[u32], state: &mut State, frame: &mut Frame, maps: &mut Maps, i
             store(state, frame, maps, insn, size, &value)
         }
         Op::Atomic(size) => atomic(state, maps, insn, size),
-        Op::Call => insn.src == 0 && call(state, frame, maps, insn.imm.cast_unsigned()),
+        Op::Call => insn.src == 0 && call(state, frame, maps, insn.imm),
         Op::Abs(_) | Op::Ind(_) => false,
         _ => alu(&mut state.registers, insn),
     }

@@ -1,12 +1,12 @@
 //! The rules of each item of a design.
 
-ghost use Rattle.std.specs.Prelude.{◌≡◌, ◌+◌, ◌==◌, ◌<◌, ◌≤◌, IsTrue, length, map, take};
+ghost use Rattle.std.specs.Prelude.{◌≡◌, ◌+◌, ◌==◌, ◌<◌, ◌≤◌, IsTrue, IfSome, length, map, take};
 ghost use Rattle.std.specs.List.{list_any};
 ghost use Rattle.net_core.specs.View.{netlist_of, tree_of, wire_of, assign_of, statement_of};
 ghost use Rattle.net_core.specs.Width as width;
 ghost use Rattle.net_core.specs.Width.{full_scope};
 ghost use Rattle.design_rules.specs.Formed as formed;
-ghost use Rattle.design_rules.specs.Formed.{first_broken, declared_rules, wire_rules, assign_rules, always_rules};
+ghost use Rattle.design_rules.specs.Formed.{TellNew, first_broken, declared_rules, wire_rules, assign_rules, always_rules};
 
 use crate::formed::Why;
 use crate::formed::names::{is_name, is_new};
@@ -46,8 +46,14 @@ fn declared_fits(item: &Declared) -> bool
 }
 
 /// The first rule that the declaration of a number breaks.
-pub fn broken_by_declared(design: &Design, k: usize, item: &Declared) -> Option<Why>
-    requires { k < length design.now.declared.items }
+pub fn broken_by_declared(
+    design: &Design,
+    flags: Option<&[bool]>,
+    k: usize,
+    item: &Declared,
+) -> Option<Why>
+    requires number { k < length design.now.declared.items }
+    requires told { IfSome flags (λ all. TellNew (netlist_of design.now).names all.now) }
     ensures { result ≡ first_broken (declared_rules (netlist_of design.now) k item.now) }
 {
     let place = design.ports.len() + k;
@@ -57,7 +63,7 @@ pub fn broken_by_declared(design: &Design, k: usize, item: &Declared) -> Option<
     if !integer_known(&design.declared[..k], item) {
         return Some(Why::Unknown);
     }
-    if !is_new(&design.names, place) {
+    if !is_new(&design.names, flags, place) {
         return Some(Why::Twice);
     }
     if !declared_fits(item) {
@@ -84,8 +90,9 @@ fn wire_fits(design: &Design, k: usize, wire: &Wire) -> bool
 }
 
 /// The first rule that the wire of a number breaks.
-pub fn broken_by_wire(design: &Design, k: usize, wire: &Wire) -> Option<Why>
-    requires { k < length design.now.wires.items }
+pub fn broken_by_wire(design: &Design, flags: Option<&[bool]>, k: usize, wire: &Wire) -> Option<Why>
+    requires number { k < length design.now.wires.items }
+    requires told { IfSome flags (λ all. TellNew (netlist_of design.now).names all.now) }
     ensures { result ≡ first_broken (wire_rules (netlist_of design.now) k (wire_of wire.now)) }
 {
     let place = wire_place(&design.ports, &design.declared, &design.wires, k);
@@ -95,7 +102,7 @@ pub fn broken_by_wire(design: &Design, k: usize, wire: &Wire) -> Option<Why>
     if !right_known(design, k, &wire.right) {
         return Some(Why::Unknown);
     }
-    if !is_new(&design.names, place) {
+    if !is_new(&design.names, flags, place) {
         return Some(Why::Twice);
     }
     if !wire_fits(design, k, wire) {

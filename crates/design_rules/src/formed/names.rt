@@ -1,10 +1,13 @@
 //! Names of the subset.
 
-ghost use Rattle.std.specs.Prelude.{◌≡◌, ◌<◌, [], length, map, take, string_bytes};
-ghost use Rattle.std.proofs.Common.{get_or, not};
+ghost use Rattle.std.specs.Prelude.{◌≡◌, ◌<◌, length, map, string_bytes, IfOk, IfSome};
 ghost use Rattle.std.specs.List.{list_any, list_all};
 ghost use Rattle.std.specs.Str.{bytes_eq};
+ghost use Rattle.design_rules.specs.Formed.{is_new_in, TellNew};
 ghost use Rattle.design_rules.specs.FormedSyntax as syntax;
+
+use std::alloc::{AllocError, Global};
+use std::collections::HashSet;
 
 /// A letter or `_`.
 fn begins_name(c: u8) -> bool
@@ -61,10 +64,45 @@ fn is_among(name: &[u8], names: &[String]) -> bool
     names.iter().any(|other| name == other.as_bytes())
 }
 
-/// Whether the name at a place is the name of no place before it.
-pub fn is_new(names: &[String], place: usize) -> bool
+/// Flags that tell of each name whether it stands at no place before. Names are found by their hashes.
+pub fn new_names(alloc: Global, names: &[String]) -> Result<Vec<bool>, AllocError>
+    ensures { IfOk result (λ flags. TellNew (map string_bytes names.now) flags.items) }
+{
+    let mut seen = HashSet::new(alloc);
+    let mut flags = Vec::new(alloc);
+    for name in names {
+        let added = seen.insert(name.as_bytes())?;
+        flags.push(added)?;
+    }
+    Ok(flags)
+}
+
+// Whether a name stands at no place before, as flags tell.
+fn told_new(names: &[String], flags: &[bool], place: usize) -> bool
+    requires place { place < length names.now }
+    requires told { TellNew (map string_bytes names.now) flags.now }
+    ensures { result ≡ is_new_in (map string_bytes names.now) place }
+{
+    flags[place]
+}
+
+// The same, found among the names before.
+fn found_new(names: &[String], place: usize) -> bool
     requires { place < length names.now }
-    ensures { result ≡ not (list_any (bytes_eq (get_or (map string_bytes names.now) place [])) (take place (map string_bytes names.now))) }
+    ensures { result ≡ is_new_in (map string_bytes names.now) place }
 {
     !is_among(names[place].as_bytes(), &names[..place])
+}
+
+/// Whether the name at a place is the name of no place before it: by the flags that tell it, where there are such, or else by the
+/// names themselves.
+pub fn is_new(names: &[String], flags: Option<&[bool]>, place: usize) -> bool
+    requires place { place < length names.now }
+    requires told { IfSome flags (λ all. TellNew (map string_bytes names.now) all.now) }
+    ensures { result ≡ is_new_in (map string_bytes names.now) place }
+{
+    match flags {
+        Some(all) => told_new(names, all, place),
+        None => found_new(names, place),
+    }
 }

@@ -1,7 +1,6 @@
 -- No slot that an instruction leaves is unset.
 use Rattle.std.proofs.Common.{◌≡◌, ◌≢◌, ℕ, ℤ, pos, zero, suc, ◌+◌, ◌+ℤ◌, ◌<◌, ◌≤◌, ◌/◌, ◌%◌, ◌==◌, ◌⊎◌, inl, inr, Bool, true, false, if◌then◌else◌, Option, Some, None, Result, Ok, Err, List, [], ◌∷◌, length, get_or, map as map_list, set as set_list, refl, sym, subst, arith}
-use Rattle.std.specs.Prelude.{nat_le, is_some}
-use Rattle.std.specs.Ordering.{int_eq}
+use Rattle.std.specs.Prelude.{nat_le}
 use Rattle.std.proofs.lemmas.Bool.{cases_lt}
 use Rattle.std.proofs.lemmas.List.{get_or-set_same, get_or-set_other, set_past}
 use Rattle.xdp_machine.specs.bpf_isa.declared.operation.Op.{Op}
@@ -9,6 +8,9 @@ use Rattle.xdp_machine.specs.bpf_isa.declared.operation.Op.TheVariants.{Ja, Jump
 use Rattle.xdp_machine.specs.bpf_isa.declared.operation.Size.{Size}
 use Rattle.xdp_machine.specs.bpf_isa.declared.operation.Size.TheVariants.{Dw}
 use Rattle.xdp_machine.specs.bpf_isa.declared.instruction.Insn.{Insn}
+use Rattle.xdp_machine.specs.bpf_isa.declared.helper.Helper.{Helper}
+use Rattle.xdp_machine.specs.bpf_isa.declared.helper.Helper.TheVariants.{Lookup, Update, Delete, Time, Redirect}
+use Rattle.xdp_machine.specs.bpf_isa.Helpers.{helper_of}
 use Rattle.xdp_machine.specs.xdp_maps.declared.decl.MapDecl.{MapDecl}
 use Rattle.kind_core.specs.declared.number.Number.{Number}
 use Rattle.kind_core.specs.declared.kind.Kind.{Kind}
@@ -16,7 +18,7 @@ use Rattle.kind_core.specs.declared.kind.Kind.TheVariants.{Unset, Num, Packet, E
 use Rattle.kind_core.specs.declared.kind.Kinds.{Kinds}
 use Rattle.xdp_state.specs.declared.refusal.Why.{Why}
 use Rattle.kind_core.specs.Kinds.{register, value_bytes, is_hash}
-use Rattle.kind_core.specs.Tests.{◌>>=◌, Test, readable, read_if, within, aligned, number_in}
+use Rattle.kind_core.specs.Tests.{◌>>=◌, readable, read_if, within, aligned, number_in}
 use Rattle.kind_core.specs.Access.{loaded_plain, loaded_signed, stored, stored_at, to_slot, underlying, changed_at, comparand, compares}
 use Rattle.kind_core.specs.Places.{accessed}
 use Rattle.kind_core.proofs.TestLaws.{bind_passed}
@@ -24,7 +26,7 @@ use Rattle.xdp_machine.specs.Atomics.{fetches}
 use Rattle.xdp_machine.specs.Memory.{bytes_in}
 use Rattle.std.specs.Int.{w64, cast_unsigned}
 use Rattle.std.proofs.lemmas.Bool.Decides.{nat_tests}
-use Rattle.kind_core.specs.Calls.{helper_of, called, called_as, answer_of, argument_fits, declared, change_of}
+use Rattle.kind_core.specs.Calls.{prototype_of, called, called_as, answer_of, argument_fits, declared, change_of}
 use Rattle.kind_core.specs.Profile.{profiled, in_profile, keeps_stack_end, reads_source, reads_destination}
 use Rattle.kind_core.specs.Effects.{effect_of, effect_as, immediate, alu}
 use Rattle.kind_core.specs.Edges.{changed, changed_if}
@@ -85,16 +87,11 @@ map_set f all [] i h = h
 map_set f all (x ∷ ks) zero h = all x h
 map_set f all (x ∷ ks) (suc i) h = map_set f all ks i h
 
-called_fills : (decls : List MapDecl) (node : ℕ) (is_ref : Bool) (k : Kinds) (h : _) (first : Test) → argument_fits decls k h 0 ≡ first → AreFilled k → Fills (changed_if node is_ref false k (answer_of decls k h.answer)) → Fills (changed_if node is_ref false k (called_as decls k h))
-called_fills decls node is_ref k h first begins filled answer =
-    bind_fills node is_ref k (argument_fits decls k h 0) _ filled (λ a p.
-    bind_fills node is_ref k (argument_fits decls k h 1) _ filled (λ b q.
-    bind_fills node is_ref k (argument_fits decls k h 2) _ filled (λ c r. bind_fills node is_ref k (argument_fits decls k h 3) _ filled (λ d s. bind_fills node is_ref k (argument_fits decls k h 4) _ filled (λ e t. answer)))))
-
-call_if : (decls : List MapDecl) (node : ℕ) (is_ref : Bool) (k : Kinds) (id : ℤ) (b : Bool) (x y : _) → Fills (changed_if node is_ref false k (called decls k id x)) → Fills (changed_if node is_ref false k (called decls k id y))
-    → Fills (changed_if node is_ref false k (called decls k id (if b then x else y)))
-call_if decls node is_ref k id true x y p q = p
-call_if decls node is_ref k id false x y p q = q
+called_fills : (decls : List MapDecl) (node : ℕ) (is_ref : Bool) (k : Kinds) (p : _) → AreFilled k → Fills (changed_if node is_ref false k (answer_of decls k p.answer)) → Fills (changed_if node is_ref false k (called_as decls k p))
+called_fills decls node is_ref k p filled answer =
+    bind_fills node is_ref k (argument_fits decls k p 0) _ filled (λ a g.
+    bind_fills node is_ref k (argument_fits decls k p 1) _ filled (λ b q.
+    bind_fills node is_ref k (argument_fits decls k p 2) _ filled (λ c r. bind_fills node is_ref k (argument_fits decls k p 3) _ filled (λ d s. bind_fills node is_ref k (argument_fits decls k p 4) _ filled (λ e t. answer)))))
 
 changes_fill : (decls : List MapDecl) (node : ℕ) (is_ref : Bool) (k : Kinds) (q : ℕ) → AreFilled k → Fills (changed_if node is_ref false k (Ok (change_of decls q)))
 changes_fill decls node is_ref k q h =
@@ -105,22 +102,13 @@ changes_fill decls node is_ref k q h =
 after_change : (decls : List MapDecl) (node : ℕ) (is_ref : Bool) (k : Kinds) → AreFilled k → Fills (changed_if node is_ref false k (declared decls (register k 1) >>= λ q. Ok (change_of decls q)))
 after_change decls node is_ref k h = bind_fills node is_ref k (declared decls (register k 1)) _ h (λ q e. changes_fill decls node is_ref k q h)
 
-abbrev some_of : {H : Type 0} (o : Option H) → is_some o ≡ true → H
-some_of (Some h) e = h
-some_of None e = absurd (cc e)
-
-call_fills : (decls : List MapDecl) (node : ℕ) (is_ref : Bool) (k : Kinds) (id : ℤ) → AreFilled k → Fills (changed_if node is_ref false k (called decls k id (helper_of id)))
-call_fills decls node is_ref k id h =
-    call_if decls node is_ref k id (int_eq id (pos 1)) (helper_of (pos 1))
-    (if int_eq id (pos 2) then helper_of (pos 2) else (if int_eq id (pos 3) then helper_of (pos 3) else (if int_eq id (pos 5) then helper_of (pos 5) else (if int_eq id (pos 23) then helper_of (pos 23) else None))))
-    (called_fills decls node is_ref k (some_of (helper_of (pos 1)) refl) _ refl h (bind_fills node is_ref k (declared decls (register k 1)) _ h (λ q e. kept h)))
-    (call_if decls node is_ref k id (int_eq id (pos 2)) (helper_of (pos 2))
-    (if int_eq id (pos 3) then helper_of (pos 3) else (if int_eq id (pos 5) then helper_of (pos 5) else (if int_eq id (pos 23) then helper_of (pos 23) else None)))
-    (called_fills decls node is_ref k (some_of (helper_of (pos 2)) refl) _ refl h (after_change decls node is_ref k h))
-    (call_if decls node is_ref k id (int_eq id (pos 3)) (helper_of (pos 3)) (if int_eq id (pos 5) then helper_of (pos 5) else (if int_eq id (pos 23) then helper_of (pos 23) else None))
-    (called_fills decls node is_ref k (some_of (helper_of (pos 3)) refl) _ refl h (after_change decls node is_ref k h))
-    (call_if decls node is_ref k id (int_eq id (pos 5)) (helper_of (pos 5)) (if int_eq id (pos 23) then helper_of (pos 23) else None) (called_fills decls node is_ref k (some_of (helper_of (pos 5)) refl) _ refl h (kept h))
-    (call_if decls node is_ref k id (int_eq id (pos 23)) (helper_of (pos 23)) None (called_fills decls node is_ref k (some_of (helper_of (pos 23)) refl) _ refl h (kept h)) (kept h)))))
+call_fills : (decls : List MapDecl) (node : ℕ) (is_ref : Bool) (k : Kinds) (id : ℤ) (o : Option Helper) → AreFilled k → Fills (changed_if node is_ref false k (called decls k id o))
+call_fills decls node is_ref k id (Some Lookup) h = called_fills decls node is_ref k (prototype_of Lookup) h (bind_fills node is_ref k (declared decls (register k 1)) _ h (λ q e. kept h))
+call_fills decls node is_ref k id (Some Update) h = called_fills decls node is_ref k (prototype_of Update) h (after_change decls node is_ref k h)
+call_fills decls node is_ref k id (Some Delete) h = called_fills decls node is_ref k (prototype_of Delete) h (after_change decls node is_ref k h)
+call_fills decls node is_ref k id (Some Time) h = called_fills decls node is_ref k (prototype_of Time) h (kept h)
+call_fills decls node is_ref k id (Some Redirect) h = called_fills decls node is_ref k (prototype_of Redirect) h (kept h)
+call_fills decls node is_ref k id None h = kept h
 
 -- ---- stores
 
@@ -171,7 +159,7 @@ fills_as : (decls : List MapDecl) (node : ℕ) (is_ref : Bool) (k : Kinds) (i : 
 fills_as decls node is_ref k i (Ja w) t source h = absurd (cc t)
 fills_as decls node is_ref k i (Jump w c s) t source h = absurd (cc t)
 fills_as decls node is_ref k i Exit t source h = absurd (cc t)
-fills_as decls node is_ref k i Call t source h = call_fills decls node is_ref k i.imm h
+fills_as decls node is_ref k i Call t source h = call_fills decls node is_ref k i.imm (helper_of i.imm) h
 fills_as decls node is_ref k i LoadImm t source h = kept h
 fills_as decls node is_ref k i (Load size) t source h = bind_fills node is_ref k (loaded_plain decls k (register k i.src) i.offset size) _ h (λ x e. kept h)
 fills_as decls node is_ref k i (LoadSigned size) t source h = bind_fills node is_ref k (loaded_signed decls k (register k i.src) i.offset size) _ h (λ x e. kept h)

@@ -1,7 +1,6 @@
 -- The pointers that are held on the edges that leave a jump.
 use Rattle.std.proofs.Common.{◌≡◌, ℕ, pos, ◌<◌, ◌≤◌, ◌⊎◌, inl, inr, ◌&&◌, not, Bool, true, false, if◌then◌else◌, List, [], ◌∷◌, ◌++◌, refl, sym, ◌∙◌, ap, subst, arith}
 use Rattle.std.specs.Prelude.{All, Option, Some, None, slice_index}
-use Rattle.std.proofs.lemmas.Bool.{lt-ltb}
 use Rattle.std.proofs.lemmas.List.Elements.{All-nil, All-cons, All-contains}
 use Rattle.xdp_machine.specs.bpf_isa.declared.operation.Width.{Width}
 use Rattle.xdp_machine.specs.bpf_isa.declared.operation.Width.TheVariants.{Bits64}
@@ -27,10 +26,12 @@ use Rattle.operator_cells.specs.declared.held_cells.machine_cells.RegisterCells.
 use Rattle.operator_cells.specs.declared.held_cells.way.Way.{Way}
 use Rattle.operator_cells.specs.HeldCells.RegisterCells.{PointerView, pointer_at, key_of, entry_or_null}
 use Rattle.operator_cells.specs.HeldCells.Rows.{kind_at, number_at}
-use Rattle.operator_cells.specs.HeldCells.Pointing.{Pointing, pointing_as, pointing_at, HoldsPointer, AnswerAlike, WasHeld, CameAlong, EdgesPoint, LeavePoints}
+use Rattle.operator_cells.specs.HeldCells.Pointing.{Pointing, pointing_as, pointing_at, HoldsPointer, AnswerAlike, WasHeld, CameAlong, EdgesPoint, LeavePoints, pointing_by}
 use Rattle.edge_cells.specs.Testing.{is_equality, null_holds, Tests}
 use Rattle.edge_cells.specs.Leaving.{operand_held, goes, IsBit, IsBranch, TestsJump}
 use Rattle.edge_cells.proofs.JumpKindLaws.{Along, same, null, entry, IsEdge, Enters, along_at, none_enters, edge_of, single_edge}
+use Rattle.operator_cells.specs.row_rules.declared.place_rows.location.Location.TheVariants as location
+use Rattle.operator_cells.proofs.row_rules_laws.PlaceRows.LocationLaws.{at_number}
 
 -- ---- what an edge makes of the kinds
 
@@ -94,7 +95,9 @@ right_found {ps} {c} {r} {m} {p} {q} {condition = condition} packet v taken test
     (tests.value [] packet v (is.Number 0) (entry_or_null [] v r (pointer_at ps q)) (null_holds c found) run refl refl (null_compared c found r (key_of [] v r (pointer_at ps q)) e).1) h
 
 register_held : (k : Kinds) (h : RegisterCells) (r q n : ℕ) → r ≤ 10 → register k r ≡ Maybe q n → HoldsPointer k h (record { map = q; node = Some n; pointer = slice_index h.registers r })
-register_held k h r q n l e = (r, rw (lt-ltb r 11 (omega (arith, l))) (ap (λ (a : Kind). pointing_as a (slice_index h.registers r)) e))
+register_held k h r q n l e =
+    let small : r < 11 = omega (arith, l) in
+    (r, ap (pointing_by k h) (at_number (location.Register r) small) ∙ ap (λ (a : Kind). pointing_as a (slice_index h.registers r)) e)
 
 operand_is_held : (k : Kinds) (h : RegisterCells) (i : Insn) (s : Src) (q n : ℕ) → i.src ≤ 10 → operand k i s ≡ Maybe q n → HoldsPointer k h (record { map = q; node = Some n; pointer = operand_held h i s })
 operand_is_held k h i K q n l e = absurd (cc)

@@ -1,15 +1,15 @@
 -- The cells of an instruction that does nothing to a map operate with no site.
-use Rattle.std.proofs.Common.{◌≡◌, ℕ, ℤ, pos, ◌⊎◌, inl, inr, Bool, true, false, if◌then◌else◌, Some, None, List, [], refl, sym, ◌∙◌, subst}
-use Rattle.std.specs.Prelude.{◌||◌}
+use Rattle.std.proofs.Common.{◌≡◌, ℕ, ℤ, inl, inr, false, Some, None, List, [], refl, sym, ◌∙◌, subst, Option}
 use Rattle.std.specs.Int.{w64, cast_unsigned}
-use Rattle.std.specs.Ordering.{int_eq}
-use Rattle.std.proofs.lemmas.Bool.Decides.{Decides-int_eq}
 use Rattle.std.proofs.lemmas.List.{append-nil}
 use Rattle.std.proofs.lemmas.List.Elements.{All-nil}
 use Rattle.xdp_machine.specs.bpf_isa.declared.operation.Op.{Op}
 use Rattle.xdp_machine.specs.bpf_isa.declared.operation.Op.TheVariants.{Call, LoadImm, Load, LoadSigned, Abs, Ind, StoreImm, Store, Atomic}
 use Rattle.xdp_machine.specs.bpf_isa.declared.operation.Size.{Size}
 use Rattle.xdp_machine.specs.bpf_isa.declared.instruction.Insn.{Insn}
+use Rattle.xdp_machine.specs.bpf_isa.declared.helper.Helper.{Helper}
+use Rattle.xdp_machine.specs.bpf_isa.declared.helper.Helper.TheVariants.{Lookup, Update, Delete, Time, Redirect}
+use Rattle.xdp_machine.specs.bpf_isa.Helpers.{helper_of}
 use Rattle.xdp_machine.specs.xdp_maps.declared.decl.MapDecl.{MapDecl}
 use Rattle.xdp_machine.specs.xdp_maps.State.{MapState}
 use Rattle.xdp_machine.specs.Values.{Value, Number}
@@ -20,18 +20,17 @@ use Rattle.xdp_machine.specs.Step as step
 use Rattle.kind_core.specs.declared.kind.Kind.{Kind}
 use Rattle.kind_core.specs.declared.kind.Kind.TheVariants.{Packet, Stack, Ctx, Entry}
 use Rattle.kind_core.specs.declared.kind.Kinds.{Kinds}
-use Rattle.xdp_state.specs.declared.refusal.Why.{Why}
 use Rattle.kind_core.specs.Kinds.{register}
 use Rattle.kind_core.specs.Tests.{◌>>=◌, passed}
 use Rattle.kind_core.specs.Describes.{World, Describes, DescribesMachine}
 use Rattle.kind_core.specs.Access.{loaded, loaded_plain, loaded_signed, stored}
-use Rattle.kind_core.specs.Calls.{helper_of, called}
+use Rattle.kind_core.specs.Calls.{called}
 use Rattle.kind_core.specs.Effects.{effect_as, verdict, immediate}
 use Rattle.kind_core.proofs.AllowedLaws.{not_allowed, allowed_as}
 use Rattle.operator_cells.proofs.MakingLaws.{reads_none}
 use Rattle.operator_cells.specs.HeldCells.Steps.{ReadsOwn}
 use Rattle.edge_cells.specs.NodeCells.Carrying.{is_entry, is_map_helper, touches_map, CarriesOperate}
-use Rattle.edge_cells.proofs.NodeCells.Unmapped.{Stays, IsBase, registers_keep, no_access, no_store, store_keeps, call_stays}
+use Rattle.edge_cells.proofs.NodeCells.Unmapped.{Stays, AsksNone, IsBase, registers_keep, no_access, no_store, store_keeps, call_stays}
 
 -- kinds of pointers through which an access may be
 abbrev IsWay : Kind → Type 0
@@ -74,18 +73,13 @@ based w maps (Entry q o) v t way d = absurd (cc t)
 based w maps x v t way d = absurd way
 
 -- a call that is allowed and asks no map
-asks_one : (decls : List MapDecl) (k : Kinds) (id : ℤ) → is_map_helper id ≡ false → verdict (called decls k id (helper_of id)) ≡ passed → (id ≡ pos 5) ⊎ (id ≡ pos 23)
-asks_one decls k id t v = by (int_eq id (pos 1)) (int_eq id (pos 2)) (int_eq id (pos 3)) (int_eq id (pos 5)) (int_eq id (pos 23)) refl refl t v
-  where
-    by : (a b c d e : Bool) → int_eq id (pos 5) ≡ d → int_eq id (pos 23) ≡ e → (a || b || c) ≡ false
-        → verdict (called decls k id (if a then helper_of (pos 1) else (if b then helper_of (pos 2) else (if c then helper_of (pos 3) else (if d then helper_of (pos 5) else (if e then helper_of (pos 23) else None)))))) ≡ passed
-        → (id ≡ pos 5) ⊎ (id ≡ pos 23)
-    by true b c d e p q f w = absurd (cc f)
-    by false true c d e p q f w = absurd (cc f)
-    by false false true d e p q f w = absurd (cc f)
-    by false false false true e p q f w = inl ((Decides-int_eq id (pos 5)).0 p)
-    by false false false false true p q f w = inr ((Decides-int_eq id (pos 23)).0 q)
-    by false false false false false p q f w = not_allowed ((id ≡ pos 5) ⊎ (id ≡ pos 23)) _ w
+asks_one : (decls : List MapDecl) (k : Kinds) (id : ℤ) (h : Option Helper) → is_map_helper h ≡ false → verdict (called decls k id h) ≡ passed → AsksNone h
+asks_one decls k id (Some Lookup) t v = absurd (cc t)
+asks_one decls k id (Some Update) t v = absurd (cc t)
+asks_one decls k id (Some Delete) t v = absurd (cc t)
+asks_one decls k id (Some Time) t v = inl refl
+asks_one decls k id (Some Redirect) t v = inr refl
+asks_one decls k id None t v = not_allowed (AsksNone None) _ v
 
 -- by the operation
 stays_as : (decls : List MapDecl) (w : World) (refs : List ℕ) (k : Kinds) (m n : Machine) (i : Insn) (op : Op) → DescribesMachine w k m → touches_map k i op ≡ false → verdict (effect_as decls k i op) ≡ passed → effect refs m i op ≡ Some n
@@ -102,7 +96,7 @@ stays_as decls w refs k m n i (StoreImm size) d t v e =
 stays_as decls w refs k m n i (Store size) d t v e =
     let base : IsBase (machine.register m.registers i.dst) = based w m.maps (register k i.dst) (machine.register m.registers i.dst) t (store_way decls k (register k i.dst) i.offset size (register k i.src) v) (d.registers i.dst) in
     record { maps = store_keeps m n (machine.register m.registers i.dst) i.offset size (machine.register m.registers i.src) base e; none = no_store m (machine.register m.registers i.dst) i.offset size (machine.register m.registers i.src) base }
-stays_as decls w refs k m n i Call d t v e = call_stays m n i (asks_one decls k i.imm t v) e
+stays_as decls w refs k m n i Call d t v e = call_stays m n i (asks_one decls k i.imm (helper_of i.imm) t v) e
 stays_as decls w refs k m n i LoadImm d t v e = record { maps = registers_keep m n (step.assigned m.registers i (step.constant refs m.place i)) e; none = refl }
 stays_as decls w refs k m n i (Atomic size) d t v e = absurd (cc t)
 stays_as decls w refs k m n i (Abs size) d t v e = absurd (cc e)

@@ -1,20 +1,22 @@
 -- Steps of the machine that operate on no map.
-use Rattle.std.proofs.Common.{◌≡◌, ℕ, ℤ, pos, zero, suc, ◌==◌, ◌+ℤ◌, ◌⊎◌, inl, inr, Bool, true, false, if◌then◌else◌, Option, Some, None, List, refl, sym, ◌∙◌, ap, subst}
-use Rattle.std.specs.Int.{w64, cast_unsigned}
+use Rattle.std.proofs.Common.{◌≡◌, ℕ, ℤ, zero, suc, ◌==◌, ◌+ℤ◌, ◌⊎◌, inl, inr, Bool, true, false, if◌then◌else◌, Option, Some, None, List, refl, sym, ◌∙◌, ap, subst}
 use Rattle.byteorder.specs.Endian.{little_bytes}
 use Rattle.xdp_machine.specs.bpf_isa.declared.operation.Op.{Op}
 use Rattle.xdp_machine.specs.bpf_isa.declared.operation.Op.TheVariants.{Call}
 use Rattle.xdp_machine.specs.bpf_isa.declared.operation.Size.{Size}
 use Rattle.xdp_machine.specs.bpf_isa.declared.instruction.Insn.{Insn}
+use Rattle.xdp_machine.specs.bpf_isa.declared.helper.Helper.{Helper}
+use Rattle.xdp_machine.specs.bpf_isa.declared.helper.Helper.TheVariants.{Time, Redirect}
+use Rattle.xdp_machine.specs.bpf_isa.Helpers.{helper_of}
 use Rattle.xdp_machine.specs.xdp_maps.State.{MapState}
 use Rattle.xdp_machine.specs.xdp_maps.Operations as map
 use Rattle.xdp_machine.specs.xdp_maps.Operations.{Operation}
 use Rattle.xdp_machine.specs.Values.{Value, Number, Packet, Stack, Context, Entry, number_in, ◌>>=◌}
 use Rattle.xdp_machine.specs.State.{Machine, register, with_registers}
 use Rattle.xdp_machine.specs.Memory.{bytes_in, to_frame, to_stack, stored}
-use Rattle.xdp_machine.specs.Helpers.{answering, packet_time, redirect, redirected, called}
+use Rattle.xdp_machine.specs.Helpers.{answering, packet_time, redirect, redirected, called, calls_on}
 use Rattle.xdp_machine.specs.Step.{calls}
-use Rattle.xdp_machine.specs.Touched.{operation_as, accesses, stores, calls_on}
+use Rattle.xdp_machine.specs.Touched.{operation_as, accesses, stores}
 
 -- a step that operates on no map, and leaves the maps
 pub record Stays (m n : Machine) (i : Insn) (op : Op) : Type 0 where
@@ -69,9 +71,12 @@ redirect_keeps : (m : Machine) (ifindex flags : ℕ) → (redirected ifindex fla
 redirect_keeps m ifindex zero = refl
 redirect_keeps m ifindex (suc flags) = refl
 
--- of the helpers for the time and for a redirect
-abbrev CallStays : Machine → Machine → ℕ → Type 0
-CallStays m n id = called id m ≡ Some n → (n.maps ≡ m.maps) × (calls_on id m ≡ None)
+-- the helpers for the time and for a redirect
+abbrev pub AsksNone : Option Helper → Type 0
+AsksNone h = (h ≡ Some Time) ⊎ (h ≡ Some Redirect)
+
+abbrev CallStays : Machine → Machine → Option Helper → Type 0
+CallStays m n h = called h m ≡ Some n → (n.maps ≡ m.maps) × (calls_on h m ≡ None)
 
 time_keeps : (m n : Machine) → packet_time m ≡ Some n → n.maps ≡ m.maps
 time_keeps m n e = is_made m n (answering (Number m.time) m) refl e
@@ -80,16 +85,16 @@ redirects_keep : (m n : Machine) → redirect m ≡ Some n → n.maps ≡ m.maps
 redirects_keep m n e =
     made_of m n (number_in (register m.registers 1)) _ (λ ifindex d. made_of m n (number_in (register m.registers 2)) _ (λ flags c. is_made m n (redirected ifindex flags m) (redirect_keeps m ifindex flags) c) d) e
 
-called_if : (m n : Machine) (b : Bool) (id : ℕ) → (if b then called id m else None) ≡ Some n → called id m ≡ Some n
-called_if m n true id e = e
-called_if m n false id e = absurd (cc e)
+called_if : (m n : Machine) (b : Bool) (h : Option Helper) → (if b then called h m else None) ≡ Some n → called h m ≡ Some n
+called_if m n true h e = e
+called_if m n false h e = absurd (cc e)
 
-pub call_stays : (m n : Machine) (i : Insn) → (i.imm ≡ pos 5) ⊎ (i.imm ≡ pos 23) → calls m i ≡ Some n → Stays m n i Call
+pub call_stays : (m n : Machine) (i : Insn) → AsksNone (helper_of i.imm) → calls m i ≡ Some n → Stays m n i Call
 call_stays m n i asks e = by asks
   where
-    made : CallStays m n (cast_unsigned w64 i.imm) → Stays m n i Call
-    made c = let s = c (called_if m n (i.src == 0) (cast_unsigned w64 i.imm) e) in record { maps = s.0; none = s.1 }
+    made : CallStays m n (helper_of i.imm) → Stays m n i Call
+    made c = let s = c (called_if m n (i.src == 0) (helper_of i.imm) e) in record { maps = s.0; none = s.1 }
 
-    by : (i.imm ≡ pos 5) ⊎ (i.imm ≡ pos 23) → Stays m n i Call
-    by (inl five) = made (subst (λ (z : ℤ). CallStays m n (cast_unsigned w64 z)) (sym five) (λ c. (time_keeps m n c, refl)))
-    by (inr twenty_three) = made (subst (λ (z : ℤ). CallStays m n (cast_unsigned w64 z)) (sym twenty_three) (λ c. (redirects_keep m n c, refl)))
+    by : AsksNone (helper_of i.imm) → Stays m n i Call
+    by (inl time) = made (subst (CallStays m n) (sym time) (λ c. (time_keeps m n c, refl)))
+    by (inr sends) = made (subst (CallStays m n) (sym sends) (λ c. (redirects_keep m n c, refl)))

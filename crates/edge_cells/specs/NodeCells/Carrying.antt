@@ -1,9 +1,11 @@
 -- Instructions that do nothing to a map.
-use Rattle.std.specs.Prelude.{ℕ, ℤ, pos, ◌≡◌, ◌||◌, Bool, true, false, List}
-use Rattle.std.specs.Ordering.{int_eq}
+use Rattle.std.specs.Prelude.{ℕ, ◌≡◌, Bool, true, false, Option, Some, None, List}
 use Rattle.xdp_machine.specs.bpf_isa.declared.operation.Op.{Op}
 use Rattle.xdp_machine.specs.bpf_isa.declared.operation.Op.TheVariants.{Call, Load, LoadSigned, StoreImm, Store, Atomic}
 use Rattle.xdp_machine.specs.bpf_isa.declared.instruction.Insn.{Insn}
+use Rattle.xdp_machine.specs.bpf_isa.declared.helper.Helper.{Helper}
+use Rattle.xdp_machine.specs.bpf_isa.declared.helper.Helper.TheVariants.{Lookup, Update, Delete, Time, Redirect}
+use Rattle.xdp_machine.specs.bpf_isa.Helpers.{helper_of}
 use Rattle.xdp_machine.specs.xdp_maps.declared.decl.MapDecl.{MapDecl}
 use Rattle.kind_core.specs.declared.kind.Kind.{Kind}
 use Rattle.kind_core.specs.declared.kind.Kind.TheVariants.{Entry}
@@ -24,8 +26,13 @@ is_entry (Entry q o) = true
 is_entry k = false
 
 -- the helpers that look up, update and delete
-abbrev pub is_map_helper : ℤ → Bool
-is_map_helper id = int_eq id (pos 1) || int_eq id (pos 2) || int_eq id (pos 3)
+abbrev pub is_map_helper : Option Helper → Bool
+is_map_helper (Some Lookup) = true
+is_map_helper (Some Update) = true
+is_map_helper (Some Delete) = true
+is_map_helper (Some Time) = false
+is_map_helper (Some Redirect) = false
+is_map_helper None = false
 
 -- whether an instruction may read or change a map: an access to an entry, or a call of one of these
 abbrev pub touches_map : Kinds → Insn → Op → Bool
@@ -34,7 +41,7 @@ touches_map k i (LoadSigned size) = is_entry (register k i.src)
 touches_map k i (StoreImm size) = is_entry (register k i.dst)
 touches_map k i (Store size) = is_entry (register k i.dst)
 touches_map k i (Atomic size) = true
-touches_map k i Call = is_map_helper i.imm
+touches_map k i Call = is_map_helper (helper_of i.imm)
 touches_map k i op = false
 
 -- The cells of an allowed instruction that does nothing to a map operate with no site and no pointer more.

@@ -18,6 +18,7 @@ use Rattle.row_rules.specs.unfold_core.declared.links.Edge.{Edge}
 use Rattle.row_rules.specs.declared.place_rows.origin.Origin.{Origin}
 use Rattle.row_rules.specs.declared.place_rows.span.Span.{Span}
 use Rattle.row_rules.specs.declared.place_rows.recording.Record.{Record}
+use Rattle.row_rules.specs.PlaceRows.Locations.{location_count, first_byte}
 use Rattle.row_rules.specs.PlaceRows.Spans.{one, pending, pending_place, is_in}
 use Rattle.row_rules.specs.PlaceRows.Origins.{has_data, row_of, row_at, every_row, by_place, origin_at_start}
 use Rattle.row_rules.specs.PlaceRows.Reading.{right_of, reads_as, is_heavy}
@@ -86,7 +87,7 @@ module _ (m : ℕ) where
       by false = omega arith
 
   start_low : (i : ℕ) → row_of (origin_at_start i) ≤ m
-  start_low i = by (nat_lt i 75)
+  start_low i = by (nat_lt i first_byte)
     where
       by : (b : Bool) → row_of (if b then None else Some (record { maker = 0; row = 0 })) ≤ m
       by true = omega arith
@@ -97,7 +98,7 @@ module _ (m : ℕ) where
   joined_low (a ∷ es) maker k h = every_low (by_place (origin_at (a ∷ es) maker k)) m (λ i l. omega (arith, ap row_of (place_at (origin_at (a ∷ es) maker k) i l), origin_low (a ∷ es) maker k i h))
 
 -- ---- after an instruction
-module _ (m : ℕ) (decls : List MapDecl) (k after : Kinds) (i : Insn) (maker guard : ℕ) (os : List (Option Origin)) (count : length os ≡ 348) (every : every_row os ≤ m) (edges : guard ≤ m) where
+module _ (m : ℕ) (decls : List MapDecl) (k after : Kinds) (i : Insn) (maker guard : ℕ) (os : List (Option Origin)) (count : length os ≡ location_count) (every : every_row os ≤ m) (edges : guard ≤ m) where
   result_low : result_row decls k after i os ≤ suc m
   result_low = omega (arith, spans_low os m (reads_as decls k i i.op) count every, bit_small (is_heavy k after i i.op))
 

@@ -14,10 +14,12 @@ pub use Rattle.cell_core.specs.Acts.{is_access}
 use Rattle.cell_core.specs.Cells.{CellView, IsRun, cell_at, on}
 use Rattle.cell_core.specs.Sites.{SiteView, ProgramView, site_at, bytes_of}
 use Rattle.operator_cells.specs.Following.{IsFollowed}
+use Rattle.row_rules.specs.declared.place_rows.location.Location.{Location}
+use Rattle.row_rules.specs.PlaceRows.Locations.{location_at}
 use Rattle.operator_cells.specs.declared.held_cells.machine_cells.RegisterCells.{RegisterCells}
 use Rattle.operator_cells.specs.declared.held_cells.way.Way.{Way}
 use Rattle.operator_cells.specs.HeldCells.RegisterCells.{PointerView, pointer_at, key_of}
-use Rattle.operator_cells.specs.HeldCells.Rows.{kind_at, number_at, map_used}
+use Rattle.operator_cells.specs.HeldCells.Rows.{kind_by, number_by, map_used}
 use Rattle.operator_cells.specs.HeldCells.Reading.{OperationReads}
 
 -- ---- the pointers that are held
@@ -33,9 +35,12 @@ pointing_as (Maybe q n) c = Some (record { map = q; node = Some n; pointer = c }
 pointing_as (Entry q o) c = Some (record { map = q; node = None; pointer = c })
 pointing_as k c = None
 
--- the pointer at a data place
+-- the pointer at a location, and by the location's number
+abbrev pub pointing_by : Kinds → RegisterCells → Location → Option Pointing
+pointing_by k h l = pointing_as (kind_by k l) (number_by h l)
+
 abbrev pub pointing_at : Kinds → RegisterCells → ℕ → Option Pointing
-pointing_at k h place = pointing_as (kind_at k place) (number_at h place)
+pointing_at k h place = pointing_by k h (location_at place)
 
 -- this one is held somewhere
 abbrev pub HoldsPointer : Kinds → RegisterCells → Pointing → Type 0

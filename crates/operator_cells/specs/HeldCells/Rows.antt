@@ -1,5 +1,5 @@
 -- In which rows stands what cells hold, by data places.
-use Rattle.std.specs.Prelude.{ℕ, ◌≡◌, ◌+◌, ◌-◌, ◌<◌, ◌≤◌, ◌==◌, max, nat_lt, ◌&&◌, Bool, true, false, not, if◌then◌else◌, Option, Some, None, List, [], ◌∷◌, ◌++◌, length, slice_index, get_or, All}
+use Rattle.std.specs.Prelude.{ℕ, ◌≡◌, ◌+◌, ◌<◌, ◌≤◌, ◌==◌, max, nat_lt, ◌&&◌, Bool, true, false, not, if◌then◌else◌, Option, Some, None, List, [], ◌∷◌, ◌++◌, length, slice_index, get_or, All}
 use Rattle.std.specs.List.{list_any, list_all}
 use Rattle.cell_core.specs.bpf_isa.declared.operation.Op.{Op}
 use Rattle.cell_core.specs.bpf_isa.declared.operation.Op.TheVariants.{Call, Jump, Load, LoadSigned}
@@ -16,8 +16,11 @@ use Rattle.cell_core.specs.Cells.{CellView, cell_at, site_in}
 use Rattle.cell_core.specs.Sites.{SiteView, site_at, records}
 use Rattle.cell_core.specs.Rows.{AreRows, greatest, numbers}
 use Rattle.operator_cells.specs.Rising.{GrowsTo}
+use Rattle.row_rules.specs.declared.place_rows.location.Location.{Location}
+use Rattle.row_rules.specs.declared.place_rows.location.Location.TheVariants.{Register, StackSlot, PacketByte, Target, PendingWrites}
 use Rattle.row_rules.specs.declared.place_rows.span.Span.{Span}
 use Rattle.row_rules.specs.declared.place_rows.recording.Record.{Record}
+use Rattle.row_rules.specs.PlaceRows.Locations.{first_pending, location_at}
 use Rattle.row_rules.specs.PlaceRows.Spans.{one, pending_place, map_of, is_in, span_row}
 use Rattle.row_rules.specs.PlaceRows.Origins.{is_open}
 use Rattle.row_rules.specs.PlaceRows.Reading.{right_of, is_known, result_row}
@@ -48,25 +51,35 @@ number_row row x c = greatest row (cells_of_number x c)
 abbrev pub value_row : (ℕ → ℕ) → List PointerView → Kind → ℕ → ℕ
 value_row row ps k c = greatest row (cells_of ps k c)
 
--- The kind at a data place: bytes of the packet and the target are numbers that are not known, and nothing is held of what is pending.
-abbrev pub kind_at : Kinds → ℕ → Kind
-kind_at k place =
-    if nat_lt place 11 then get_or k.registers place Unset else
-    if nat_lt place 75 then get_or k.slots (place - 11) Unset else
-    if nat_lt place 332 then Num Unknown else
-    Unset
+-- The kind at a location: bytes of the packet and the target are numbers that are not known, and nothing is held of what is pending.
+abbrev pub kind_by : Kinds → Location → Kind
+kind_by k (Register r) = get_or k.registers r Unset
+kind_by k (StackSlot s) = get_or k.slots s Unset
+kind_by k (PacketByte i) = Num Unknown
+kind_by k Target = Num Unknown
+kind_by k (PendingWrites q) = Unset
 
 -- and the number that is held
-abbrev pub number_at : RegisterCells → ℕ → ℕ
-number_at h place =
-    if nat_lt place 11 then slice_index h.registers place else
-    if nat_lt place 75 then slice_index h.slots (place - 11) else
-    if nat_lt place 331 then slice_index h.window (place - 75) else
-    h.target
+abbrev pub number_by : RegisterCells → Location → ℕ
+number_by h (Register r) = slice_index h.registers r
+number_by h (StackSlot s) = slice_index h.slots s
+number_by h (PacketByte i) = slice_index h.window i
+number_by h Target = h.target
+number_by h (PendingWrites q) = 0
 
--- the greatest row of the cells at a place
+-- the greatest row of the cells at a location
+abbrev pub located_row : (ℕ → ℕ) → List PointerView → RegisterCells → Kinds → Location → ℕ
+located_row row ps h k l = value_row row ps (kind_by k l) (number_by h l)
+
+-- the same by the location's number
+abbrev pub kind_at : Kinds → ℕ → Kind
+kind_at k place = kind_by k (location_at place)
+
+abbrev pub number_at : RegisterCells → ℕ → ℕ
+number_at h place = number_by h (location_at place)
+
 abbrev pub held_row : (ℕ → ℕ) → List PointerView → RegisterCells → Kinds → ℕ → ℕ
-held_row row ps h k place = value_row row ps (kind_at k place) (number_at h place)
+held_row row ps h k place = located_row row ps h k (location_at place)
 
 -- ---- an instruction
 
@@ -76,7 +89,7 @@ pub record LeavesTo (before : (ℕ → ℕ) → ℕ → ℕ) (ps : List PointerV
   pub grows : GrowsTo old new made
   pub written : (row : ℕ → ℕ) → AreRows new row → (place : ℕ) → list_any (is_in place) spans ≡ true → held_row row ps next after place ≤ result row
   pub kept : (row : ℕ → ℕ) → AreRows new row → (place : ℕ) → list_any (is_in place) spans ≡ false → held_row row ps next after place ≤ before row place
-  pub same : (place : ℕ) → place < 332 → list_any (is_in place) spans ≡ false → number_at next place ≡ number_at h place
+  pub same : (place : ℕ) → place < first_pending → list_any (is_in place) spans ≡ false → number_at next place ≡ number_at h place
 
 -- The same of the cells of an instruction, by what it reads, writes and takes.
 abbrev pub CarriesTo : List MapDecl → ((ℕ → ℕ) → ℕ → ℕ) → List PointerView → Insn → Kinds → RegisterCells → Kinds → RegisterCells → List CellView → List CellView → Type 0
@@ -98,7 +111,7 @@ pending_before row (Some q) c place = if place == pending_place q then row c els
 pending_before row None c place = 0
 
 abbrev pub row_before : (ℕ → ℕ) → List PointerView → RegisterCells → Kinds → Option ℕ → ℕ → ℕ → ℕ
-row_before row ps h k q c place = if nat_lt place 332 then held_row row ps h k place else pending_before row q c place
+row_before row ps h k q c place = if nat_lt place first_pending then held_row row ps h k place else pending_before row q c place
 
 -- whether an instruction writes a place, as the first of its spans says
 abbrev pub is_some_place : List Span → Bool
@@ -160,10 +173,10 @@ choosing_row row ps here k place = if is_open (kind_at k place) && not (hold_one
 
 -- Where edges meet: more cells, the guard, and what is held, place by place.
 pub record JoinsTo (old new : List CellView) (ps qs : List PointerView) (here : List Way) (k : Kinds) (guard : ℕ) (h : RegisterCells) : Type 0 where
-  pub grows : GrowsTo old new (λ row. max (bits_row row here) (greatest (choosing_row row ps here k) (numbers 0 332)))
+  pub grows : GrowsTo old new (λ row. max (bits_row row here) (greatest (choosing_row row ps here k) (numbers 0 first_pending)))
   pub guard_row : (row : ℕ → ℕ) → AreRows new row → row guard ≤ bits_row row here
-  pub held : (row : ℕ → ℕ) → AreRows new row → (place : ℕ) → place < 332 → held_row row qs h k place ≤ met_row row ps here place
-  pub same : (place : ℕ) → place < 332 → hold_one here place ≡ true → All (λ e. number_at h place ≡ number_at e.held place) here
+  pub held : (row : ℕ → ℕ) → AreRows new row → (place : ℕ) → place < first_pending → held_row row qs h k place ≤ met_row row ps here place
+  pub same : (place : ℕ) → place < first_pending → hold_one here place ≡ true → All (λ e. number_at h place ≡ number_at e.held place) here
 
 -- ---- edges that leave
 

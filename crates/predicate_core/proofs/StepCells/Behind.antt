@@ -1,7 +1,7 @@
 -- The rows of instructions that lead on.
 use Rattle.std.proofs.Common.{◌≡◌, ◌∙◌, ℕ, ◌<◌, ◌≤◌, ◌⊎◌, inl, inr, ◌==◌, nat_lt, if◌then◌else◌, Bool, true, false, Option, Some, None, Result, Ok, Err, List, length, slice_index, refl, sym, ap, subst, arith}
 use Rattle.std.specs.Prelude.{OnOk}
-use Rattle.std.proofs.lemmas.Bool.{cases_lt, le-ltb}
+use Rattle.std.proofs.lemmas.Bool.{cases_lt}
 use Rattle.std.proofs.lemmas.Bool.Decides.{nat_tests}
 use Rattle.xdp_machine.specs.bpf_isa.declared.instruction.Insn.{Insn}
 use Rattle.xdp_machine.specs.xdp_maps.declared.decl.MapDecl.{MapDecl}
@@ -13,6 +13,7 @@ use Rattle.cell_core.specs.Cells.{CellView}
 use Rattle.cell_core.specs.Sites.{SiteView}
 use Rattle.cell_core.specs.Rows.{AreRows}
 use Rattle.operator_cells.specs.row_rules.declared.place_rows.recording.Record.{Record}
+use Rattle.operator_cells.specs.row_rules.PlaceRows.Locations.{first_pending}
 use Rattle.operator_cells.specs.row_rules.PlaceRows.Spans.{pending_place}
 use Rattle.operator_cells.specs.row_rules.PlaceRows.Writing.{record_as}
 use Rattle.operator_cells.specs.Making.{Grows}
@@ -20,6 +21,7 @@ use Rattle.operator_cells.specs.declared.held_cells.machine_cells.RegisterCells.
 use Rattle.operator_cells.specs.HeldCells.RegisterCells.{PointerView, AreInside}
 use Rattle.operator_cells.specs.HeldCells.Carrying.{Carries}
 use Rattle.operator_cells.specs.HeldCells.Rows.{held_row, map_used, pending_before, row_before, CarriesTo, written_row, WriteWithin, OperatesTo}
+use Rattle.operator_cells.proofs.HeldCells.RowLaws.{past_held}
 use Rattle.operator_cells.proofs.HeldCells.MonotoneLaws.{made_below, result_below, written_below}
 use Rattle.predicate_core.specs.StepCells.Rows.{AreWithin, InstructionRows}
 
@@ -33,14 +35,10 @@ none_writes write old new sites row last grows = record {
 
 -- ---- the rows of places before
 
--- nothing is held past the target
-past_held : (row : ℕ → ℕ) (ps : List PointerView) (h : RegisterCells) (k : Kinds) (place : ℕ) → 332 ≤ place → held_row row ps h k place ≡ 0
-past_held row ps h k place past = rw (le-ltb place 11 (omega (arith, past)), le-ltb place 75 (omega (arith, past)), le-ltb place 332 past) refl
-
 pub held_within : (decls : List MapDecl) (row : ℕ → ℕ) (ps : List PointerView) (h : RegisterCells) (k : Kinds) (pending : List ℕ) (before : ℕ → ℕ) → AreWithin decls row ps h k pending before → (place : ℕ) → held_row row ps h k place ≤ before place
-held_within decls row ps h k pending before within place = by (cases_lt place 332)
+held_within decls row ps h k pending before within place = by (cases_lt place first_pending)
   where
-    by : (place < 332) ⊎ (332 ≤ place) → held_row row ps h k place ≤ before place
+    by : (place < first_pending) ⊎ (first_pending ≤ place) → held_row row ps h k place ≤ before place
     by (inl l) = within.held place l
     by (inr past) = omega (arith, past_held row ps h k place past)
 
@@ -59,7 +57,7 @@ pending_within decls row ps h k pending before (Some q) c within own place = by 
 pub before_within : (decls : List MapDecl) (row : ℕ → ℕ) (ps : List PointerView) (h : RegisterCells) (k : Kinds) (pending : List ℕ) (before : ℕ → ℕ) (u : Option ℕ) (c : ℕ) → AreWithin decls row ps h k pending before
     → ((q : ℕ) → u ≡ Some q → (q < length decls) × (q < length pending → c ≡ slice_index pending q)) → (place : ℕ) → row_before row ps h k u c place ≤ before place
 before_within decls row ps h k pending before u c within own place =
-    by (nat_lt place 332) (held_within decls row ps h k pending before within place) (pending_within decls row ps h k pending before u c within own place)
+    by (nat_lt place first_pending) (held_within decls row ps h k pending before within place) (pending_within decls row ps h k pending before u c within own place)
   where
     by : {m n : ℕ} (b : Bool) → m ≤ before place → n ≤ before place → (if b then m else n) ≤ before place
     by true l r = omega (arith, l)

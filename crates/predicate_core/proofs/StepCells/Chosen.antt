@@ -1,12 +1,13 @@
 -- Which instruction an allowed one is.
-use Rattle.std.proofs.Common.{◌≡◌, ◌≢◌, ℕ, ℤ, pos, ◌+◌, ◌+ℤ◌, Bool, true, false, not, if◌then◌else◌, None, Result, Ok, Err, List, refl, sym, subst}
-use Rattle.std.specs.Prelude.{◌||◌, nat_le}
-use Rattle.std.specs.Ordering.{int_eq}
-use Rattle.std.proofs.lemmas.Bool.Decides.{Decides-int_eq}
+use Rattle.std.proofs.Common.{◌≡◌, ◌≢◌, ℕ, pos, ◌+◌, ◌+ℤ◌, Bool, true, false, not, if◌then◌else◌, None, Result, Ok, Err, List, refl, subst, Option, Some}
+use Rattle.std.specs.Prelude.{nat_le, is_some}
 use Rattle.xdp_machine.specs.bpf_isa.declared.operation.Op.{Op}
 use Rattle.xdp_machine.specs.bpf_isa.declared.operation.Op.TheVariants.{Alu, Neg, End, Swap, Ja, Jump, Call, Exit, LoadImm, Load, LoadSigned, Abs, Ind, StoreImm, Store, Atomic}
 use Rattle.xdp_machine.specs.bpf_isa.declared.operation.Size.{Size}
 use Rattle.xdp_machine.specs.bpf_isa.declared.instruction.Insn.{Insn}
+use Rattle.xdp_machine.specs.bpf_isa.declared.helper.Helper.{Helper}
+use Rattle.xdp_machine.specs.bpf_isa.declared.helper.Helper.TheVariants.{Lookup, Update, Delete, Time, Redirect}
+use Rattle.xdp_machine.specs.bpf_isa.Helpers.{helper_of}
 use Rattle.xdp_machine.specs.xdp_maps.declared.decl.MapDecl.{MapDecl}
 use Rattle.kind_core.specs.declared.kind.Kind.{Kind}
 use Rattle.kind_core.specs.declared.kind.Kind.TheVariants.{Packet, Stack, Entry}
@@ -17,7 +18,7 @@ use Rattle.kind_core.specs.Tests.{◌>>=◌, passed, within, aligned}
 use Rattle.kind_core.specs.Places.{accessed}
 use Rattle.xdp_machine.specs.Memory.{bytes_in}
 use Rattle.kind_core.specs.Access.{changed_at}
-use Rattle.kind_core.specs.Calls.{helper_of, called}
+use Rattle.kind_core.specs.Calls.{called}
 use Rattle.kind_core.specs.Effects.{effect_of, effect_as, verdict}
 use Rattle.kind_core.proofs.AllowedLaws.{not_allowed, allowed_as}
 use Rattle.register_cells.specs.Plain.{asks_no_map, is_plain_as}
@@ -31,40 +32,40 @@ not_entry : (x : Kind) → not (plain.is_entry x) ≡ true → is_entry x ≡ fa
 not_entry (Entry q o) t = absurd (cc t)
 not_entry x t = refl
 
-asks_none : (id : ℤ) → asks_no_map id ≡ true → is_map_helper id ≡ false
-asks_none id t = by (int_eq id (pos 5)) (int_eq id (pos 23)) refl refl t
-  where
-    by : (a b : Bool) → int_eq id (pos 5) ≡ a → int_eq id (pos 23) ≡ b → (a || b) ≡ true → is_map_helper id ≡ false
-    by true b p q t = subst (λ (z : ℤ). is_map_helper z ≡ false) (sym ((Decides-int_eq id (pos 5)).0 p)) refl
-    by false true p q t = subst (λ (z : ℤ). is_map_helper z ≡ false) (sym ((Decides-int_eq id (pos 23)).0 q)) refl
-    by false false p q t = absurd (cc t)
+asks_none : (h : Option Helper) → asks_no_map h ≡ true → is_map_helper h ≡ false
+asks_none (Some Lookup) t = absurd (cc t)
+asks_none (Some Update) t = absurd (cc t)
+asks_none (Some Delete) t = absurd (cc t)
+asks_none (Some Time) t = refl
+asks_none (Some Redirect) t = refl
+asks_none None t = absurd (cc t)
 
 pub plain_untouched : (k : Kinds) (i : Insn) (op : Op) → is_plain_as k i op ≡ true → touches_map k i op ≡ false
 plain_untouched k i (Load size) t = not_entry (register k i.src) t
 plain_untouched k i (LoadSigned size) t = not_entry (register k i.src) t
 plain_untouched k i (StoreImm size) t = not_entry (register k i.dst) t
 plain_untouched k i (Store size) t = not_entry (register k i.dst) t
-plain_untouched k i Call t = asks_none i.imm t
+plain_untouched k i Call t = asks_none (helper_of i.imm) t
 plain_untouched k i (Atomic size) t = absurd (cc t)
 plain_untouched k i op t = refl
 
 -- ---- instructions that ask one
 
--- an allowed call that asks a map, and neither looks up nor updates
-pub deletes : (decls : List MapDecl) (k : Kinds) (i : Insn) → i.op ≡ Call → verdict (effect_of decls k i) ≡ passed → asks_no_map i.imm ≡ false → i.imm ≢ pos 1 → i.imm ≢ pos 2 → i.imm ≡ pos 3
-deletes decls k i op allowed asks one two =
-    by (int_eq i.imm (pos 1)) (int_eq i.imm (pos 2)) (int_eq i.imm (pos 3)) (int_eq i.imm (pos 5)) (int_eq i.imm (pos 23)) refl refl refl asks
-    (subst (λ (o : Op). verdict (effect_as decls k i o) ≡ passed) op (allowed_as decls k i allowed))
+-- an allowed call is one of a helper that the machine has
+pub allowed_known : (decls : List MapDecl) (k : Kinds) (i : Insn) → i.op ≡ Call → verdict (effect_of decls k i) ≡ passed → is_some (helper_of i.imm) ≡ true
+allowed_known decls k i op allowed = by (helper_of i.imm) (subst (λ (o : Op). verdict (effect_as decls k i o) ≡ passed) op (allowed_as decls k i allowed))
   where
-    by : (a b c d e : Bool) → int_eq i.imm (pos 1) ≡ a → int_eq i.imm (pos 2) ≡ b → int_eq i.imm (pos 3) ≡ c → (d || e) ≡ false
-        → verdict (called decls k i.imm (if a then helper_of (pos 1) else (if b then helper_of (pos 2) else (if c then helper_of (pos 3) else (if d then helper_of (pos 5) else (if e then helper_of (pos 23) else None)))))) ≡ passed
-        → i.imm ≡ pos 3
-    by true b c d e p q r f w = absurd (one ((Decides-int_eq i.imm (pos 1)).0 p))
-    by false true c d e p q r f w = absurd (two ((Decides-int_eq i.imm (pos 2)).0 q))
-    by false false true d e p q r f w = (Decides-int_eq i.imm (pos 3)).0 r
-    by false false false true e p q r f w = absurd (cc f)
-    by false false false false true p q r f w = absurd (cc f)
-    by false false false false false p q r f w = not_allowed (i.imm ≡ pos 3) _ w
+    by : (h : Option Helper) → verdict (called decls k i.imm h) ≡ passed → is_some h ≡ true
+    by (Some h) w = refl
+    by None w = absurd (not_allowed ⊥ _ w)
+
+-- a helper that asks a map, and neither looks up nor updates
+pub delete_alone : (h : Helper) → asks_no_map (Some h) ≡ false → (h ≡ Lookup → ⊥) → (h ≡ Update → ⊥) → h ≡ Delete
+delete_alone Lookup asks one two = absurd (one refl)
+delete_alone Update asks one two = absurd (two refl)
+delete_alone Delete asks one two = refl
+delete_alone Time asks one two = absurd (cc asks)
+delete_alone Redirect asks one two = absurd (cc asks)
 
 -- what follows two tests is refused, whatever the first finds
 refused_behind : {A B : Type 0} (r : Result A Why) (h : A → Result B Why) (f : B → _) → ((a : A) → verdict (h a >>= f) ≡ passed → ⊥) → verdict ((r >>= h) >>= f) ≡ passed → ⊥

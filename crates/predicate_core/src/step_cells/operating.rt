@@ -1,6 +1,7 @@
 // The cells, pointers and sites of an instruction that leads on.
 
 ghost use Rattle.std.specs.Prelude.{ℕ, Bool, ◌≡◌, ◌<◌, ◌≤◌, pos, false, true, Some, length, slice_index, All, OnOk};
+ghost use Rattle.xdp_machine.specs.bpf_isa.Helpers.{helper_of};
 ghost use Rattle.xdp_machine.specs.bpf_isa.Spelling.{IsInsn};
 ghost use Rattle.kind_core.specs.Tests.{passed};
 ghost use Rattle.kind_core.specs.Effects.{effect_of, verdict};
@@ -32,7 +33,7 @@ use site_cells::change::{operate_delete, operate_update};
 use site_cells::here::Here;
 use site_cells::lookup::operate_lookup;
 use std::alloc::AllocError;
-use xdp_machine::bpf_isa::{Insn, Op};
+use xdp_machine::bpf_isa::{Helper, Insn, Op};
 use xdp_machine::xdp_maps::decl::MapDecl;
 
 // The kind that tells the map of an instruction: of the pointer of an access, or R1's at a call.
@@ -78,7 +79,7 @@ fn operate_call(
     here: Here,
 ) -> Result<(), AllocError>
     requires op { insn.now.op ≡ Op.Call }
-    requires asks { spec.asks_no_map insn.now.imm ≡ false }
+    requires asks { spec.asks_no_map (helper_of insn.now.imm) ≡ false }
     requires guard { here.guard < length (seen made.old.cells.items) }
     requires pending { here.pending < length (seen made.old.cells.items) }
     requires inside { AreInside decls.now (length (seen made.old.cells.items)) (pointed made.old.pointers.items) held.old kinds.now }
@@ -91,38 +92,22 @@ fn operate_call(
     ensures ways { OnOk result (made.new.ways ≡ made.old.ways) }
     ensures exits { OnOk result (made.new.exits ≡ made.old.exits) }
 {
-    if insn.imm == 1 {
-        return operate_lookup(
-            &mut made.cells,
+    let cells = &mut made.cells;
+    let sites = &mut made.sites;
+    match Helper::known(insn.imm) {
+        Helper::Lookup => operate_lookup(
+            cells,
             &mut made.pointers,
-            &mut made.sites,
+            sites,
             held,
             kinds,
             insn,
             decls,
             here,
-        );
+        ),
+        Helper::Update => operate_update(cells, sites, held, kinds, insn, decls, here),
+        _ => operate_delete(cells, sites, held, kinds, insn, decls, here),
     }
-    if insn.imm == 2 {
-        return operate_update(
-            &mut made.cells,
-            &mut made.sites,
-            held,
-            kinds,
-            insn,
-            decls,
-            here,
-        );
-    }
-    operate_delete(
-        &mut made.cells,
-        &mut made.sites,
-        held,
-        kinds,
-        insn,
-        decls,
-        here,
-    )
 }
 
 // An access to an entry of a map.

@@ -1,16 +1,16 @@
 -- Origins where edges meet and after an instruction, place by place.
-use Rattle.std.proofs.Common.{◌≡◌, ◌∙◌, Bool, true, false, ℕ, zero, suc, ◌+◌, ◌-◌, ◌<◌, ◌≤◌, ◌⊎◌, inl, inr, nat_le, nat_lt, ◌&&◌, if◌then◌else◌, Option, Some, None, List, [], ◌∷◌, length, get_or, set, subst, refl, ap, max, arith, map}
+use Rattle.std.proofs.Common.{◌≡◌, ◌∙◌, Bool, true, false, ℕ, suc, ◌+◌, ◌-◌, ◌<◌, ◌≤◌, ◌⊎◌, inl, inr, nat_lt, if◌then◌else◌, Option, Some, None, List, [], ◌∷◌, length, get_or, set, subst, refl, ap, max, arith}
 use Rattle.std.specs.Prelude.{All}
-use Rattle.std.proofs.lemmas.Bool.{cases_lt, le-ltb, lt-leb}
-use Rattle.std.proofs.lemmas.List.{get_or_past, get_or-set_same, get_or-set_other, ext_get_or, length-map, get_or-map}
-use Rattle.cell_core.specs.Rows.{greatest, numbers}
+use Rattle.std.proofs.lemmas.Bool.{cases_lt}
+use Rattle.std.proofs.lemmas.List.{get_or-set_same, get_or-set_other}
 use Rattle.row_rules.specs.declared.place_rows.origin.Origin.{Origin}
 use Rattle.kind_core.specs.declared.kind.Kinds.{Kinds}
 use Rattle.row_rules.specs.declared.node_rows.joining.Arrival.{Arrival}
 use Rattle.row_rules.specs.NodeRows.Joining.{brings, edge_row, brought_row, all_bring, new_origin, met, first_brings, origin_at, origins_at}
 use Rattle.row_rules.specs.NodeRows.Passing.{IsLowArrival}
 use Rattle.row_rules.proofs.PlaceRows.PlaceLaws.{place_at, every_low}
-use Rattle.row_rules.specs.PlaceRows.Origins.{row_of, row_at, span_row, spans_row, every_row, by_place, has_data, origin_at_start}
+use Rattle.row_rules.specs.PlaceRows.Locations.{location_count, first_byte}
+use Rattle.row_rules.specs.PlaceRows.Origins.{row_of, every_row, by_place, has_data, origin_at_start}
 
 -- ---- where edges meet
 pub where_edges_meet : (es : List Arrival) (maker : ℕ) (k : Kinds) → 0 < length es → origins_at es maker k ≡ by_place (origin_at es maker k)
@@ -56,7 +56,7 @@ origin_low es maker k i h = by (has_data k i)
     by false = omega arith
 
 start_low : (i : ℕ) → row_of (origin_at_start i) ≤ 256
-start_low i = by (nat_lt i 75)
+start_low i = by (nat_lt i first_byte)
   where
     by : (b : Bool) → row_of (if b then None else Some (record { maker = 0; row = 0 })) ≤ 256
     by true = omega arith
@@ -74,7 +74,7 @@ kept_next f os n i h e l = by (cases_lt i n)
     by (inl m) = h i m
     by (inr m) = let is : n ≡ i = omega (arith, l, m) in subst (λ j. get_or os j None ≡ f j) is e
 
-pub set_next : (f : ℕ → Option Origin) (os new : List (Option Origin)) (n : ℕ) (o : Option Origin) (i : ℕ) → new ≡ set os n o → length os ≡ 348 → n < 348
+pub set_next : (f : ℕ → Option Origin) (os new : List (Option Origin)) (n : ℕ) (o : Option Origin) (i : ℕ) → new ≡ set os n o → length os ≡ location_count → n < location_count
     → ((j : ℕ) → j < n → get_or os j None ≡ f j) → o ≡ f n → i < n + 1 → get_or new i None ≡ f i
 set_next f os new n o i e count inside h is l = kept_next f new n i
     (λ j m. ap (λ xs. get_or xs j None) e ∙ get_or-set_other os n j o None (λ s. absurd (omega (arith, m, s))) ∙ h j m)

@@ -6,6 +6,7 @@ use Rattle.cell_core.specs.Rows.{greatest, numbers}
 use Rattle.cell_core.proofs.NumberLaws.{numbers_long}
 use Rattle.row_rules.specs.declared.place_rows.origin.Origin.{Origin}
 use Rattle.row_rules.specs.declared.place_rows.span.Span.{Span}
+use Rattle.row_rules.specs.PlaceRows.Locations.{location_count}
 use Rattle.row_rules.specs.PlaceRows.Origins.{row_of, row_at, span_row, spans_row, every_row, by_place}
 
 -- ---- numbers one after another
@@ -16,19 +17,19 @@ at-numbers from (suc n) zero d h = omega arith
 at-numbers from (suc n) (suc i) d h = at-numbers (suc from) n i d (omega (arith, h)) ∙ omega arith
 
 -- origins that are given place by place
-pub all_places : (f : ℕ → Option Origin) (os : List (Option Origin)) → length os ≡ 348 → ((i : ℕ) → i < 348 → get_or os i None ≡ f i) → os ≡ by_place f
+pub all_places : (f : ℕ → Option Origin) (os : List (Option Origin)) → length os ≡ location_count → ((i : ℕ) → i < location_count → get_or os i None ≡ f i) → os ≡ by_place f
 unfolding by_place
-all_places f os n h = ext_get_or None os (map f (numbers 0 348)) (n ∙ sym (numbers_long 0 348) ∙ sym (length-map (numbers 0 348) f)) (λ i l. let b : i < 348 = omega (arith, l, n) in
-    h i b ∙ sym (get_or-map f (numbers 0 348) i 0 None (omega (arith, b, numbers_long 0 348)) ∙ ap f (at-numbers 0 348 i 0 b ∙ omega arith)))
+all_places f os n h = ext_get_or None os (map f (numbers 0 location_count)) (n ∙ sym (numbers_long 0 location_count) ∙ sym (length-map (numbers 0 location_count) f)) (λ i l. let b : i < location_count = omega (arith, l, n) in
+    h i b ∙ sym (get_or-map f (numbers 0 location_count) i 0 None (omega (arith, b, numbers_long 0 location_count)) ∙ ap f (at-numbers 0 location_count i 0 b ∙ omega arith)))
 
 -- and one of them
-pub place_at : (f : ℕ → Option Origin) (i : ℕ) → i < 348 → get_or (by_place f) i None ≡ f i
+pub place_at : (f : ℕ → Option Origin) (i : ℕ) → i < location_count → get_or (by_place f) i None ≡ f i
 unfolding by_place
-place_at f i h = get_or-map f (numbers 0 348) i 0 None (omega (arith, h, numbers_long 0 348)) ∙ ap f (at-numbers 0 348 i 0 h ∙ omega arith)
+place_at f i h = get_or-map f (numbers 0 location_count) i 0 None (omega (arith, h, numbers_long 0 location_count)) ∙ ap f (at-numbers 0 location_count i 0 h ∙ omega arith)
 
-pub count_places : (f : ℕ → Option Origin) → length (by_place f) ≡ 348
+pub count_places : (f : ℕ → Option Origin) → length (by_place f) ≡ location_count
 unfolding by_place
-count_places f = length-map (numbers 0 348) f ∙ numbers_long 0 348
+count_places f = length-map (numbers 0 location_count) f ∙ numbers_long 0 location_count
 
 -- ---- the greatest row
 pub greatest_split : (row : ℕ → ℕ) (from end most : ℕ) → from < end → max most (greatest row (numbers from (end - from))) ≡ max (max most (row from)) (greatest row (numbers (from + 1) (end - (from + 1))))
@@ -68,26 +69,26 @@ greatest_above row from zero i low high = absurd (omega (arith, low, high))
 greatest_above row from (suc n) i low high = above_first row from n i (λ l h m. greatest_above row (suc from) n i m h) low high
 
 -- where no row exceeds a number, those of spans do not
-pub row_low : (os : List (Option Origin)) (most i : ℕ) → length os ≡ 348 → every_row os ≤ most → row_at os i ≤ most
+pub row_low : (os : List (Option Origin)) (most i : ℕ) → length os ≡ location_count → every_row os ≤ most → row_at os i ≤ most
 unfolding every_row
-row_low os most i n h = by (cases_lt i 348)
+row_low os most i n h = by (cases_lt i location_count)
   where
     trans_le : {a b c : ℕ} → a ≤ b → b ≤ c → a ≤ c
     trans_le p q = omega (arith, p, q)
 
-    by : (i < 348) ⊎ (348 ≤ i) → row_at os i ≤ most
-    by (inl l) = let above = greatest_above (row_at os) 0 348 i (omega arith) (omega (arith, l)) in trans_le above h
+    by : (i < location_count) ⊎ (location_count ≤ i) → row_at os i ≤ most
+    by (inl l) = let above = greatest_above (row_at os) 0 location_count i (omega arith) (omega (arith, l)) in trans_le above h
     by (inr l) = omega (arith, ap row_of (get_or_past os i None (omega (arith, n, l))))
 
 -- and back
-pub every_low : (os : List (Option Origin)) (most : ℕ) → ((i : ℕ) → i < 348 → row_at os i ≤ most) → every_row os ≤ most
+pub every_low : (os : List (Option Origin)) (most : ℕ) → ((i : ℕ) → i < location_count → row_at os i ≤ most) → every_row os ≤ most
 unfolding every_row
-every_low os most h = greatest_within (row_at os) most 0 348 (λ i low high. h i (omega (arith, high)))
+every_low os most h = greatest_within (row_at os) most 0 location_count (λ i low high. h i (omega (arith, high)))
 
-pub span_low : (os : List (Option Origin)) (most : ℕ) (s : Span) → length os ≡ 348 → every_row os ≤ most → span_row os s ≤ most
+pub span_low : (os : List (Option Origin)) (most : ℕ) (s : Span) → length os ≡ location_count → every_row os ≤ most → span_row os s ≤ most
 span_low os most s n h = greatest_within (row_at os) most s.from (s.end - s.from) (λ i low high. row_low os most i n h)
 
-pub spans_low : (os : List (Option Origin)) (most : ℕ) (ss : List Span) → length os ≡ 348 → every_row os ≤ most → spans_row os ss ≤ most
+pub spans_low : (os : List (Option Origin)) (most : ℕ) (ss : List Span) → length os ≡ location_count → every_row os ≤ most → spans_row os ss ≤ most
 spans_low os most [] n h = omega arith
 spans_low os most (s ∷ ss) n h = omega (arith, span_low os most s n h, spans_low os most ss n h)
 

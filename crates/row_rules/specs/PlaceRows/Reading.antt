@@ -1,6 +1,5 @@
 -- What an instruction reads for its result, and whether the result takes a stage of its own.
-use Rattle.std.specs.Prelude.{ℕ, ◌+◌, ℤ, pos, not, Bool, true, false, if◌then◌else◌, List, [], ◌∷◌}
-use Rattle.std.specs.Ordering.{int_eq}
+use Rattle.std.specs.Prelude.{ℕ, ◌+◌, ℤ, not, Bool, true, false, if◌then◌else◌, List, [], ◌∷◌}
 use Rattle.xdp_state.specs.bpf_isa.declared.operation.AluCode.{AluCode}
 use Rattle.xdp_state.specs.bpf_isa.declared.operation.AluCode.TheVariants.{Add, Sub, Mul, Div, Mod, Mov, Lsh, Rsh, Arsh}
 use Rattle.xdp_state.specs.bpf_isa.declared.operation.Size.{Size}
@@ -10,6 +9,7 @@ use Rattle.xdp_state.specs.bpf_isa.declared.operation.Src.TheVariants.{K, X}
 use Rattle.xdp_state.specs.bpf_isa.declared.operation.Op.{Op}
 use Rattle.xdp_state.specs.bpf_isa.declared.operation.Op.TheVariants.{Alu, Neg, End, Swap, Call, Load, LoadSigned, StoreImm, Store, Atomic}
 use Rattle.xdp_state.specs.bpf_isa.declared.instruction.Insn.{Insn}
+use Rattle.xdp_state.specs.bpf_isa.Helpers.{helper_of}
 use Rattle.xdp_state.specs.xdp_maps.declared.decl.MapDecl.{MapDecl}
 use Rattle.xdp_state.specs.xdp_machine.Memory.{bytes_in}
 use Rattle.kind_core.specs.declared.number.Number.TheVariants.{Known}
@@ -20,11 +20,8 @@ use Rattle.kind_core.specs.Kinds.{register}
 use Rattle.kind_core.specs.Access.{compares}
 use Rattle.row_rules.specs.declared.place_rows.span.Span.{Span}
 use Rattle.cell_core.specs.Cells.{bit}
-use Rattle.row_rules.specs.PlaceRows.Spans.{no_place, one, target, region, map_of, pending_of, key_in, spans_row}
-
--- the key that a call is given
-abbrev pub key_span : List MapDecl → Kinds → Span
-key_span decls k = region (register k 2) (pos 0) (key_in decls (map_of (register k 1)))
+use Rattle.row_rules.specs.PlaceRows.Spans.{no_place, one, region, pending_of, spans_row}
+use Rattle.row_rules.specs.PlaceRows.Calls.{call_reads}
 
 -- the operands of arithmetic: a move reads its source alone
 abbrev pub left_of : Insn → AluCode → Span
@@ -34,15 +31,6 @@ left_of i c = one i.dst
 abbrev pub right_of : Insn → Src → Span
 right_of i K = no_place
 right_of i X = one i.src
-
--- A lookup and a delete read the key, an update also the flags, and all what is pending of the map; a redirect reads both numbers and the target.
-abbrev pub call_reads : List MapDecl → Kinds → ℤ → List Span
-call_reads decls k id =
-    if int_eq id (pos 1) then key_span decls k ∷ pending_of (register k 1) ∷ no_place ∷ no_place ∷ [] else
-    if int_eq id (pos 2) then key_span decls k ∷ one 4 ∷ pending_of (register k 1) ∷ no_place ∷ [] else
-    if int_eq id (pos 3) then key_span decls k ∷ pending_of (register k 1) ∷ no_place ∷ no_place ∷ [] else
-    if int_eq id (pos 23) then one 1 ∷ one 2 ∷ target ∷ no_place ∷ [] else
-    no_place ∷ no_place ∷ no_place ∷ no_place ∷ []
 
 -- a store of less than eight bytes reads the slot of which it leaves a part
 abbrev pub in_slot : Kind → ℤ → Size → Span
@@ -69,7 +57,7 @@ reads_as decls k i (LoadSigned size) = one i.src ∷ region (register k i.src) i
 reads_as decls k i (StoreImm size) = left_over k i size ∷ no_place ∷ no_place ∷ no_place ∷ []
 reads_as decls k i (Store size) = one i.src ∷ left_over k i size ∷ no_place ∷ no_place ∷ []
 reads_as decls k i (Atomic size) = one i.dst ∷ one i.src ∷ compared_span i ∷ pending_of (register k i.dst) ∷ []
-reads_as decls k i Call = call_reads decls k i.imm
+reads_as decls k i Call = call_reads decls k (helper_of i.imm)
 reads_as decls k i op = no_place ∷ no_place ∷ no_place ∷ no_place ∷ []
 
 -- ---- heavy results

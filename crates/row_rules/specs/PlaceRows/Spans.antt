@@ -1,21 +1,22 @@
--- Data places by their numbers: 11 registers, 64 slots of the stack, 256 bytes of the packet, the target of a redirect, and what is pending of
--- 16 maps.
+-- Data locations that follow one another, by their numbers.
 use Rattle.std.specs.Prelude.{ℕ, ℤ, pos, ◌+◌, ◌-◌, ◌/◌, ◌+ℤ◌, max, nat_le, nat_lt, ◌&&◌, Bool, unsigned_abs, Option, Some, None, List, [], ◌∷◌}
 use Rattle.xdp_state.specs.xdp_maps.declared.decl.MapDecl.{MapDecl}
 use Rattle.kind_core.specs.declared.kind.Kind.{Kind}
 use Rattle.kind_core.specs.declared.kind.Kind.TheVariants.{Packet, Stack, MapRef, Entry}
 use Rattle.kind_core.specs.Kinds as kind
 use Rattle.cell_core.specs.Rows.{greatest, numbers}
+use Rattle.row_rules.specs.declared.place_rows.location.Location.TheVariants.{StackSlot, PacketByte, Target, PendingWrites}
+use Rattle.row_rules.specs.PlaceRows.Locations.{location_number}
 use Rattle.row_rules.specs.declared.place_rows.span.Span.{Span}
 
 abbrev pub slot : ℕ → ℕ
-slot s = 11 + s
+slot s = location_number (StackSlot s)
 
 abbrev pub byte : ℕ → ℕ
-byte i = 75 + i
+byte i = location_number (PacketByte i)
 
 abbrev pub pending_place : ℕ → ℕ
-pending_place q = 332 + q
+pending_place q = location_number (PendingWrites q)
 
 abbrev pub no_place : Span
 no_place = record { from = 0; end = 0 }
@@ -24,7 +25,7 @@ abbrev pub one : ℕ → Span
 one place = record { from = place; end = place + 1 }
 
 abbrev pub target : Span
-target = one 331
+target = one (location_number Target)
 
 abbrev pub pending : ℕ → Span
 pending q = one (pending_place q)

@@ -1,11 +1,11 @@
 -- Where an instruction writes its result, and what it may write into a map.
-use Rattle.std.specs.Prelude.{ℕ, ◌-◌, max, Bool, ℤ, pos, if◌then◌else◌, Option, Some, None, List, [], ◌∷◌}
+use Rattle.std.specs.Prelude.{ℕ, ◌-◌, max, Bool, if◌then◌else◌, Option, Some, None, List, [], ◌∷◌}
 use Rattle.std.specs.List.{list_any}
-use Rattle.std.specs.Ordering.{int_eq}
 use Rattle.std.specs.Int.{w64, cast_unsigned}
 use Rattle.xdp_state.specs.bpf_isa.declared.operation.Op.{Op}
 use Rattle.xdp_state.specs.bpf_isa.declared.operation.Op.TheVariants.{Alu, Neg, End, Swap, Call, LoadImm, Load, LoadSigned, StoreImm, Store, Atomic}
 use Rattle.xdp_state.specs.bpf_isa.declared.instruction.Insn.{Insn}
+use Rattle.xdp_state.specs.bpf_isa.Helpers.{helper_of}
 use Rattle.xdp_state.specs.xdp_maps.declared.decl.MapDecl.{MapDecl}
 use Rattle.xdp_state.specs.xdp_machine.Memory.{bytes_in}
 use Rattle.xdp_state.specs.xdp_machine.Atomics.{fetches}
@@ -17,9 +17,10 @@ use Rattle.kind_core.specs.Access.{compares}
 use Rattle.cell_core.specs.Rows.{numbers}
 use Rattle.row_rules.specs.declared.place_rows.span.Span.{Span}
 use Rattle.row_rules.specs.declared.place_rows.recording.Record.{Record}
-use Rattle.row_rules.specs.PlaceRows.Spans.{no_place, one, target, region, map_of, value_in, spans_row}
+use Rattle.row_rules.specs.PlaceRows.Spans.{no_place, one, region, map_of, spans_row}
 use Rattle.row_rules.specs.PlaceRows.Origins.{has_data}
-use Rattle.row_rules.specs.PlaceRows.Reading.{key_span, compared_span, result_row}
+use Rattle.row_rules.specs.PlaceRows.Calls.{call_writes, called_on}
+use Rattle.row_rules.specs.PlaceRows.Reading.{compared_span, result_row}
 
 -- the old value goes into R0 or the source
 abbrev pub old_value : Insn → Span
@@ -36,7 +37,7 @@ writes_as k i (LoadSigned size) = one i.dst ∷ no_place ∷ []
 writes_as k i (StoreImm size) = region (register k i.dst) i.offset (bytes_in size) ∷ no_place ∷ []
 writes_as k i (Store size) = region (register k i.dst) i.offset (bytes_in size) ∷ no_place ∷ []
 writes_as k i (Atomic size) = old_value i ∷ no_place ∷ []
-writes_as k i Call = one 0 ∷ (if int_eq i.imm (pos 23) then target else no_place) ∷ []
+writes_as k i Call = one 0 ∷ call_writes (helper_of i.imm) ∷ []
 writes_as k i op = no_place ∷ no_place ∷ []
 
 -- ---- writes of maps
@@ -45,20 +46,12 @@ abbrev pub through : Kind → List Span → Option Record
 through (Entry q o) takes = Some (record { map = q; takes = takes })
 through k takes = None
 
--- by a helper: an update takes the key and the value, a delete the key
-abbrev pub called_on : List MapDecl → Kinds → ℤ → Option ℕ → Option Record
-called_on decls k id None = None
-called_on decls k id (Some q) =
-    if int_eq id (pos 2) then Some (record { map = q; takes = key_span decls k ∷ region (register k 3) (pos 0) (value_in decls (Some q)) ∷ no_place ∷ [] }) else
-    if int_eq id (pos 3) then Some (record { map = q; takes = key_span decls k ∷ no_place ∷ no_place ∷ [] }) else
-    None
-
 -- The write of a map that an instruction may make, and what it takes: of a store and an atomic change the pointer, the source, and what is compared.
 abbrev pub record_as : List MapDecl → Kinds → Insn → Op → Option Record
 record_as decls k i (StoreImm size) = through (register k i.dst) (one i.dst ∷ no_place ∷ no_place ∷ [])
 record_as decls k i (Store size) = through (register k i.dst) (one i.dst ∷ one i.src ∷ no_place ∷ [])
 record_as decls k i (Atomic size) = through (register k i.dst) (one i.dst ∷ one i.src ∷ compared_span i ∷ [])
-record_as decls k i Call = called_on decls k i.imm (map_of (register k 1))
+record_as decls k i Call = called_on decls k (helper_of i.imm) (map_of (register k 1))
 record_as decls k i op = None
 
 -- ---- rows

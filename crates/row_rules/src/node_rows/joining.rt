@@ -1,9 +1,11 @@
 // Where edges meet.
 
 ghost use Rattle.std.specs.Prelude.{◌≡◌, ◌<◌, length};
+ghost use Rattle.row_rules.specs.PlaceRows.Locations.{location_count};
 ghost use Rattle.row_rules.specs.NodeRows.Joining.{brings, edge_row, brought_row, all_bring, met, first_brings, origins_at};
 
-use crate::place_rows::origin::{Origin, Origins, PLACES, has_data, row_of};
+use crate::place_rows::location::LOCATIONS;
+use crate::place_rows::origin::{Origin, Origins, has_data, row_of};
 use kind_core::Kinds;
 
 /// An edge that leads to a node: its row, what is known on it, and the origins after the node that it leaves.
@@ -17,7 +19,7 @@ pub struct Arrival {
 impl Arrival {
     /// The origin that an edge brings: none where there is no data on it.
     fn brings(&self, place: usize) -> Option<Origin>
-        requires { place < 348 }
+        requires { place < location_count }
         ensures { result ≡ brings self.now place }
     {
         if has_data(&self.kinds, place) {
@@ -41,7 +43,7 @@ pub(crate) fn edge_row(arrivals: &[Arrival]) -> u32
 
 // The greatest row that edges bring to a place.
 fn brought_row(arrivals: &[Arrival], place: usize) -> u32
-    requires { place < 348 }
+    requires { place < location_count }
     ensures { result ≡ brought_row arrivals.now place }
 {
     let mut most = 0;
@@ -53,7 +55,7 @@ fn brought_row(arrivals: &[Arrival], place: usize) -> u32
 
 // Whether all edges bring this origin.
 fn all_bring(arrivals: &[Arrival], place: usize, origin: Origin) -> bool
-    requires { place < 348 }
+    requires { place < location_count }
     ensures { result ≡ all_bring arrivals.now place origin }
 {
     for arrival in arrivals {
@@ -67,7 +69,7 @@ fn all_bring(arrivals: &[Arrival], place: usize, origin: Origin) -> bool
 // The origin where edges meet: the one that all bring, or a new one in the greatest row of these and of the edges.
 fn meet(arrivals: &[Arrival], maker: u32, place: usize) -> Option<Origin>
     requires some { 0 < length arrivals.now }
-    requires place { place < 348 }
+    requires place { place < location_count }
     ensures { result ≡ met arrivals.now maker place (first_brings arrivals.now place) }
 {
     if let Some(origin) = arrivals[0].brings(place) {
@@ -86,8 +88,8 @@ pub(crate) fn join(arrivals: &[Arrival], maker: u32, kinds: &Kinds) -> Origins
     if arrivals.is_empty() {
         return Origins::start();
     }
-    let mut places = [None; 348];
-    for place in 0..PLACES {
+    let mut places = [None; LOCATIONS];
+    for place in 0..LOCATIONS {
         if has_data(kinds, place) {
             places[place] = meet(arrivals, maker, place);
         }

@@ -3,15 +3,17 @@
 ghost use Rattle.std.specs.Prelude.{◌≡◌, ◌<◌, ◌≤◌, ◌∷◌, [], ℕ, max, if◌then◌else◌, length, None, get_or};
 ghost use Rattle.xdp_state.specs.bpf_isa.Spelling.{IsInsn};
 ghost use Rattle.xdp_state.specs.Reasons.{most_stages};
+ghost use Rattle.row_rules.specs.PlaceRows.Locations.{location_count};
 ghost use Rattle.row_rules.specs.PlaceRows.Spans.{one};
 ghost use Rattle.row_rules.specs.PlaceRows.Reading.{right_of};
 ghost use Rattle.row_rules.specs.PlaceRows.Origins.{span_row, spans_row, every_row};
 ghost use Rattle.row_rules.specs.NodeRows.Passing.{leaving_row, result_row, is_some_place, written, noted, origins_behind, behind};
 
-use crate::place_rows::origin::{Origin, Origins, PLACES, has_data};
+use crate::place_rows::location::{LOCATIONS, Location};
+use crate::place_rows::origin::{Origin, Origins, has_data};
 use crate::place_rows::reading::{reads, takes_stage};
 use crate::place_rows::recording::{Record, record_of};
-use crate::place_rows::span::{PENDING, Span, pending, register};
+use crate::place_rows::span::{Span, pending, register};
 use crate::place_rows::writing::writes;
 use kind_core::{Kinds, decide};
 use xdp_state::bpf_isa::{Insn, Op, Src};
@@ -27,7 +29,7 @@ pub struct AfterNode {
 
 // Origins are those of all places.
 fn are_all(origins: &Origins)
-    ensures { length origins.now.places ≡ 348 }
+    ensures { length origins.now.places ≡ location_count }
 {
     let _places: &[Option<Origin>] = &origins.places;
 }
@@ -101,10 +103,10 @@ fn least_row(places: &[Span; 2], guard: u32, row: u32) -> u32
 
 // A result is in these places, where there is data in them.
 fn write_span(origins: &mut Origins, after: &Kinds, span: Span, origin: Origin)
-    ensures { (place : ℕ) → place < 348 → get_or origins.new.places place None ≡ written after.now (span ∷ []) origin origins.old.places place }
+    ensures { (place : ℕ) → place < location_count → get_or origins.new.places place None ≡ written after.now (span ∷ []) origin origins.old.places place }
 {
     for place in span.from..span.end {
-        if place < PLACES {
+        if place < LOCATIONS {
             origins.places[place] = if has_data(after, place) {
                 Some(origin)
             } else {
@@ -116,7 +118,7 @@ fn write_span(origins: &mut Origins, after: &Kinds, span: Span, origin: Origin)
 
 // The same of several spans.
 fn write_spans(origins: &mut Origins, after: &Kinds, spans: &[Span], origin: Origin)
-    ensures { (place : ℕ) → place < 348 → get_or origins.new.places place None ≡ written after.now spans.now origin origins.old.places place }
+    ensures { (place : ℕ) → place < location_count → get_or origins.new.places place None ≡ written after.now spans.now origin origins.old.places place }
 {
     for span in spans {
         write_span(origins, after, *span, origin);
@@ -125,13 +127,13 @@ fn write_spans(origins: &mut Origins, after: &Kinds, spans: &[Span], origin: Ori
 
 // What is pending of a map after a write of it.
 fn note(origins: &mut Origins, before: &Origins, write: Option<Record>, maker: u32, least: u32)
-    ensures { (place : ℕ) → place < 348 → get_or origins.new.places place None ≡ noted before.now.places write maker least place (get_or origins.old.places place None) }
+    ensures { (place : ℕ) → place < location_count → get_or origins.new.places place None ≡ noted before.now.places write maker least place (get_or origins.old.places place None) }
 {
     if let Some(write) = write {
         let own = before.span_row(pending(write.map));
         let row = least.max(own).max(greatest(before, &write.takes));
-        let place = PENDING + write.map as usize;
-        if place < PLACES {
+        let place = Location::PendingWrites(write.map).number();
+        if place < LOCATIONS {
             origins.places[place] = Some(Origin { maker, row });
         }
     }

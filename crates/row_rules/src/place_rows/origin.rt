@@ -1,13 +1,12 @@
 // The origins of data places.
 
-ghost use Rattle.std.specs.Prelude.{◌≡◌};
+ghost use Rattle.std.specs.Prelude.{◌≡◌, ◌<◌};
+ghost use Rattle.row_rules.specs.PlaceRows.Locations.{location_count};
 ghost use Rattle.row_rules.specs.PlaceRows.Origins.{is_open, has_data, row_of, row_at, span_row, every_row, by_place, origin_at_start};
 
-use crate::place_rows::span::{BYTES, EVERY, Span};
+use crate::place_rows::location::{FIRST_BYTE, LOCATIONS, Location};
+use crate::place_rows::span::{EVERY, Span};
 use kind_core::{Kind, Kinds, Number};
-
-/// How many data places there are.
-pub const PLACES: usize = 348;
 
 /// What made the value of a data place: the number of a node, from 1 on, or 0 of what is there at the start; and in which row.
 #[derive(Copy, Clone, Debug, PartialEq, Eq)]
@@ -19,7 +18,7 @@ pub struct Origin {
 /// The origins of all data places: none where nothing is made, since the kind says by itself what the value is.
 #[derive(Copy, Clone)]
 pub struct Origins {
-    pub places: [Option<Origin>; 348],
+    pub places: [Option<Origin>; LOCATIONS],
 }
 
 // Whether a kind leaves a value open: a number that is not known, or a pointer to an entry.
@@ -34,14 +33,13 @@ fn is_open(kind: Kind) -> bool
 
 /// Whether there is data in a place.
 pub fn has_data(kinds: &Kinds, place: usize) -> bool
+    requires { place < location_count }
     ensures { result ≡ has_data kinds.now place }
 {
-    if place < 11 {
-        is_open(kinds.registers[place])
-    } else if place < BYTES {
-        is_open(kinds.slots[place - 11])
-    } else {
-        true
+    match Location::of(place) {
+        Location::Register(r) => is_open(kinds.registers[r as usize]),
+        Location::StackSlot(s) => is_open(kinds.slots[s as usize]),
+        Location::PacketByte(_) | Location::Target | Location::PendingWrites(_) => true,
     }
 }
 
@@ -60,8 +58,8 @@ impl Origins {
     pub fn start() -> Origins
         ensures { result.places ≡ by_place origin_at_start }
     {
-        let mut places = [None; 348];
-        for place in BYTES..PLACES {
+        let mut places = [None; LOCATIONS];
+        for place in FIRST_BYTE..LOCATIONS {
             places[place] = Some(Origin { maker: 0, row: 0 });
         }
         Origins { places }
@@ -71,7 +69,7 @@ impl Origins {
     pub fn row_at(&self, place: usize) -> u32
         ensures { result ≡ row_at self.now.places place }
     {
-        if place < PLACES {
+        if place < LOCATIONS {
             row_of(self.places[place])
         } else {
             0

@@ -3,14 +3,15 @@
 ghost use Rattle.std.specs.Prelude.{◌≡◌, ◌≤◌, ◌∷◌, []};
 ghost use Rattle.xdp_state.specs.bpf_isa.Spelling.{IsInsn};
 ghost use Rattle.kind_core.specs.Access.{compares};
-ghost use Rattle.row_rules.specs.PlaceRows.Reading.{key_span, left_of, right_of, call_reads, left_over, reads_as, is_number, is_entry, is_known, shifts_openly, is_heavy};
+ghost use Rattle.row_rules.specs.PlaceRows.Reading.{left_of, right_of, left_over, reads_as, is_number, is_entry, is_known, shifts_openly, is_heavy};
 ghost use Rattle.row_rules.specs.PlaceRows.Spans.{no_place};
 ghost use Rattle.xdp_state.specs.xdp_machine.Atomics.{fetches};
 ghost use Rattle.std.specs.Int.{w64, cast_unsigned};
 
-use crate::place_rows::span::{NONE, Span, TARGET, key_bytes, pending_of, region, register};
+use crate::place_rows::calls::call_reads;
+use crate::place_rows::span::{NONE, Span, pending_of, region, register};
 use kind_core::{Kind, Kinds, Number};
-use xdp_state::bpf_isa::{AluCode, Insn, Op, Size, Src};
+use xdp_state::bpf_isa::{AluCode, Helper, Insn, Op, Size, Src};
 use xdp_state::memory::bytes_in;
 use xdp_state::xdp_maps::decl::MapDecl;
 
@@ -29,13 +30,6 @@ pub fn fetches(insn: &Insn) -> bool
     insn.imm.cast_unsigned() % 2 == 1
 }
 
-/// The key that a call is given.
-pub fn key(decls: &[MapDecl], kinds: &Kinds) -> Span
-    ensures { result ≡ key_span decls.now kinds.now }
-{
-    region(kinds.registers[2], 0, key_bytes(decls, kinds.registers[1]))
-}
-
 // What arithmetic reads.
 fn operands(insn: &Insn, code: AluCode, src: Src) -> [Span; 4]
     ensures { result ≡ left_of insn.now code ∷ right_of insn.now src ∷ no_place ∷ no_place ∷ [] }
@@ -49,27 +43,6 @@ fn operands(insn: &Insn, code: AluCode, src: Src) -> [Span; 4]
         Src::X => register(insn.src),
     };
     [a, b, NONE, NONE]
-}
-
-// What a helper reads: of the operations on maps the key, the flags, and what is pending of the map; of a redirect both numbers and the target.
-fn call_reads(decls: &[MapDecl], kinds: &Kinds, helper: i64) -> [Span; 4]
-    ensures { result ≡ call_reads decls.now kinds.now helper }
-{
-    let pending = pending_of(kinds.registers[1]);
-    match helper {
-        1 | 3 => [key(decls, kinds), pending, NONE, NONE],
-        2 => [key(decls, kinds), register(4), pending, NONE],
-        23 => [
-            register(1),
-            register(2),
-            Span {
-                from: TARGET,
-                end: TARGET + 1,
-            },
-            NONE,
-        ],
-        _ => [NONE, NONE, NONE, NONE],
-    }
 }
 
 // The slot of which a store leaves a part.
@@ -117,7 +90,7 @@ pub fn reads(decls: &[MapDecl], kinds: &Kinds, insn: &Insn) -> [Span; 4]
                 pending_of(kinds.registers[insn.dst as usize]),
             ]
         }
-        Op::Call => call_reads(decls, kinds, insn.imm),
+        Op::Call => call_reads(decls, kinds, Helper::of(insn.imm)),
         _ => [NONE, NONE, NONE, NONE],
     }
 }

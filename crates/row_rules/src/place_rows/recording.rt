@@ -2,14 +2,13 @@
 
 ghost use Rattle.std.specs.Prelude.{◌≡◌};
 ghost use Rattle.xdp_state.specs.bpf_isa.Spelling.{IsInsn};
-ghost use Rattle.row_rules.specs.PlaceRows.Spans.{map_of};
-ghost use Rattle.row_rules.specs.PlaceRows.Writing.{through, called_on, record_as};
-ghost use Rattle.kind_core.specs.Kinds as kind;
+ghost use Rattle.row_rules.specs.PlaceRows.Writing.{through, record_as};
 
-use crate::place_rows::reading::{compares, key};
-use crate::place_rows::span::{NONE, Span, map_of, region, register, value_bytes};
+use crate::place_rows::calls::called_on;
+use crate::place_rows::reading::compares;
+use crate::place_rows::span::{NONE, Span, register};
 use kind_core::{Kind, Kinds};
-use xdp_state::bpf_isa::{Insn, Op};
+use xdp_state::bpf_isa::{Helper, Insn, Op};
 use xdp_state::xdp_maps::decl::MapDecl;
 
 /// A write of a map, and the places that it takes: of an update the key and the value, of a delete the key, of a store and of an atomic
@@ -30,32 +29,6 @@ fn through(base: Kind, takes: [Span; 3]) -> Option<Record>
     }
 }
 
-// A write by a helper.
-fn called(decls: &[MapDecl], kinds: &Kinds, helper: i64) -> Option<Record>
-    ensures { result ≡ called_on decls.now kinds.now helper (map_of (kind.register kinds.now 1)) }
-{
-    let map = map_of(kinds.registers[1])?;
-    let key = key(decls, kinds);
-    match helper {
-        2 => {
-            let value = region(
-                kinds.registers[3],
-                0,
-                value_bytes(decls, kinds.registers[1]),
-            );
-            Some(Record {
-                map,
-                takes: [key, value, NONE],
-            })
-        }
-        3 => Some(Record {
-            map,
-            takes: [key, NONE, NONE],
-        }),
-        _ => None,
-    }
-}
-
 /// The write of a map that an instruction may make.
 pub fn record_of(decls: &[MapDecl], kinds: &Kinds, insn: &Insn) -> Option<Record>
     requires { IsInsn insn.now }
@@ -69,7 +42,7 @@ pub fn record_of(decls: &[MapDecl], kinds: &Kinds, insn: &Insn) -> Option<Record
             let compared = if compares(insn) { register(0) } else { NONE };
             through(base, [register(insn.dst), register(insn.src), compared])
         }
-        Op::Call => called(decls, kinds, insn.imm),
+        Op::Call => called_on(decls, kinds, Helper::of(insn.imm)),
         _ => None,
     }
 }

@@ -1,56 +1,59 @@
-// Data places by their numbers: 11 registers, 64 slots of the stack, 256 bytes of the packet, the target, and what is pending of 16 maps.
+// Data locations that follow one another.
 
 ghost use Rattle.std.specs.Prelude.{◌≡◌};
-ghost use Rattle.row_rules.specs.PlaceRows.Spans.{one, pending, region, map_of, pending_of, key_in, value_in};
+ghost use Rattle.row_rules.specs.PlaceRows.Locations.{location_number};
+ghost use Rattle.row_rules.specs.PlaceRows.Spans.{one, target, pending, region, map_of, pending_of, key_in, value_in};
 
+use crate::place_rows::location::{FIRST_BYTE, FIRST_SLOT, LOCATIONS, Location};
 use kind_core::Kind;
 use xdp_state::xdp_maps::decl::MapDecl;
 
-/// The number of the first slot.
-pub const SLOTS: usize = 11;
-
-/// The number of the packet's first byte.
-pub const BYTES: usize = 75;
-
-/// The number of the target.
-pub const TARGET: usize = 331;
-
-/// The number of what is pending of map 0.
-pub const PENDING: usize = 332;
-
-/// Data places that follow one another, up to the one before `end`.
+/// Data locations that follow one another, by their numbers, up to the one before `end`.
 #[derive(Copy, Clone, Debug, PartialEq, Eq)]
 pub struct Span {
     pub from: usize,
     pub end: usize,
 }
 
-/// No place.
+/// No location.
 pub const NONE: Span = Span { from: 0, end: 0 };
 
-/// All data places.
-pub const EVERY: Span = Span { from: 0, end: 348 };
+/// All data locations.
+pub const EVERY: Span = Span {
+    from: 0,
+    end: LOCATIONS,
+};
 
-/// A register.
-pub fn register(r: u8) -> Span
-    ensures { result ≡ one r }
+/// One location.
+fn one(location: Location) -> Span
+    ensures { result ≡ one (location_number location) }
 {
-    let from = r as usize;
+    let from = location.number();
     Span {
         from,
         end: from + 1,
     }
 }
 
+/// A register.
+pub fn register(r: u8) -> Span
+    ensures { result ≡ one r }
+{
+    one(Location::Register(r))
+}
+
+/// The target of a redirect.
+pub fn target() -> Span
+    ensures { result ≡ target }
+{
+    one(Location::Target)
+}
+
 /// What is pending of a map.
 pub fn pending(map: u32) -> Span
     ensures { result ≡ pending map }
 {
-    let from = PENDING + map as usize;
-    Span {
-        from,
-        end: from + 1,
-    }
+    one(Location::PendingWrites(map))
 }
 
 /// The slots or the bytes of so many bytes from a pointer on; none of other kinds.
@@ -61,15 +64,15 @@ pub fn region(base: Kind, offset: i16, count: u32) -> Span
         Kind::Stack(o) => {
             let at = (i32::from(o) + i32::from(offset) + 512).unsigned_abs() as usize;
             Span {
-                from: SLOTS + at / 8,
-                end: SLOTS + (at + count as usize + 7) / 8,
+                from: FIRST_SLOT + at / 8,
+                end: FIRST_SLOT + (at + count as usize + 7) / 8,
             }
         }
         Kind::Packet(o) => {
             let at = (i32::from(o) + i32::from(offset)).unsigned_abs() as usize;
             Span {
-                from: BYTES + at,
-                end: BYTES + at + count as usize,
+                from: FIRST_BYTE + at,
+                end: FIRST_BYTE + at + count as usize,
             }
         }
         _ => NONE,

@@ -4,10 +4,11 @@ ghost use Rattle.std.specs.Prelude.{◌≡◌};
 ghost use Rattle.xdp_state.specs.bpf_isa.Spelling.{IsInsn};
 ghost use Rattle.row_rules.specs.PlaceRows.Writing.{writes_as};
 
+use crate::place_rows::calls::call_writes;
 use crate::place_rows::reading::{compares, fetches};
-use crate::place_rows::span::{NONE, Span, TARGET, region, register};
+use crate::place_rows::span::{NONE, Span, region, register};
 use kind_core::Kinds;
-use xdp_state::bpf_isa::{Insn, Op};
+use xdp_state::bpf_isa::{Helper, Insn, Op};
 use xdp_state::memory::bytes_in;
 
 /// The places in which an instruction writes its result.
@@ -33,17 +34,7 @@ pub fn writes(kinds: &Kinds, insn: &Insn) -> [Span; 2]
                 [NONE, NONE]
             }
         }
-        Op::Call => {
-            let target = if insn.imm == 23 {
-                Span {
-                    from: TARGET,
-                    end: TARGET + 1,
-                }
-            } else {
-                NONE
-            };
-            [register(0), target]
-        }
+        Op::Call => [register(0), call_writes(Helper::of(insn.imm))],
         _ => [NONE, NONE],
     }
 }

@@ -2,10 +2,7 @@ use Rattle.operator_cells.specs.HeldCells.RegisterCells.{pointed}
 use Rattle.register_cells.proofs.plain.carry_plain.Goals as goal
 
 pub returns-in-Call-clause-rows : goal.returns-in-Call-clause-rows
-returns-in-Call-clause-rows c = λ decls node is_ref allowed. c.carry_time.ensures.rows decls (pointed c.args.pointers.now) node is_ref allowed
-
-pub returns-in-Call-2-clause-rows : goal.returns-in-Call-2-clause-rows
-returns-in-Call-2-clause-rows c = λ decls node is_ref allowed. c.carry_redirect.ensures.rows decls (pointed c.args.pointers.now) node is_ref allowed
+returns-in-Call-clause-rows c = λ decls node is_ref allowed. c.carry_call.ensures.rows decls (pointed c.args.pointers.now) node is_ref allowed
 
 pub returns-in_default-clause-carries : goal.returns-in_default-clause-carries
 returns-in_default-clause-carries c = λ decls node is_ref allowed inside. c.carry_register.ensures.carries decls (pointed c.args.pointers.now) node is_ref allowed inside

@@ -1,6 +1,7 @@
 use Rattle.std.proofs.Common.{◌≡◌, ◌∙◌, ℕ, zero, suc, ◌<◌, ◌≤◌, ◌==◌, ◌⊎◌, inl, inr, Bool, false, if◌then◌else◌, Option, None, length, get_or, replicate, refl, sym, ap, arith}
 use Rattle.std.proofs.lemmas.Bool.{cases_lt}
 use Rattle.std.proofs.lemmas.List.{get_or-replicate, get_or_past, get_or-set_other, length-set}
+use Rattle.row_rules.specs.PlaceRows.Locations.{location_count}
 use Rattle.row_rules.specs.declared.place_rows.origin.Origin.{Origin}
 use Rattle.row_rules.specs.NodeRows.Joining.{origin_at, met, first_brings}
 use Rattle.row_rules.proofs.PlaceRows.PlaceLaws.{all_places}
@@ -12,11 +13,11 @@ abbrev nothing : Option Origin
 nothing = None
 
 pub loop-place-init : goal.loop-place-init
-loop-place-init c = record { count = refl; each = λ i l. absurd (omega (arith, l)); rest = λ i l. none i (cases_lt i 348) }
+loop-place-init c = record { count = refl; each = λ i l. absurd (omega (arith, l)); rest = λ i l. none i (cases_lt i location_count) }
   where
-    none : (i : ℕ) → (i < 348) ⊎ (348 ≤ i) → get_or (replicate 348 nothing) i None ≡ None
-    none i (inl l) = get_or-replicate 348 i nothing None l
-    none i (inr l) = get_or_past (replicate 348 nothing) i None (omega (arith, l))
+    none : (i : ℕ) → (i < location_count) ⊎ (location_count ≤ i) → get_or (replicate location_count nothing) i None ≡ None
+    none i (inl l) = get_or-replicate location_count i nothing None l
+    none i (inr l) = get_or_past (replicate location_count nothing) i None (omega (arith, l))
 
 pub loop-place-preserved : goal.loop-place-preserved
 loop-place-preserved c = elim c.if-has_data.branch [

@@ -2,6 +2,7 @@ use Rattle.std.proofs.Common.{◌∙◌, Bool, if◌then◌else◌, Option, Some
 use Rattle.std.proofs.lemmas.Bool.{lt-ltb}
 use Rattle.std.proofs.lemmas.List.{get_or-replicate}
 use Rattle.row_rules.specs.declared.place_rows.origin.Origin.{Origin}
+use Rattle.row_rules.specs.PlaceRows.Locations.{location_count, first_byte}
 use Rattle.row_rules.specs.PlaceRows.Origins.{origin_at_start}
 use Rattle.row_rules.proofs.PlaceRows.PlaceLaws.{all_places}
 use Rattle.row_rules.proofs.place_rows.origin.Origins.start.Goals as goal
@@ -13,7 +14,7 @@ pub loop-place-init : goal.loop-place-init
 loop-place-init c = record {
   count = refl;
   from = omega arith;
-  each = λ i l. get_or-replicate 348 i None None (omega (arith, l)) ∙ sym (ap early (lt-ltb i 75 l));
+  each = λ i l. get_or-replicate location_count i None None (omega (arith, l)) ∙ sym (ap early (lt-ltb i first_byte l));
 }
 
 pub returns : goal.returns

@@ -3,7 +3,7 @@ use Rattle.std.proofs.Common.{sym, ap, ◌∙◌, not, take, string_bytes}
 use Rattle.std.specs.List.{list_any}
 use Rattle.std.specs.Str.{bytes_eq}
 use Rattle.design_rules.proofs.FormedNames.{is_new_at}
-use Rattle.design_rules.proofs.formed.names.is_new.Goals as goal
+use Rattle.design_rules.proofs.formed.names.found_new.Goals as goal
 
 pub returns : goal.returns
 returns c = ap not
