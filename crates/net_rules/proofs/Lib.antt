@@ -1,2 +1,3 @@
 pub mod LogicRules
 pub mod NetSizes
+pub mod OkLaws

@@ -1,2 +1,3 @@
 pub mod Known
 pub mod Flags
+pub mod Made

@@ -4,6 +4,7 @@ mod choosing;
 mod comparing;
 mod flags;
 mod joining;
+mod made;
 mod neutral;
 mod prefixing;
 mod selecting;
@@ -14,3 +15,4 @@ mod turning;
 mod views;
 
 pub use simplifying::simplified;
+pub use turning::opposite;

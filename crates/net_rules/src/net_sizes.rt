@@ -1,6 +1,6 @@
 //! How many bits the words of nets have, and that they fit them.
 
-mod expression;
+pub(crate) mod expression;
 mod keeping;
 pub mod laws;
 mod sizes;
@@ -10,3 +10,4 @@ mod wires;
 pub use expression::expr_size;
 pub use sizes::Sizes;
 pub use staying::register_sizes;
+pub use wires::right_size;

@@ -6,17 +6,9 @@ use Rattle.std.proofs.Math.Nat.{mod-eq_of_lt, add-mul-mod_self_right}
 use Rattle.std.proofs.Math.Pow.{mod-mod-pow}
 use Rattle.net_core.specs.declared.tree.Word.{Word}
 use Rattle.net_core.specs.Value.{word, part_select, concatenated}
-use Rattle.net_core.proofs.LowBitsLaws.{ones_low, concatenated_small}
+use Rattle.net_core.proofs.LowBitsLaws.{ones_low}
 use Rattle.net_core.proofs.WordLaws.{word_same}
 use Rattle.net_rules.specs.NetSizes.Fitting.{Fits}
-
--- a word of so many bits
-pub record IsSized (n : ℕ) (w : Word) : Type 0 where
-  pub width : w.width ≡ n
-  pub small : w.value < 2 ^ n
-
-pub sized : (n : ℕ) (w : Word) → 0 < n → Fits n w → IsSized n w
-sized n w some h = let p = h some in record { width = p.0; small = p.1 }
 
 -- all bits
 pub whole : (n high low : ℕ) (w : Word) → high + 1 ≡ n → low ≡ 0 → Fits n w → w ≡ part_select w high low
@@ -83,15 +75,3 @@ in_second a b s high low some h lt le =
     let all = a.value * 2 ^ b.width + b.value in
     let fit : k + low ≤ b.width = omega (arith, p.0) in
     ap (word k) (sym (field_of b.value k low) ∙ ap (λ n. n / 2 ^ low) (sym (low_part a.value b.value b.width (k + low) fit)) ∙ field_of all k low)
-
--- ---- the sizes of parts
-pub joined : (m n : ℕ) (a b : Word) → IsSized m a → IsSized n b → IsSized (m + n) (concatenated a b)
-joined m n a b f g = record {
-  width = ap (λ k. k + b.width) f.width ∙ ap (λ k. m + k) g.width;
-  small = subst (λ k. a.value * 2 ^ k + b.value < 2 ^ (m + n)) (sym g.width) (concatenated_small a.value b.value m n f.small g.small);
-}
-
-pub one_further : (all m n : ℕ) (left a rest next whole : Word) → left ≡ concatenated a rest → next ≡ rest → 0 < m → Fits m a → ((k : ℕ) → IsSized k left → IsSized (all + k) whole) → IsSized n next → IsSized (all + m + n) whole
-one_further all m n left a rest next whole l r some fit done h =
-    let e : all + (m + n) ≡ all + m + n = omega arith in
-    subst (λ k. IsSized k whole) e (done (m + n) (subst (IsSized (m + n)) (sym l) (joined m n a rest (sized m a some fit) (subst (IsSized n) r h))))

@@ -1,17 +1,17 @@
 //! Operators between an operand and a constant that leaves its bits, or decides them.
 
-ghost use Rattle.std.specs.Prelude.{◌≡◌, true, IfOk, IfSome, ◌-◌, ◌^◌};
+ghost use Rattle.std.specs.Prelude.{◌≡◌, true, IfSome, ◌-◌, ◌^◌};
 ghost use Rattle.net_core.specs.declared.tree.Net.{Net};
 ghost use Rattle.net_core.specs.declared.tree.Word as words;
 ghost use Rattle.net_core.specs.View.{tree_of};
 ghost use Rattle.net_core.specs.Value.{Env, value, apply};
 ghost use Rattle.net_rules.specs.NetSizes.Fitting.{AreFitting, Fits, sizes_of};
+ghost use Rattle.net_rules.specs.LogicRules.Made.{made_value};
 
+use crate::logic_rules::made::{Leaf, Made};
 use crate::logic_rules::views::constant_of;
 use crate::net_sizes::{Sizes, expr_size};
-use net_core::net_trees::copying::copied;
 use net_core::tree::{Expr, Net, Op, Word};
-use std::alloc::{AllocError, Global};
 
 /// How many bits a constant has at most.
 const MOST_BITS: u8 = 64;
@@ -78,62 +78,47 @@ fn decided_before(op: Op, word: Word, size: u8) -> Option<Word>
 }
 
 // An operand and a constant after it.
-fn before_constant(
-    alloc: Global,
-    sizes: &Sizes,
-    op: Op,
-    a: &Expr<Net>,
-    word: Word,
-) -> Result<Option<Expr<Net>>, AllocError>
-    ensures { IfOk result (λ o. IfSome o (λ r. (v : Env Net) → AreFitting (sizes_of sizes.now) v → value v (tree_of r) ≡ apply op (value v (tree_of a.now)) word)) }
+fn before_constant<'a>(sizes: &Sizes, op: Op, a: &'a Expr<Net>, word: Word) -> Option<Made<'a>>
+    ensures { IfSome result (λ m. (v : Env Net) → AreFitting (sizes_of sizes.now) v → made_value v m ≡ apply op (value v (tree_of a.now)) word) }
 {
     let size = expr_size(sizes, a);
     if leaves_first(op, size, word) {
-        let same = copied(alloc, a)?;
-        return Ok(Some(same));
+        return Some(Made::Same(Leaf::Part(a)));
     }
     match decided_behind(op, size, word) {
-        Some(whole) => Ok(Some(Expr::Const(whole))),
-        None => Ok(None),
+        Some(whole) => Some(Made::Same(Leaf::Constant(whole))),
+        None => None,
     }
 }
 
 // An operand and a constant before it.
-fn behind_constant(
-    alloc: Global,
-    sizes: &Sizes,
-    op: Op,
-    word: Word,
-    b: &Expr<Net>,
-) -> Result<Option<Expr<Net>>, AllocError>
-    ensures { IfOk result (λ o. IfSome o (λ r. (v : Env Net) → AreFitting (sizes_of sizes.now) v → value v (tree_of r) ≡ apply op word (value v (tree_of b.now)))) }
+fn behind_constant<'a>(sizes: &Sizes, op: Op, word: Word, b: &'a Expr<Net>) -> Option<Made<'a>>
+    ensures { IfSome result (λ m. (v : Env Net) → AreFitting (sizes_of sizes.now) v → made_value v m ≡ apply op word (value v (tree_of b.now))) }
 {
     let size = expr_size(sizes, b);
     if leaves_second(op, word, size) {
-        let same = copied(alloc, b)?;
-        return Ok(Some(same));
+        return Some(Made::Same(Leaf::Part(b)));
     }
     match decided_before(op, word, size) {
-        Some(whole) => Ok(Some(Expr::Const(whole))),
-        None => Ok(None),
+        Some(whole) => Some(Made::Same(Leaf::Constant(whole))),
+        None => None,
     }
 }
 
 /// An operator that has a constant on a side, as one of the sides or a constant, if it is one.
-pub(crate) fn with_constant(
-    alloc: Global,
+pub(crate) fn with_constant<'a>(
     sizes: &Sizes,
     op: Op,
-    a: &Expr<Net>,
-    b: &Expr<Net>,
-) -> Result<Option<Expr<Net>>, AllocError>
-    ensures { IfOk result (λ o. IfSome o (λ r. (v : Env Net) → AreFitting (sizes_of sizes.now) v → value v (tree_of r) ≡ apply op (value v (tree_of a.now)) (value v (tree_of b.now)))) }
+    a: &'a Expr<Net>,
+    b: &'a Expr<Net>,
+) -> Option<Made<'a>>
+    ensures { IfSome result (λ m. (v : Env Net) → AreFitting (sizes_of sizes.now) v → made_value v m ≡ apply op (value v (tree_of a.now)) (value v (tree_of b.now))) }
 {
     if let Some(word) = constant_of(b) {
-        return before_constant(alloc, sizes, op, a, word);
+        return before_constant(sizes, op, a, word);
     }
     if let Some(word) = constant_of(a) {
-        return behind_constant(alloc, sizes, op, word, b);
+        return behind_constant(sizes, op, word, b);
     }
-    Ok(None)
+    None
 }

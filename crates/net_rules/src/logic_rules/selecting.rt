@@ -4,10 +4,11 @@ ghost use Rattle.std.specs.Prelude.{◌≡◌, IfSome};
 ghost use Rattle.net_core.specs.declared.tree.Net.{Net};
 ghost use Rattle.net_core.specs.View.{tree_of, trees_of};
 ghost use Rattle.net_core.specs.Value.{Env, value, part_select, concatenated_parts};
-ghost use Rattle.net_rules.specs.NetSizes.Fitting.{AreFitting, Fits, sizes_of};
+ghost use Rattle.net_rules.specs.NetSizes.Fitting.{AreFitting, sizes_of};
 ghost use Rattle.net_rules.specs.LogicRules.Known.{AreKnown};
 
-use crate::net_sizes::{Sizes, expr_size};
+use crate::net_sizes::Sizes;
+use crate::net_sizes::expression::parts_size;
 use net_core::tree::{Expr, Net, Parts, Word};
 
 /// How many bits a word has at most.
@@ -64,32 +65,6 @@ fn bits_of(sizes: &Sizes, e: &Expr<Net>, high: u8, low: u8) -> Option<Expr<Net>>
             Some(bits(sizes, *m, high + *end, low + *end))
         }
         _ => None,
-    }
-}
-
-// How many bits the parts of a concatenation have, or 0 where it is not known.
-fn parts_size(sizes: &Sizes, parts: &Parts<Net>) -> u8
-    ensures { (v : Env Net) → AreFitting (sizes_of sizes.now) v → Fits result (concatenated_parts v (trees_of parts.now)) }
-{
-    let mut all: u8 = 0;
-    let mut left = parts;
-    while let Parts::More(a, more) = left {
-        let size = expr_size(sizes, a);
-        if size == 0 || size > MOST_BITS - all {
-            return 0;
-        }
-        all += size;
-        left = more;
-    }
-    match left {
-        Parts::Last(a) => {
-            let size = expr_size(sizes, a);
-            if size == 0 || size > MOST_BITS - all {
-                return 0;
-            }
-            all + size
-        }
-        Parts::More(..) => unreachable!(),
     }
 }
 

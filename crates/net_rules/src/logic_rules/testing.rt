@@ -6,9 +6,11 @@ ghost use Rattle.net_core.specs.View.{tree_of};
 ghost use Rattle.net_core.specs.Value.{Env, value, apply, bit};
 ghost use Rattle.net_rules.specs.NetSizes.Fitting.{AreFitting, sizes_of};
 
+use crate::building::binary_of;
 use crate::logic_rules::choosing::chosen;
 use crate::logic_rules::views::constant_bit;
 use crate::net_sizes::Sizes;
+use net_core::build::binary;
 use net_core::net_trees::copying::copied;
 use net_core::tree::{Expr, Net, Op, Word};
 use std::alloc::{AllocError, Global};
@@ -28,6 +30,16 @@ fn holds(op: Op, a: Word, b: Word) -> Option<bool>
     }
 }
 
+/// Whether an operator compares what is chosen among constants.
+#[cycle(choices)]
+pub(crate) fn tests(op: Op, e: &Expr<Net>) -> bool {
+    match e {
+        Expr::Const(word) => holds(op, *word, *word).is_some(),
+        Expr::Conditional(_, a, b) => tests(op, a) && tests(op, b),
+        _ => false,
+    }
+}
+
 /// A comparison with a constant, chosen as what is compared is, where this is chosen among constants.
 #[cycle(tests)]
 pub(crate) fn tested(
@@ -36,24 +48,19 @@ pub(crate) fn tested(
     op: Op,
     e: &Expr<Net>,
     word: Word,
-) -> Result<Option<Expr<Net>>, AllocError>
-    ensures { IfOk result (λ o. IfSome o (λ r. (v : Env Net) → AreFitting (sizes_of sizes.now) v → value v (tree_of r) ≡ apply op (value v (tree_of e.now)) word)) }
+) -> Result<Expr<Net>, AllocError>
+    ensures { (v : Env Net) → AreFitting (sizes_of sizes.now) v → IfOk result (λ r. value v (tree_of r) ≡ apply op (value v (tree_of e.now)) word) }
 {
     match e {
         Expr::Const(other) => match holds(op, *other, word) {
-            Some(is_set) => Ok(Some(constant_bit(is_set))),
-            None => Ok(None),
+            Some(is_set) => Ok(constant_bit(is_set)),
+            None => binary(alloc, op, Expr::Const(*other), Expr::Const(word)),
         },
         Expr::Conditional(c, a, b) => {
-            let Some(a) = tested(alloc, sizes, op, a, word)? else {
-                return Ok(None);
-            };
-            let Some(b) = tested(alloc, sizes, op, b, word)? else {
-                return Ok(None);
-            };
-            let c = copied(alloc, c)?;
-            Ok(Some(chosen(alloc, sizes, c, a, b)?))
+            let a = tested(alloc, sizes, op, a, word);
+            let b = tested(alloc, sizes, op, b, word);
+            chosen(alloc, sizes, copied(alloc, c), a, b)
         }
-        _ => Ok(None),
+        _ => binary_of(alloc, op, copied(alloc, e), Ok(Expr::Const(word))),
     }
 }

@@ -29,12 +29,19 @@ pub(crate) fn bit_of(e: &Expr<Net>) -> Option<bool>
     }
 }
 
+/// The word of a single bit.
+pub(crate) fn bit_word(is_set: bool) -> Word
+    ensures { result ≡ bit is_set }
+{
+    let value = if is_set { 1 } else { 0 };
+    Word { width: 1, value }
+}
+
 /// A single bit.
 pub(crate) fn constant_bit(is_set: bool) -> Expr<Net>
     ensures { (v : Env Net) → value v (tree_of result) ≡ bit is_set }
 {
-    let value = if is_set { 1 } else { 0 };
-    Expr::Const(Word { width: 1, value })
+    Expr::Const(bit_word(is_set))
 }
 
 /// The expression that a negation turns.

@@ -67,9 +67,10 @@ pub fn expr_size(sizes: &Sizes, e: &Expr<Net>) -> u8
     }
 }
 
+/// How many bits the word of a concatenation has, which then fits them, where nets hold words of their sizes. 0 where it is not known.
 // Without a recursion over the parts: there may be any number.
 #[cycle(expressions)]
-fn parts_size(sizes: &Sizes, parts: &Parts<Net>) -> u8
+pub(crate) fn parts_size(sizes: &Sizes, parts: &Parts<Net>) -> u8
     ensures { (v : Env Net) → AreFitting (sizes_of sizes.now) v → Fits result (concatenated_parts v (trees_of parts.now)) }
 {
     let mut sum = 0;

@@ -13,7 +13,8 @@ use net_core::design::Wire;
 use net_core::tree::{Net, Right};
 use std::alloc::{AllocError, Global};
 
-fn right_size(sizes: &Sizes, right: &Right<Net>) -> u8
+/// How many bits the word of a right side has, which then fits them, where nets hold words of their sizes. 0 where it is not known.
+pub fn right_size(sizes: &Sizes, right: &Right<Net>) -> u8
     ensures { (v : Env Net) → AreFitting (sizes_of sizes.now) v → Fits result (right_value v (right_of right.now)) }
 {
     match right {

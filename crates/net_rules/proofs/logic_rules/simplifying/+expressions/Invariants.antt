@@ -8,8 +8,8 @@ use Rattle.net_rules.specs.LogicRules.Known.{AreKnown}
 use Rattle.net_core.proofs.PartLaws.{before}
 use Rattle.net_rules.proofs.logic_rules.simplifying.+expressions.Given as goal
 
-abbrev pub invariant-simplified_parts-loop-left : goal.invariant-simplified_parts-loop-left
-invariant-simplified_parts-loop-left l = record {
+abbrev pub invariant-simple_parts-loop-left : goal.invariant-simple_parts-loop-left
+invariant-simple_parts-loop-left l = record {
   done : (v : Env Net) → AreFitting (sizes_of l.sizes) v → AreKnown v l.known → before v (map tree_of l.prefix.items) (concatenated_parts v (trees_of l.left)) ≡ concatenated_parts v (trees_of l.fn.parts);
   depth : size-Parts Net l.left ≤ size-Parts Net l.fn.parts;
 }
