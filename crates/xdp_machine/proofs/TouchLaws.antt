@@ -4,6 +4,9 @@ use Rattle.std.specs.Prelude.{Option, All, Contains}
 use Rattle.bpf_isa.specs.declared.operation.Op.{Op}
 use Rattle.bpf_isa.specs.declared.operation.Op.TheVariants.{Call, Load, LoadSigned, StoreImm, Store, Atomic}
 use Rattle.bpf_isa.specs.declared.instruction.Insn.{Insn}
+use Rattle.bpf_isa.specs.declared.helper.Helper.{Helper}
+use Rattle.bpf_isa.specs.declared.helper.Helper.TheVariants.{Lookup, Update, Delete, Time, Redirect}
+use Rattle.bpf_isa.specs.Helpers.{helper_of}
 use Rattle.bpf_isa.specs.Text.{insn_at}
 use Rattle.xdp_maps.specs.Contents.{Contents}
 use Rattle.xdp_maps.specs.State.{MapState, IsSound}
@@ -13,6 +16,7 @@ use Rattle.xdp_maps.proofs.WriteLaws.{keeps_unwritten}
 use Rattle.xdp_maps.proofs.ReadLaws.{reads_decide}
 use Rattle.xdp_machine.specs.Values.{◌>>=◌}
 use Rattle.xdp_machine.specs.State.{Code, Machine, start}
+use Rattle.xdp_machine.specs.Helpers.{calls_on}
 use Rattle.xdp_machine.specs.Step.{Outcome, Goes, Ends, NoCase, step}
 use Rattle.xdp_machine.specs.Runs.{Progress, run, then_on}
 use Rattle.xdp_machine.specs.Touched.{Touched, after, operation_as, operation_at, touched_by, touched_at, touched, counted, and_then, both}
@@ -47,13 +51,21 @@ decided s t (Some (q, op)) decls sound sound_t fits all =
     }
 
 -- the operation is the same, whatever the maps hold
+call_stays : (m : Machine) (cs : List Contents) (h : Option Helper) → calls_on h (over m cs) ≡ calls_on h m
+call_stays m cs (Some Lookup) = refl
+call_stays m cs (Some Update) = refl
+call_stays m cs (Some Delete) = refl
+call_stays m cs (Some Time) = refl
+call_stays m cs (Some Redirect) = refl
+call_stays m cs None = refl
+
 operation_stays : (m : Machine) (cs : List Contents) (i : Insn) (op : Op) → operation_as (over m cs) i op ≡ operation_as m i op
 operation_stays m cs i (Load size) = refl
 operation_stays m cs i (LoadSigned size) = refl
 operation_stays m cs i (StoreImm size) = refl
 operation_stays m cs i (Store size) = refl
 operation_stays m cs i (Atomic size) = refl
-operation_stays m cs i Call = refl
+operation_stays m cs i Call = call_stays m cs (helper_of i.imm)
 operation_stays m cs i op = refl
 
 stays_at : (m : Machine) (cs : List Contents) (i : Option Insn) → (i >>= (λ x. operation_as (over m cs) x x.op)) ≡ (i >>= (λ x. operation_as m x x.op))
