@@ -42,16 +42,6 @@ impl Model for EventSim {
     ghost invariant = { λ s. IsOrder (net_count s.events.netlist) s.order.items × IsOrder (block_count s.events.netlist) s.blocks.items };
 }
 
-/// How many draws a design takes: one for each net, and one for each always block.
-pub fn draw_count(design: &Design) -> usize
-    ensures { result ≡ net_count (netlist_of design.now) + block_count (netlist_of design.now) }
-{
-    let wires = design.wires.as_slice();
-    let assigns = design.assigns.as_slice();
-    let always = design.always.as_slice();
-    wires.len() + assigns.len() + always.len()
-}
-
 impl EventSim {
     /// A simulator whose registers and memories have their declared values. Of these draws, the first are for the nets, and
     /// the others for the always blocks: each stands in its order by its draw, and where draws are equal by its number.

@@ -44,7 +44,6 @@ pub struct Events {
 }
 
 impl Model for Events {
-    ghost use Rattle.clock_sim.specs.Running.{IsNamed};
     ghost use Rattle.event_sim.specs.Events.{State, coded_state};
 
     ghost Value = { State };

@@ -17,7 +17,7 @@ mod outputs;
 mod refusal;
 mod values;
 
-pub use clocked::{EventSim, draw_count};
+pub use clocked::EventSim;
 pub use events::{Events, Quiet};
 pub use order::order_of;
 pub use refusal::EdgeError;

@@ -89,6 +89,72 @@ fn push_left(
     Ok(())
 }
 
+/// What a row asks for.
+#[derive(Clone, Copy)]
+struct Asked<'a> {
+    calls: Calls,
+    count: u64,
+    names: &'a str,
+    words: &'a [&'a str],
+}
+
+fn calls_of(kind: &str, left: &str) -> Result<Calls> {
+    match kind {
+        "read" => Ok(Calls::Reads),
+        "write" => Ok(Calls::Writes(left.parse()?)),
+        "put" => Ok(Calls::Puts(left.parse()?)),
+        _ => bail!("no such calls"),
+    }
+}
+
+// A row is `read COUNT NAMES top WORD..`, or `write` or `put` with the bytes that are left before the count.
+fn asked_of<'a>(row: &'a [&'a str]) -> Result<Asked<'a>> {
+    let (kind, left, count, names, words) = match row {
+        ["read", count, names, "top", words @ ..] => ("read", "0", count, names, words),
+        [kind, left, count, names, "top", words @ ..] => (*kind, *left, count, names, words),
+        _ => bail!("no such row"),
+    };
+    let calls = calls_of(kind, left)?;
+    let count = count.parse()?;
+    Ok(Asked {
+        calls,
+        count,
+        names,
+        words,
+    })
+}
+
+// Adds what comes of the program's call where its `call`-th call of the kind fails.
+fn push_failing(
+    said: &mut String,
+    alloc: Global,
+    asked: Asked<'_>,
+    words: &Words,
+    before: &MemShelf,
+    whole: &MemShelf,
+    call: u64,
+) -> Result<()> {
+    let mut shelf = copied(alloc, before, asked.names)?;
+    let end = ended(alloc, words, &mut shelf, asked.calls, call)?;
+    write!(said, "\n{call}: {end}")?;
+    push_left(said, asked.names, before, whole, &shelf)
+}
+
+// Adds what comes of the program's call where each of its calls of the kind fails in turn.
+fn push_each(
+    said: &mut String,
+    alloc: Global,
+    asked: Asked<'_>,
+    words: &Words,
+    before: &MemShelf,
+    whole: &MemShelf,
+) -> Result<()> {
+    for call in 1..=asked.count {
+        push_failing(said, alloc, asked, words, before, whole, call)?;
+    }
+    Ok(())
+}
+
 /// Calls the program on what a shelf holds of some names, first as it is, and then with each of so many of its calls failing.
 pub(crate) fn each(
     alloc: Global,
@@ -96,26 +162,11 @@ pub(crate) fn each(
     known: &Known,
     row: &[&str],
 ) -> Result<String> {
-    let (calls, count, names, words) = match row {
-        ["read", count, names, "top", words @ ..] => (Calls::Reads, count, names, words),
-        ["write", left, count, names, "top", words @ ..] => {
-            (Calls::Writes(left.parse()?), count, names, words)
-        }
-        ["put", left, count, names, "top", words @ ..] => {
-            (Calls::Puts(left.parse()?), count, names, words)
-        }
-        _ => bail!("no such calls"),
-    };
-    let words = words_of(alloc, known, words)?;
-    let count: u64 = count.parse()?;
-    let mut whole = copied(alloc, before, names)?;
-    let mut said = ended(alloc, &words, &mut whole, calls, 0)?;
-    push_left(&mut said, names, before, &whole, &whole)?;
-    for call in 1..=count {
-        let mut shelf = copied(alloc, before, names)?;
-        let end = ended(alloc, &words, &mut shelf, calls, call)?;
-        write!(said, "\n{call}: {end}")?;
-        push_left(&mut said, names, before, &whole, &shelf)?;
-    }
+    let asked = asked_of(row)?;
+    let words = words_of(alloc, known, asked.words)?;
+    let mut whole = copied(alloc, before, asked.names)?;
+    let mut said = ended(alloc, &words, &mut whole, asked.calls, 0)?;
+    push_left(&mut said, asked.names, before, &whole, &whole)?;
+    push_each(&mut said, alloc, asked, &words, before, &whole)?;
     Ok(said)
 }
