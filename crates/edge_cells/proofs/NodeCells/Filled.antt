@@ -87,11 +87,12 @@ map_set f all [] i h = h
 map_set f all (x ∷ ks) zero h = all x h
 map_set f all (x ∷ ks) (suc i) h = map_set f all ks i h
 
-called_fills : (decls : List MapDecl) (node : ℕ) (is_ref : Bool) (k : Kinds) (p : _) → AreFilled k → Fills (changed_if node is_ref false k (answer_of decls k p.answer)) → Fills (changed_if node is_ref false k (called_as decls k p))
-called_fills decls node is_ref k p filled answer =
-    bind_fills node is_ref k (argument_fits decls k p 0) _ filled (λ a g.
-    bind_fills node is_ref k (argument_fits decls k p 1) _ filled (λ b q.
-    bind_fills node is_ref k (argument_fits decls k p 2) _ filled (λ c r. bind_fills node is_ref k (argument_fits decls k p 3) _ filled (λ d s. bind_fills node is_ref k (argument_fits decls k p 4) _ filled (λ e t. answer)))))
+called_fills : (decls : List MapDecl) (node : ℕ) (is_ref : Bool) (k : Kinds) (h : Helper) → AreFilled k → Fills (changed_if node is_ref false k (answer_of decls k (prototype_of h).answer)) → Fills (changed_if node is_ref false k (called_as decls k (prototype_of h)))
+called_fills decls node is_ref k h filled answer =
+    bind_fills node is_ref k (argument_fits decls k (prototype_of h) 0) _ filled (λ a g.
+    bind_fills node is_ref k (argument_fits decls k (prototype_of h) 1) _ filled (λ b q.
+    bind_fills node is_ref k (argument_fits decls k (prototype_of h) 2) _ filled (λ c r.
+    bind_fills node is_ref k (argument_fits decls k (prototype_of h) 3) _ filled (λ d s. bind_fills node is_ref k (argument_fits decls k (prototype_of h) 4) _ filled (λ e t. answer)))))
 
 changes_fill : (decls : List MapDecl) (node : ℕ) (is_ref : Bool) (k : Kinds) (q : ℕ) → AreFilled k → Fills (changed_if node is_ref false k (Ok (change_of decls q)))
 changes_fill decls node is_ref k q h =
@@ -103,11 +104,11 @@ after_change : (decls : List MapDecl) (node : ℕ) (is_ref : Bool) (k : Kinds) �
 after_change decls node is_ref k h = bind_fills node is_ref k (declared decls (register k 1)) _ h (λ q e. changes_fill decls node is_ref k q h)
 
 call_fills : (decls : List MapDecl) (node : ℕ) (is_ref : Bool) (k : Kinds) (id : ℤ) (o : Option Helper) → AreFilled k → Fills (changed_if node is_ref false k (called decls k id o))
-call_fills decls node is_ref k id (Some Lookup) h = called_fills decls node is_ref k (prototype_of Lookup) h (bind_fills node is_ref k (declared decls (register k 1)) _ h (λ q e. kept h))
-call_fills decls node is_ref k id (Some Update) h = called_fills decls node is_ref k (prototype_of Update) h (after_change decls node is_ref k h)
-call_fills decls node is_ref k id (Some Delete) h = called_fills decls node is_ref k (prototype_of Delete) h (after_change decls node is_ref k h)
-call_fills decls node is_ref k id (Some Time) h = called_fills decls node is_ref k (prototype_of Time) h (kept h)
-call_fills decls node is_ref k id (Some Redirect) h = called_fills decls node is_ref k (prototype_of Redirect) h (kept h)
+call_fills decls node is_ref k id (Some Lookup) h = called_fills decls node is_ref k Lookup h (bind_fills node is_ref k (declared decls (register k 1)) _ h (λ q e. kept h))
+call_fills decls node is_ref k id (Some Update) h = called_fills decls node is_ref k Update h (after_change decls node is_ref k h)
+call_fills decls node is_ref k id (Some Delete) h = called_fills decls node is_ref k Delete h (after_change decls node is_ref k h)
+call_fills decls node is_ref k id (Some Time) h = called_fills decls node is_ref k Time h (kept h)
+call_fills decls node is_ref k id (Some Redirect) h = called_fills decls node is_ref k Redirect h (kept h)
 call_fills decls node is_ref k id None h = kept h
 
 -- ---- stores

@@ -1,5 +1,5 @@
 -- Which instruction an allowed one is.
-use Rattle.std.proofs.Common.{◌≡◌, ◌≢◌, ℕ, pos, ◌+◌, ◌+ℤ◌, Bool, true, false, not, if◌then◌else◌, None, Result, Ok, Err, List, refl, subst, Option, Some}
+use Rattle.std.proofs.Common.{◌≡◌, ℕ, pos, ◌+◌, ◌+ℤ◌, Bool, true, false, not, if◌then◌else◌, None, Result, Ok, Err, List, refl, subst, Option, Some}
 use Rattle.std.specs.Prelude.{nat_le, is_some}
 use Rattle.xdp_machine.specs.bpf_isa.declared.operation.Op.{Op}
 use Rattle.xdp_machine.specs.bpf_isa.declared.operation.Op.TheVariants.{Alu, Neg, End, Swap, Ja, Jump, Call, Exit, LoadImm, Load, LoadSigned, Abs, Ind, StoreImm, Store, Atomic}
