@@ -10,6 +10,7 @@ mod folding;
 mod joining;
 mod kept;
 mod live;
+mod marks;
 mod names;
 mod negation;
 mod optimizing;

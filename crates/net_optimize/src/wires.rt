@@ -10,6 +10,7 @@ ghost use Rattle.net_optimize.specs.Folding.{AreKnown, AreSameWires, IsValued};
 
 use crate::depth::depth;
 use crate::folding::folded_right;
+use crate::marks::Marks;
 use crate::reads::Reads;
 use net_core::design::Wire;
 use net_core::net_trees::copying::copied;
@@ -38,12 +39,12 @@ fn is_simple(e: &Expr<Net>) -> bool {
 }
 
 // The first of these wires that has an expression for its right side, by their marks.
-fn find(earlier: &[Wire], marks: &[u64], mark: u64, e: &Expr<Net>) -> Option<u32>
+fn find(earlier: &[Wire], marks: &Marks, mark: u64, e: &Expr<Net>) -> Option<u32>
     requires { length earlier.now ≤ 4294967295 }
     ensures { IfSome result (λ j. (v : Env Net) → Solves v 0 (map wire_of earlier.now) → v.net (net.Wire j) ≡ value v (tree_of e.now)) }
 {
-    for j in 0..earlier.len() {
-        if marks.get(j).copied() == Some(mark)
+    for j in marks.first(mark)..earlier.len() {
+        if marks.has(j, mark)
             && let Right::Plain(other) = &earlier[j].right
             && is_same(other, e)
         {
@@ -58,7 +59,7 @@ fn find(earlier: &[Wire], marks: &[u64], mark: u64, e: &Expr<Net>) -> Option<u32
 fn known_by(
     alloc: Global,
     earlier: &[Wire],
-    marks: &[u64],
+    marks: &Marks,
     right: &Right<Net>,
     moves: bool,
     is_read_once: bool,
@@ -96,7 +97,7 @@ pub(crate) fn folded_wires(
 {
     let mut folded = Vec::new(alloc);
     let mut known = Vec::new(alloc);
-    let mut marks = Vec::new(alloc);
+    let mut marks = Marks::new(alloc);
     for wire in wires {
         let right = folded_right(alloc, &known, &wire.right)?;
         let is_read_once = reads.is_read_once(known.len());
