@@ -7,7 +7,7 @@ use Rattle.std.proofs.Common.{get_or, inl, inr, not, refl, ap, sym, ◌∙◌, a
 use Rattle.std.proofs.lemmas.Bool.{cases_lt}
 use Rattle.std.proofs.lemmas.List.{length-map, get_or-map, take-map, get_or_past, get_or_push, get_or_append_left}
 use Rattle.std.proofs.lemmas.List.Folds.{list_any_more}
-use Rattle.std.proofs.lemmas.Slice.Eq.{bytes_eq-Decides}
+use Rattle.list_laws.proofs.ByteLaws.{bytes_turn}
 use Rattle.design_rules.specs.Formed.{is_new_in, TellNew}
 use Rattle.design_rules.specs.FormedSyntax.{begins_name, continues_name, is_identifier, is_name}
 
@@ -41,15 +41,6 @@ pub record Noted (names : List (List ℕ)) (i : ℕ) (keys : List (Bor (List ℕ
 
 pub none_noted : (names : List (List ℕ)) (keys : List (Bor (List ℕ))) → keys ≡ [] → Noted names 0 keys []
 none_noted names keys e = record { count = refl; each = λ place l. absurd (omega (arith, l)); seen = λ q. ap (list_any (λ k. bytes_eq q.now k.now)) e }
-
-bytes_turn : (a b : List ℕ) → bytes_eq a b ≡ bytes_eq b a
-bytes_turn a b = by (bytes_eq a b) (bytes_eq b a) refl refl
-  where
-    by : (s t : Bool) → bytes_eq a b ≡ s → bytes_eq b a ≡ t → s ≡ t
-    by true true e f = refl
-    by true false e f = let g : true ≡ false = sym ((bytes_eq-Decides b a).1 (sym ((bytes_eq-Decides a b).0 e))) ∙ f in absurd (cc)
-    by false true e f = let g : true ≡ false = sym ((bytes_eq-Decides a b).1 (sym ((bytes_eq-Decides b a).0 f))) ∙ e in absurd (cc)
-    by false false e f = refl
 
 or_cond : (t a : Bool) → (if t then true else a) ≡ (a || t)
 or_cond true true = refl

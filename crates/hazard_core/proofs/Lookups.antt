@@ -9,6 +9,7 @@ use Rattle.std.specs.Str.{bytes_eq}
 use Rattle.std.proofs.lemmas.Bool.Decides.{nat_tests}
 use Rattle.std.proofs.lemmas.Slice.Eq.{bytes_eq-Decides}
 use Rattle.std.proofs.lemmas.Map.Text.{is_eq-slice_cmp}
+use Rattle.list_laws.proofs.ByteLaws.{bytes_turn}
 use Rattle.xdp_maps.specs.Contents.{Contents}
 use Rattle.xdp_maps.specs.Calls.{lookup_of}
 use Rattle.hazard_core.specs.Tables.{Slot, slot_at, has_key, slot_of, used_count, contents_of}
@@ -50,21 +51,6 @@ value_next s slots Null = refl
 value_next s slots (InSlot n) = refl
 value_next s slots (Pending i) = refl
 
-bytes_sym : (a b : List ℕ) → bytes_eq a b ≡ bytes_eq b a
-bytes_sym a b = by (bytes_eq a b) (bytes_eq b a) refl refl
-  where
-    by : (c d : Bool) → bytes_eq a b ≡ c → bytes_eq b a ≡ d → c ≡ d
-    by true true e f = refl
-    by false false e f = refl
-    by true false e f = absurd (no (sym f ∙ (bytes_eq-Decides b a).1 (sym ((bytes_eq-Decides a b).0 e))))
-      where
-        no : false ≡ true → ⊥
-        no e = cc
-    by false true e f = absurd (no (sym e ∙ (bytes_eq-Decides a b).1 (sym ((bytes_eq-Decides b a).0 f))))
-      where
-        no : false ≡ true → ⊥
-        no e = cc
-
 pub lookup_is : (slots : List Slot) (key : List ℕ) → lookup_of (contents_of slots) key ≡ value_of slots (slot_pointer slots key)
 lookup_is [] key = get-empty (slice_cmp nat_cmp) key
 lookup_is (s ∷ slots) key = by s.used refl (lookup_is slots key)
@@ -73,7 +59,7 @@ lookup_is (s ∷ slots) key = by s.used refl (lookup_is slots key)
     rest = contents_of slots
 
     here : lookup_of (map.insert rest s.key s.value) key ≡ cond (bytes_eq s.key key) (Some s.value) (lookup_of rest key)
-    here = get-insert nat_list_cmp_total rest s.key s.value key ∙ ap (λ (c : Bool). cond c (Some s.value) (lookup_of rest key)) (is_eq-slice_cmp key s.key ∙ bytes_sym key s.key)
+    here = get-insert nat_list_cmp_total rest s.key s.value key ∙ ap (λ (c : Bool). cond c (Some s.value) (lookup_of rest key)) (is_eq-slice_cmp key s.key ∙ bytes_turn key s.key)
 
     past : has_key key s ≡ false → lookup_of rest key ≡ value_of slots (slot_pointer slots key) → lookup_of rest key ≡ value_of (s ∷ slots) (slot_pointer (s ∷ slots) key)
     past e more = more ∙ sym (value_next s slots (slot_pointer slots key)) ∙ ap (value_of (s ∷ slots)) (sym (pointer_next s slots key e))

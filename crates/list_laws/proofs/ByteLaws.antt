@@ -1,7 +1,9 @@
--- Lists of bytes: parts of one, two joined, and one byte written.
+-- Lists of bytes: parts of one, two joined, one byte written, and two that are the same.
 use Rattle.std.specs.Prelude.{◌<◌, slice_set}
-use Rattle.std.proofs.Common.{ℕ, zero, suc, List, [], ◌∷◌, ◌++◌, take, drop, ◌+◌, arith, inl, inr}
+use Rattle.std.proofs.Common.{◌≡◌, ℕ, zero, suc, Bool, true, false, refl, sym, ◌∙◌, List, [], ◌∷◌, ◌++◌, take, drop, ◌+◌, arith, inl, inr}
+use Rattle.std.specs.Str.{bytes_eq}
 use Rattle.std.proofs.lemmas.Bool.{cases_lt}
+use Rattle.std.proofs.lemmas.Slice.Eq.{bytes_eq-Decides}
 use Rattle.std.proofs.lemmas.List.{length-take, get_or-take, get_or-drop, get_or_past}
 use Rattle.list_laws.specs.Bytes.{IsBytes}
 
@@ -25,3 +27,12 @@ IsBytes-set (y ∷ ys) zero x h b zero = h
 IsBytes-set (y ∷ ys) zero x h b (suc i) = b (suc i)
 IsBytes-set (y ∷ ys) (suc k) x h b zero = b 0
 IsBytes-set (y ∷ ys) (suc k) x h b (suc i) = IsBytes-set ys k x h (λ j. b (suc j)) i
+
+pub bytes_turn : (a b : List ℕ) → bytes_eq a b ≡ bytes_eq b a
+bytes_turn a b = by (bytes_eq a b) (bytes_eq b a) refl refl
+  where
+    by : (s t : Bool) → bytes_eq a b ≡ s → bytes_eq b a ≡ t → s ≡ t
+    by true true e f = refl
+    by true false e f = let g : true ≡ false = sym ((bytes_eq-Decides b a).1 (sym ((bytes_eq-Decides a b).0 e))) ∙ f in absurd (cc)
+    by false true e f = let g : true ≡ false = sym ((bytes_eq-Decides a b).1 (sym ((bytes_eq-Decides b a).0 f))) ∙ e in absurd (cc)
+    by false false e f = refl

@@ -5,3 +5,4 @@ pub mod Headers
 pub mod Records
 pub mod ContentLaws
 pub mod OpenLemmas
+pub mod StreamLemmas

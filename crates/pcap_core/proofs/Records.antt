@@ -8,7 +8,7 @@ use Rattle.pcap_core.specs.declared.error.PcapError.{PcapError}
 use Rattle.pcap_core.specs.declared.error.PcapError.TheVariants.{Short, Magic, Version, Link, Frame}
 use Rattle.pcap_core.specs.Number.{number, spelled}
 use Rattle.pcap_core.specs.Format.{Packet, Record, IsLength, IsRecord, record_bytes, announced, Ends}
-use Rattle.pcap_core.specs.Reading.{is_length, packet_at, record_at}
+use Rattle.pcap_core.specs.Reading.{is_length, packet_at, head_at, record_at}
 use Rattle.pcap_core.proofs.Numbers.{wide4}
 use Rattle.pcap_core.proofs.Parts.{behind, number_behind, four_parts, five_before}
 use Rattle.pcap_core.proofs.Heads.{either}
@@ -51,7 +51,7 @@ some_from zero h = absurd cc
 some_from (suc n) h = omega arith
 
 says : (order : Order) (index at : ℕ) (rest : List ℕ) → Says order index at rest (record_at order index at rest)
-unfolding record_at
+unfolding record_at head_at
 says order index at rest = elim (either (length rest == 0)) [
   | inl none ↦ rw none (nil_from_length rest (eqb-true _ 0 none))
   | inr some ↦ elim (either (nat_lt (length rest) 16)) [
@@ -134,7 +134,7 @@ record_at-spelled order index at rest packet later h read =
 -- ---- what is spelled is read
 
 whole-record_at : (order : Order) (index at : ℕ) (rest : List ℕ) → IsLength (announced order rest) → 16 + announced order rest ≤ length rest → record_at order index at rest ≡ Ok (Some (packet_at order (announced order rest) rest, drop (16 + announced order rest) rest))
-unfolding record_at
+unfolding record_at head_at
 whole-record_at order index at rest right fits =
     let some : (length rest == 0) ≡ false = ne_eqb (length rest) 0 (omega arith) in
     let long : nat_lt (length rest) 16 ≡ false = le-ltb (length rest) 16 (omega arith) in
@@ -171,7 +171,7 @@ ending None = Ok None
 ending (Some fault) = Err fault
 
 cut-record_at : (order : Order) (index at : ℕ) (rest : List ℕ) → 0 < length rest → (16 ≤ length rest → IsLength (announced order rest) × (length rest < 16 + announced order rest)) → record_at order index at rest ≡ Err (Short at)
-unfolding record_at
+unfolding record_at head_at
 cut-record_at order index at rest left h =
     let some : (length rest == 0) ≡ false = ne_eqb (length rest) 0 (omega arith) in
     elim (either (nat_lt (length rest) 16)) [
@@ -184,7 +184,7 @@ cut-record_at order index at rest left h =
     ]
 
 pub ends-record_at : (order : Order) (index at : ℕ) (rest : List ℕ) (fault : Option PcapError) → Ends order index at rest fault → record_at order index at rest ≡ ending fault
-unfolding record_at
+unfolding record_at head_at
 ends-record_at order index at rest None e = rw e refl
 ends-record_at order index at rest (Some (Short place)) e =
     rw e.0 (cut-record_at order index at rest e.1 e.2)

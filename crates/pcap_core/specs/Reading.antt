@@ -3,6 +3,7 @@ use Rattle.std.specs.Prelude.{ℕ, zero, suc, ◌+◌, Bool, ◌==◌, nat_lt, n
 use Rattle.pcap_core.specs.declared.order.Order.{Order}
 use Rattle.pcap_core.specs.declared.order.Order.TheVariants.{Little, Big}
 use Rattle.pcap_core.specs.declared.error.PcapError.{PcapError}
+use Rattle.pcap_core.specs.declared.head.RecHead.{RecHead}
 use Rattle.pcap_core.specs.declared.error.PcapError.TheVariants.{Short, Magic, Version, Link, Frame}
 use Rattle.beat_core.specs.declared.frame.TheConstants.{FRAME_LIMIT}
 use Rattle.pcap_core.specs.Number.{number}
@@ -39,11 +40,25 @@ abbrev pub packet_at : Order → ℕ → List ℕ → Packet
 packet_at order n rest =
     record { seconds = number order 4 rest; fraction = number order 4 (drop 4 rest); bytes = take n (drop 16 rest) }
 
+-- what the four numbers in front say of record `index`, which begins at this place, or the fault there
+unfoldable pub head_at : Order → ℕ → ℕ → List ℕ → Result RecHead PcapError
+head_at order index at rest =
+    let n = announced order rest in
+    if nat_lt (length rest) 16 then Err (Short at) else if not (is_length n) then Err (Frame index n) else Ok (record { seconds = number order 4 rest; fraction = number order 4 (drop 4 rest); length = n })
+
+-- the packet of which this is said, with these bytes
+abbrev pub packet_of_head : RecHead → List ℕ → Packet
+packet_of_head h bytes = record { seconds = h.seconds; fraction = h.fraction; bytes = bytes }
+
+-- with the bytes that follow its numbers, and what follows them
+abbrev pub with_head : Result RecHead PcapError → ℕ → List ℕ → Result (Option (Packet × List ℕ)) PcapError
+with_head (Err fault) at rest = Err fault
+with_head (Ok h) at rest =
+    if nat_lt (length rest) (16 + h.length) then Err (Short at) else Ok (Some (packet_of_head h (take h.length (drop 16 rest)), drop (16 + h.length) rest))
+
 -- the packet in front and what follows, none at the end, or the fault of record `index` at this place
 unfoldable pub record_at : Order → ℕ → ℕ → List ℕ → Result (Option (Packet × List ℕ)) PcapError
-record_at order index at rest =
-    let n = announced order rest in
-    if length rest == 0 then Ok None else if nat_lt (length rest) 16 then Err (Short at) else if not (is_length n) then Err (Frame index n) else if nat_lt (length rest) (16 + n) then Err (Short at) else Ok (Some (packet_at order n rest, drop (16 + n) rest))
+record_at order index at rest = if length rest == 0 then Ok None else with_head (head_at order index at rest) at rest
 
 -- ---- all records
 

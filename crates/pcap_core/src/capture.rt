@@ -8,9 +8,11 @@ ghost use Rattle.pcap_core.specs.Next.{GivesNext, GivesFrame, seen};
 ghost use Rattle.pcap_core.specs.Time.{time_of, timed_of};
 
 use crate::error::PcapError;
-use crate::header::{HEADER_BYTES, NANOSECONDS, header_of};
+use crate::head::NUMBERS_BYTES;
+use crate::header::{HEADER_BYTES, header_of};
 use crate::order::Order;
-use crate::record::{NUMBERS_BYTES, Rec, record_at};
+use crate::record::{Rec, record_at};
+use crate::time::nanoseconds;
 use beat_core::{Frame, Timed};
 use std::alloc::{AllocError, Global};
 use std::marker::Model;
@@ -70,12 +72,7 @@ impl<'a> Capture<'a> {
         ensures range { result < 2 ^ 63 }
     {
         let packet = *packet;
-        let fraction = if self.magic == NANOSECONDS {
-            packet.fraction as u64
-        } else {
-            packet.fraction as u64 * 1_000
-        };
-        packet.seconds as u64 * 1_000_000_000 + fraction
+        nanoseconds(self.magic, packet.seconds, packet.fraction)
     }
 
     /// A packet of this capture as a frame with its time.

@@ -4,14 +4,19 @@
 
 mod capture;
 mod error;
+mod head;
 mod header;
 mod laws;
 mod order;
 mod record;
+mod stream;
+mod time;
 
 pub use capture::Capture;
 pub use error::PcapError;
+pub use head::RecHead;
 pub use header::{MICROSECONDS, NANOSECONDS, write_header};
 pub use laws::one_reading;
 pub use order::Order;
 pub use record::{Rec, write_record};
+pub use stream::Stream;

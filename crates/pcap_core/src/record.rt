@@ -8,13 +8,10 @@ ghost use Rattle.pcap_core.specs.Next.{GivesRecord};
 ghost use Rattle.pcap_core.specs.declared.order.Order.TheVariants.{Little};
 
 use crate::error::PcapError;
+use crate::head::{NUMBERS_BYTES, head_at};
 use crate::order::Order;
-use beat_core::FRAME_LIMIT;
 use byteorder::{ByteOrder, LittleEndian};
 use std::alloc::AllocError;
-
-/// How many bytes the numbers of a record take.
-pub(crate) const NUMBERS_BYTES: usize = 16;
 
 /// A packet of a capture: when it came, and the bytes that were captured of it.
 #[derive(Clone, Copy, Debug)]
@@ -38,20 +35,17 @@ pub(crate) fn record_at<'a>(
     if rest.is_empty() {
         return Ok(None);
     }
-    if rest.len() < NUMBERS_BYTES {
-        return Err(PcapError::Short { at });
-    }
-    let length = order.u32_at(&rest[8..]);
-    if length < 1 || FRAME_LIMIT < length as usize {
-        return Err(PcapError::Frame { index, length });
-    }
-    let end = NUMBERS_BYTES + length as usize;
+    let head = match head_at(order, index, at, rest) {
+        Ok(head) => head,
+        Err(fault) => return Err(fault),
+    };
+    let end = NUMBERS_BYTES + head.length as usize;
     if rest.len() < end {
         return Err(PcapError::Short { at });
     }
     Ok(Some(Rec {
-        seconds: order.u32_at(rest),
-        fraction: order.u32_at(&rest[4..]),
+        seconds: head.seconds,
+        fraction: head.fraction,
         bytes: &rest[NUMBERS_BYTES..end],
     }))
 }

@@ -1,6 +1,10 @@
-pub mod AnswerLemmas
 pub mod BeatLemmas
+pub mod RoomLaws
+pub mod DrivingLaws
+pub mod TurnLaws
 pub mod DriveLaws
+pub mod GivingLaws
+pub mod DriveTurns
 pub mod HostLaws
 pub mod HostClocks
 pub mod LoadLemmas

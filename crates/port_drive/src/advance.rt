@@ -8,7 +8,7 @@ ghost use Rattle.realization.specs.History.{drive_inputs, left_after, inputs_wit
 ghost use Rattle.clock_sim.specs.Running.{stopped_net};
 ghost use Rattle.port_drive.specs.Offering.{offered_of};
 
-use crate::left::{Left, Offer};
+use crate::frame_room::{FrameRoom, Offer};
 use clock_sim::{Clocked, XValue};
 use net_core::ports::{Inputs, Outputs, SILENT};
 
@@ -36,7 +36,7 @@ fn inputs_with(offer: Option<Offer>) -> Inputs
 
 /// One clock, in which the first beat that is left is offered. It is taken where it goes over. A clock that stops
 /// leaves what is stored.
-pub(crate) fn advance<C: Clocked>(sim: &mut C, left: &mut Left<'_>) -> Result<Outputs, XValue>
+pub(crate) fn advance<C: Clocked>(sim: &mut C, left: &mut FrameRoom) -> Result<Outputs, XValue>
     ensures netlist { C.netlist sim.new ≡ C.netlist sim.old }
     ensures runs { OnOk result (stopping (C.netlist sim.old) (words_of (drive_inputs left.old)) (C.stored sim.old) ≡ None) }
     ensures stored { OnOk result (C.stored sim.new ≡ after (C.netlist sim.old) (words_of (drive_inputs left.old)) (C.stored sim.old)) }
@@ -44,6 +44,7 @@ pub(crate) fn advance<C: Clocked>(sim: &mut C, left: &mut Left<'_>) -> Result<Ou
     ensures left { OnOk result (left.new ≡ left_after (cycle_of (C.netlist sim.old) (C.stored sim.old) (drive_inputs left.old)) left.old) }
     ensures stops { IfErr result (λ x. stopped_net (C.netlist sim.old) (words_of (drive_inputs left.old)) (C.stored sim.old) ≡ Some x.net) }
     ensures unchanged { OnErr result (C.stored sim.new ≡ C.stored sim.old) }
+    ensures kept { OnErr result (left.new ≡ left.old) }
 {
     let inputs = inputs_with(left.first());
     let shown = match sim.clock(&inputs) {

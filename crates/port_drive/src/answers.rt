@@ -1,12 +1,10 @@
 //! The answers of a drive.
 
-ghost use Rattle.std.specs.Prelude.{◌≡◌, ◌<◌, ◌++◌, ◌∷◌, ◌==◌, ◌&&◌, [], Some, length, slice_get, IfOk, OnOk, OnErr};
+ghost use Rattle.std.specs.Prelude.{◌≡◌, ◌<◌, ◌++◌, ◌∷◌, ◌==◌, [], Some, length, slice_get, OnOk, OnErr};
 ghost use Rattle.beat_core.specs.Words.{low_bytes};
-ghost use Rattle.port_drive.specs.Answering.{TakesBeat};
 
-use beat_core::{Answer, Bytes};
+use beat_core::Answer;
 use byteorder::{ByteOrder, LittleEndian};
-use net_core::ports::Outputs;
 use std::alloc::{AllocError, Global};
 use std::marker::Model;
 
@@ -65,36 +63,6 @@ impl Answers {
         self.items.push(answer)?;
         Ok(())
     }
-}
-
-/// Takes what the outputs show in a clock that takes it: a beat of the answer that has begun, or nothing. It says
-/// whether the answer has ended. An `Err` leaves the answers as they were.
-pub(crate) fn take_shown(
-    alloc: Global,
-    shown: &Outputs,
-    begun: &mut Bytes,
-    answers: &mut Answers,
-) -> Result<bool, AllocError>
-    ensures ended { IfOk result (λ ended. ended ≡ (shown.now.out_valid && shown.now.out_last)) }
-    ensures ok { OnOk result (TakesBeat shown.now begun.old answers.old begun.new answers.new) }
-    ensures err { OnErr result (answers.new ≡ answers.old) }
-{
-    if !shown.out_valid {
-        return Ok(false);
-    }
-    let word = bytes_of_word(shown.out_data);
-    let count = (shown.out_bytes as usize).min(8);
-    begun.append(&word[..count])?;
-    if !shown.out_last {
-        return Ok(false);
-    }
-    let frame = std::mem::replace(begun, Bytes::new(alloc));
-    answers.push(Answer {
-        verdict: shown.out_verdict,
-        target: shown.out_target,
-        frame,
-    })?;
-    Ok(true)
 }
 
 /// The bytes of a word, the lowest first.

@@ -14,6 +14,7 @@ use Rattle.cell_core.specs.xdp_machine.Values as is
 use Rattle.cell_core.specs.xdp_machine.State.{Machine, PacketIn, register}
 use Rattle.cell_core.specs.xdp_machine.Helpers as helpers
 use Rattle.cell_core.specs.xdp_machine.Step.{effect}
+use Rattle.kind_core.proofs.xdp_machine_laws.CallLaws.{helper_called}
 use Rattle.kind_core.specs.declared.kind.Kind.{Kind}
 use Rattle.kind_core.specs.declared.kind.Kind.TheVariants.{Unset, Num}
 use Rattle.kind_core.specs.declared.number.Number.TheVariants.{Unknown}
@@ -109,16 +110,8 @@ redirect_alone Delete asks other = absurd cc
 redirect_alone Time asks other = absurd (other refl)
 redirect_alone Redirect asks other = refl
 
--- what the call of a helper leaves
-call_is : (refs : List ℕ) (m n : Machine) (i : Insn) (helper : Option Helper) → i.op ≡ Call → helper_of i.imm ≡ helper → effect refs m i i.op ≡ Some n → helpers.called helper m ≡ Some n
-call_is refs m n i helper op h e = by (i.src == 0) (sym (ap (effect refs m i) op) ∙ e)
-  where
-    by : (t : Bool) → (if t then helpers.called (helper_of i.imm) m else None) ≡ Some n → helpers.called helper m ≡ Some n
-    by true f = ap (λ (o : Option Helper). helpers.called o m) (sym h) ∙ f
-    by false f = absurd cc
-
 pub time_is : (refs : List ℕ) (m n : Machine) (i : Insn) → i.op ≡ Call → helper_of i.imm ≡ Some Time → effect refs m i i.op ≡ Some n → n ≡ helpers.answering (is.Number m.time) m
-time_is refs m n i op h e = let f : Some (helpers.answering (is.Number m.time) m) ≡ Some n = call_is refs m n i (Some Time) op h e in cc
+time_is refs m n i op h e = let f : Some (helpers.answering (is.Number m.time) m) ≡ Some n = helper_called refs m n i (Some Time) op h e in cc
 
 pub time_low : (t p c : ℕ) → t < 2 ^ 64 → t ≡ p → c ≡ low 64 p → t ≡ c
 time_low t p c h e f = e ∙ sym (low_same 64 p (subst (λ (n : ℕ). n < 2 ^ 64) e h)) ∙ sym f
@@ -149,7 +142,7 @@ redirect_answers decls k i node is_ref op same allowed =
 
 pub redirect_is : (refs : List ℕ) (m n : Machine) (i : Insn) (a b : ℕ) → i.op ≡ Call → helper_of i.imm ≡ Some Redirect → register m.registers 1 ≡ is.Number a → register m.registers 2 ≡ is.Number b → effect refs m i i.op ≡ Some n → n ≡ helpers.redirected a b m
 redirect_is refs m n i a b op h one two e =
-    let f : helpers.redirect m ≡ Some n = call_is refs m n i (Some Redirect) op h e in
+    let f : helpers.redirect m ≡ Some n = helper_called refs m n i (Some Redirect) op h e in
     let is_sent : helpers.redirect m ≡ Some (helpers.redirected a b m) =
     ap (λ (x : Value). is.number_in x >>= (λ i. is.number_in (register m.registers 2) >>= (λ j. Some (helpers.redirected i j m)))) one
     ∙ ap (λ (x : Value). is.number_in x >>= (λ j. Some (helpers.redirected a j m))) two in

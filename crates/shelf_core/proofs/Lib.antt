@@ -2,3 +2,4 @@ pub mod Reading
 pub mod Naming
 pub mod Leaving
 pub mod PrefixLaws
+pub mod FeedingLaws

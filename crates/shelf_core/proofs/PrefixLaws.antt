@@ -1,5 +1,5 @@
 -- Fronts of what is written, for those who write in parts, and counts over several calls.
-use Rattle.std.proofs.Common.{ℕ, ◌-◌, ◌≤◌, List, ◌++◌, length, min, Option, Some, sym, ap, ◌∙◌, arith}
+use Rattle.std.proofs.Common.{ℕ, ◌≤◌, List, ◌++◌, length, min, Option, Some, sym, ap, ◌∙◌, arith}
 use Rattle.std.proofs.lemmas.List.{take_min, take-append-le}
 use Rattle.std.proofs.Math.Seq.{take-append_seam}
 use Rattle.shelf_core.specs.Shelf.{HoldsFront, Rose}

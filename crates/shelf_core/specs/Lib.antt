@@ -2,3 +2,4 @@ pub mod Shelf
 pub mod Plan
 pub mod File
 pub mod Memory
+pub mod Feeding

@@ -5,6 +5,7 @@ mod calls;
 mod dir_shelf;
 mod entry;
 mod faults;
+mod feed;
 mod fetch;
 mod mem_shelf;
 mod mem_sink;
@@ -13,6 +14,7 @@ mod outside;
 mod std_sink;
 
 pub use dir_shelf::DirShelf;
+pub use feed::Feed;
 pub use fetch::{FetchError, fetch_all};
 pub use mem_shelf::MemShelf;
 pub use mem_sink::MemSink;

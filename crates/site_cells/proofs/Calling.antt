@@ -22,13 +22,6 @@ use Rattle.site_cells.proofs.Slots.{bound}
 
 -- ---- what is done
 
-pub helper_called : (refs : List ℕ) (m n : Machine) (i : Insn) (helper : Option Helper) → i.op ≡ Call → helper_of i.imm ≡ helper → effect refs m i i.op ≡ Some n → helpers.called helper m ≡ Some n
-helper_called refs m n i helper op same e = by (i.src == 0) (sym (ap (effect refs m i) op) ∙ e)
-  where
-    by : (t : Bool) → (if t then helpers.called (helper_of i.imm) m else None) ≡ Some n → helpers.called helper m ≡ Some n
-    by true f = ap (λ (h : Option Helper). helpers.called h m) (sym same) ∙ f
-    by false f = absurd cc
-
 -- the declaration of the map and the bytes of the key
 pub record Keyed (m : Machine) (q : ℕ) (d : MapDecl) (key : List ℕ) : Type 0 where
   pub map : register m.registers 1 ≡ is.Map q

@@ -55,7 +55,8 @@ use Rattle.site_cells.proofs.OneSite.{adds_site, fits_map}
 use Rattle.site_cells.proofs.Answered.{inside_among, answered_inside, answered_held}
 use Rattle.site_cells.proofs.Stale.{changed_inside, changed_held}
 use Rattle.site_cells.proofs.Allowed.{delete_allowed, update_allowed}
-use Rattle.site_cells.proofs.Calling.{helper_called, key_is, keyed_operation, decl_is}
+use Rattle.kind_core.proofs.xdp_machine_laws.CallLaws.{helper_called}
+use Rattle.site_cells.proofs.Calling.{key_is, keyed_operation, decl_is}
 use Rattle.site_cells.proofs.Stores.{written}
 
 -- what a helper does on a machine: an operation, which its site is, and a number that it answers

@@ -38,7 +38,8 @@ use Rattle.site_cells.proofs.Adding.{after_one, read_value, last_pointer}
 use Rattle.site_cells.proofs.OneSite.{adds_site, fits_map}
 use Rattle.site_cells.proofs.Answered.{inside_among, held_among, answered_inside, answered_held}
 use Rattle.site_cells.proofs.Allowed.{lookup_allowed}
-use Rattle.site_cells.proofs.Calling.{helper_called, keyed_operation, lookup_is, decl_is}
+use Rattle.kind_core.proofs.xdp_machine_laws.CallLaws.{helper_called}
+use Rattle.site_cells.proofs.Calling.{keyed_operation, lookup_is, decl_is}
 
 bit_is : (b : Bool) → on (bits_from (bit b) 0 1) ≡ b
 bit_is true = refl

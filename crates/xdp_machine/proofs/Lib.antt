@@ -9,3 +9,4 @@ pub mod FitLaws
 pub mod SizeLaws
 pub mod TouchLaws
 pub mod RangeLaws
+pub mod CallLaws

@@ -1,4 +1,4 @@
-use Rattle.std.proofs.Common.{◌≡◌, drop, refl, sym, ap, ◌∙◌}
+use Rattle.std.proofs.Common.{◌≡◌, refl, sym, ap, ◌∙◌}
 use Rattle.net_core.specs.Ports.{words_of}
 use Rattle.net_core.specs.Trace.{cycle_of}
 use Rattle.realization.specs.History.{drive_inputs, inputs_with}
@@ -30,7 +30,7 @@ pub returns-then-shown-clause-left : goal.returns-then-shown-clause-left
 returns-then-shown-clause-left g c =
     let is : c.inputs_with-inputs.result ≡ drive_inputs c.args.left.now = c.inputs_with-inputs.ensures ∙ ap inputs_with c.first.ensures.first ∙ inputs_are c.args.left.now in
     let shown = ap (λ o. o.in_ready) (rw is at c.in-Ok.ensures.outputs) in
-    c.take.ensures ∙ ap (λ l. drop 1 l) c.first.ensures.same ∙ sym (left_gone (cycle_of (g.C.Clocked.netlist c.args.sim.now) (g.C.Clocked.stored c.args.sim.now) (drive_inputs c.args.left.now)) c.args.left.now refl (sym shown ∙ c.if-shown.true))
+    c.take.ensures ∙ sym (left_gone (cycle_of (g.C.Clocked.netlist c.args.sim.now) (g.C.Clocked.stored c.args.sim.now) (drive_inputs c.args.left.now)) c.args.left.now refl (sym shown ∙ c.if-shown.true))
 
 pub returns-else-shown-clause-runs : goal.returns-else-shown-clause-runs
 returns-else-shown-clause-runs g c =
@@ -51,4 +51,4 @@ pub returns-else-shown-clause-left : goal.returns-else-shown-clause-left
 returns-else-shown-clause-left g c =
     let is : c.inputs_with-inputs.result ≡ drive_inputs c.args.left.now = c.inputs_with-inputs.ensures ∙ ap inputs_with c.first.ensures.first ∙ inputs_are c.args.left.now in
     let shown = ap (λ o. o.in_ready) (rw is at c.in-Ok.ensures.outputs) in
-    c.first.ensures.same ∙ sym (left_stays (cycle_of (g.C.Clocked.netlist c.args.sim.now) (g.C.Clocked.stored c.args.sim.now) (drive_inputs c.args.left.now)) c.args.left.now (sym shown ∙ c.if-shown.false))
+    sym (left_stays (cycle_of (g.C.Clocked.netlist c.args.sim.now) (g.C.Clocked.stored c.args.sim.now) (drive_inputs c.args.left.now)) c.args.left.now (sym shown ∙ c.if-shown.false))
