@@ -9,7 +9,6 @@ ghost use Rattle.xdp_state.specs.Views.{value_of};
 ghost use Rattle.xdp_state.specs.Cases.{Makes};
 ghost use Rattle.xdp_state.specs.Machines.{machine_of};
 
-use xdp_state::beat_core::Frame;
 use xdp_state::bpf_isa::Helper;
 use xdp_state::xdp_maps::state::Maps;
 use xdp_state::{Key, State, Value, declared, fill, number_in};
@@ -31,7 +30,7 @@ fn map_in(value: &Value) -> Option<u32>
 }
 
 // bpf_map_lookup_elem(map, key)
-fn lookup(state: &mut State, frame: &Frame, maps: &Maps) -> bool
+fn lookup(state: &mut State, frame: &[u8], maps: &Maps) -> bool
     ensures { Makes result (lookup (machine_of state.old frame.now maps.now)) (machine_of state.old frame.now maps.now) (machine_of state.new frame.now maps.now) }
 {
     let Some(q) = map_in(state.registers.get(1)) else {
@@ -54,7 +53,7 @@ fn lookup(state: &mut State, frame: &Frame, maps: &Maps) -> bool
 }
 
 // bpf_map_update_elem(map, key, value, flags)
-fn update(state: &mut State, frame: &Frame, maps: &mut Maps) -> bool
+fn update(state: &mut State, frame: &[u8], maps: &mut Maps) -> bool
     ensures { Makes result (update (machine_of state.old frame.now maps.old)) (machine_of state.old frame.now maps.old) (machine_of state.new frame.now maps.new) }
 {
     let Some(q) = map_in(state.registers.get(1)) else {
@@ -84,7 +83,7 @@ fn update(state: &mut State, frame: &Frame, maps: &mut Maps) -> bool
 }
 
 // bpf_map_delete_elem(map, key)
-fn delete(state: &mut State, frame: &Frame, maps: &mut Maps) -> bool
+fn delete(state: &mut State, frame: &[u8], maps: &mut Maps) -> bool
     ensures { Makes result (delete (machine_of state.old frame.now maps.old)) (machine_of state.old frame.now maps.old) (machine_of state.new frame.now maps.new) }
 {
     let Some(q) = map_in(state.registers.get(1)) else {
@@ -133,7 +132,7 @@ fn redirect(state: &mut State) -> bool
 }
 
 // A call of a helper.
-fn help(state: &mut State, frame: &Frame, maps: &mut Maps, helper: Helper) -> bool
+fn help(state: &mut State, frame: &[u8], maps: &mut Maps, helper: Helper) -> bool
     ensures { Makes result (called (Some helper) (machine_of state.old frame.now maps.old)) (machine_of state.old frame.now maps.old) (machine_of state.new frame.now maps.new) }
 {
     match helper {
@@ -146,7 +145,7 @@ fn help(state: &mut State, frame: &Frame, maps: &mut Maps, helper: Helper) -> bo
 }
 
 /// A call of the helper of this number, if there is one.
-pub(crate) fn call(state: &mut State, frame: &Frame, maps: &mut Maps, id: i64) -> bool
+pub(crate) fn call(state: &mut State, frame: &[u8], maps: &mut Maps, id: i64) -> bool
     ensures { Makes result (called (helper_of id) (machine_of state.old frame.now maps.old)) (machine_of state.old frame.now maps.old) (machine_of state.new frame.now maps.new) }
 {
     match Helper::of(id) {

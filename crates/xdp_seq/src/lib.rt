@@ -7,5 +7,5 @@ mod plan;
 mod run;
 mod step;
 
-pub use plan::{SeqPlan, run_packet};
+pub use plan::{SeqPlan, run_bytes, run_packet};
 pub use run::{Ended, STEP_LIMIT, SeqError};

@@ -14,7 +14,7 @@ use std::alloc::{AllocError, Global};
 use std::marker::Model;
 use xdp_object::Program;
 use xdp_state::State;
-use xdp_state::beat_core::{Frame, Meta};
+use xdp_state::beat_core::{FRAME_LIMIT, Frame, Meta};
 use xdp_state::bpf_isa::Insn;
 use xdp_state::xdp_maps::state::Maps;
 
@@ -81,6 +81,26 @@ pub fn run_packet(
     plan: &mut SeqPlan,
     maps: &mut Maps,
     frame: &mut Frame,
+    meta: Meta,
+) -> Result<Ended, SeqError>
+    ensures answer { Answers result (run plan.old STEP_LIMIT (start (record { frame = frame.old; ifindex = meta.ifindex; time = meta.time }) maps.old)) frame.new maps.new }
+    ensures plan { plan.new ≡ plan.old }
+    ensures frame { length frame.new ≡ length frame.old }
+    ensures decls { maps.new.decls ≡ maps.old.decls }
+{
+    let mut room = [0; FRAME_LIMIT];
+    let bytes = &mut room[..frame.len()];
+    bytes.copy_from_slice(frame.bytes());
+    let result = run_bytes(plan, maps, bytes, meta);
+    frame.write(0, bytes);
+    result
+}
+
+/// The run of one packet of which these are the bytes, likewise.
+pub fn run_bytes(
+    plan: &mut SeqPlan,
+    maps: &mut Maps,
+    frame: &mut [u8],
     meta: Meta,
 ) -> Result<Ended, SeqError>
     ensures answer { Answers result (run plan.old STEP_LIMIT (start (record { frame = frame.old; ifindex = meta.ifindex; time = meta.time }) maps.old)) frame.new maps.new }

@@ -9,7 +9,6 @@ ghost use Rattle.xdp_seq.specs.Answers.{Answers};
 use crate::flow::Flow;
 use crate::step::step;
 use xdp_state::State;
-use xdp_state::beat_core::Frame;
 use xdp_state::bpf_isa::Insn;
 use xdp_state::xdp_maps::state::Maps;
 
@@ -41,7 +40,7 @@ pub(crate) fn run(
     units: &[Option<Insn>],
     refs: &[u32],
     state: &mut State,
-    frame: &mut Frame,
+    frame: &mut [u8],
     maps: &mut Maps,
 ) -> Result<Ended, SeqError>
     requires { AreUnits units.now }

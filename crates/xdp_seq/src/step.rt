@@ -19,7 +19,6 @@ ghost use Rattle.xdp_seq.specs.Flows.{Flows};
 
 use crate::calls::call;
 use crate::flow::Flow;
-use xdp_state::beat_core::Frame;
 use xdp_state::bpf_isa::{Insn, JumpCode, Op, Src, Width};
 use xdp_state::xdp_maps::state::Maps;
 use xdp_state::{
@@ -124,7 +123,7 @@ fn constant(refs: &[u32], place: u32, insn: &Insn) -> Option<Value>
 }
 
 // What an instruction that does not jump makes of the machine.
-fn effect(refs: &[u32], state: &mut State, frame: &mut Frame, maps: &mut Maps, insn: &Insn) -> bool
+fn effect(refs: &[u32], state: &mut State, frame: &mut [u8], maps: &mut Maps, insn: &Insn) -> bool
     requires { IsInsn insn.now }
     ensures { let m = machine_of state.old frame.old maps.old in
         Makes result (effect refs.now m insn.now insn.now.op) m (machine_of state.new frame.new maps.new) }
@@ -161,7 +160,7 @@ fn goes_on(
     units: &[Option<Insn>],
     refs: &[u32],
     state: &mut State,
-    frame: &mut Frame,
+    frame: &mut [u8],
     maps: &mut Maps,
     insn: &Insn,
 ) -> Flow
@@ -187,7 +186,7 @@ pub(crate) fn step(
     units: &[Option<Insn>],
     refs: &[u32],
     state: &mut State,
-    frame: &mut Frame,
+    frame: &mut [u8],
     maps: &mut Maps,
 ) -> Flow
     requires { AreUnits units.now }
@@ -205,7 +204,7 @@ fn outcome(
     units: &[Option<Insn>],
     refs: &[u32],
     state: &mut State,
-    frame: &mut Frame,
+    frame: &mut [u8],
     maps: &mut Maps,
     insn: &Insn,
 ) -> Flow

@@ -15,14 +15,13 @@ use crate::memory::bytes_in;
 use crate::pointers::number_in;
 use crate::state::State;
 use crate::value::Value;
-use beat_core::Frame;
 use xdp_machine::bpf_isa::{Insn, Size, Width};
 use xdp_machine::xdp_maps::state::Maps;
 
 // What a load finds at an offset from a pointer.
 fn loaded(
     state: &State,
-    frame: &Frame,
+    frame: &[u8],
     maps: &Maps,
     base: &Value,
     offset: i16,
@@ -39,7 +38,7 @@ fn loaded(
 }
 
 // A field of the context: data, data_end, ingress_ifindex or rx_queue_index.
-fn from_context(state: &State, frame: &Frame, maps: &Maps, offset: i16) -> Option<Value>
+fn from_context(state: &State, frame: &[u8], maps: &Maps, offset: i16) -> Option<Value>
     ensures { option_map value_of result ≡ from_context (machine_of state.now frame.now maps.now) offset }
 {
     match offset {
@@ -54,7 +53,7 @@ fn from_context(state: &State, frame: &Frame, maps: &Maps, offset: i16) -> Optio
 /// MEM.
 pub fn loaded_plain(
     state: &State,
-    frame: &Frame,
+    frame: &[u8],
     maps: &Maps,
     base: &Value,
     offset: i16,
@@ -71,7 +70,7 @@ pub fn loaded_plain(
 /// MEMSX.
 pub fn loaded_signed(
     state: &State,
-    frame: &Frame,
+    frame: &[u8],
     maps: &Maps,
     base: &Value,
     offset: i16,
@@ -88,7 +87,7 @@ pub fn loaded_signed(
 /// A store of a value at an offset from the destination.
 pub fn store(
     state: &mut State,
-    frame: &mut Frame,
+    frame: &mut [u8],
     maps: &mut Maps,
     insn: &Insn,
     size: Size,

@@ -8,7 +8,6 @@ ghost use Rattle.xdp_state.specs.Cases.{Makes};
 
 use crate::memory::{bytes_in, bytes_of, inside, number_at};
 use crate::value::Value;
-use beat_core::Frame;
 use xdp_machine::bpf_isa::Size;
 
 // Where an access to a frame of so many bytes begins.
@@ -20,21 +19,23 @@ fn in_frame(o: i64, offset: i16, size: Size, len: usize) -> Option<usize>
 }
 
 /// A load at an offset from a place in the frame.
-pub fn from_frame(frame: &Frame, o: i64, offset: i16, size: Size) -> Option<Value>
+pub fn from_frame(frame: &[u8], o: i64, offset: i16, size: Size) -> Option<Value>
     ensures { option_map value_of result ≡ from_frame frame.now (o +ℤ offset) size }
 {
     let at = in_frame(o, offset, size, frame.len())?;
-    Some(Value::Number(number_at(frame.bytes(), at, size)))
+    Some(Value::Number(number_at(frame, at, size)))
 }
 
 /// A store of a number likewise.
 #[tactic(auto, using(xdp_machine::proofs::SizeLaws::low_part))]
-pub fn to_frame(frame: &mut Frame, o: i64, offset: i16, size: Size, n: u64) -> bool
+pub fn to_frame(frame: &mut [u8], o: i64, offset: i16, size: Size, n: u64) -> bool
     ensures { Makes result (to_frame frame.old (o +ℤ offset) size n) frame.old frame.new }
 {
     let Some(at) = in_frame(o, offset, size, frame.len()) else {
         return false;
     };
-    frame.write(at, &bytes_of(n)[..bytes_in(size)]);
+    let bytes = bytes_of(n);
+    let count = bytes_in(size);
+    frame[at..at + count].copy_from_slice(&bytes[..count]);
     true
 }

@@ -8,10 +8,9 @@ ghost use Rattle.xdp_state.specs.Cases.{Fills};
 use crate::memory::inside;
 use crate::stack::{STACK_BYTES, Stack};
 use crate::value::Value;
-use beat_core::Frame;
 
 /// Fills a buffer with the bytes that a pointer leads to.
-pub fn fill(stack: &Stack, frame: &Frame, pointer: &Value, into: &mut [u8]) -> bool
+pub fn fill(stack: &Stack, frame: &[u8], pointer: &Value, into: &mut [u8]) -> bool
     requires { length into.old ≤ 64 }
     ensures { Fills result (region stack.now frame.now (length into.old) (value_of pointer.now)) into.new }
 {
@@ -19,7 +18,7 @@ pub fn fill(stack: &Stack, frame: &Frame, pointer: &Value, into: &mut [u8]) -> b
     match pointer {
         Value::Packet(o) => match inside(i128::from(*o), n, frame.len()) {
             Some(at) => {
-                into.copy_from_slice(&frame.bytes()[at..at + n]);
+                into.copy_from_slice(&frame[at..at + n]);
                 true
             }
             None => false,

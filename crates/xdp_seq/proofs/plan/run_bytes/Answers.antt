@@ -3,7 +3,7 @@ use Rattle.xdp_state.specs.xdp_machine.State.{start}
 use Rattle.xdp_seq.specs.declared.run.TheConstants.{STEP_LIMIT}
 use Rattle.xdp_state.proofs.xdp_machine_laws.RunLaws.{runs_keep_sizes}
 use Rattle.xdp_seq.proofs.Kept.{frame_answered, maps_answered}
-use Rattle.xdp_seq.proofs.plan.run_packet.Goals as goal
+use Rattle.xdp_seq.proofs.plan.run_bytes.Goals as goal
 
 pub returns-clause-answer : goal.returns-clause-answer
 returns-clause-answer c =
