@@ -214,8 +214,10 @@ fn outcome(
         Flows result (outcome (code_of units.now refs.now) m insn.now insn.now.op) m (machine_of state.new frame.new maps.new) }
 {
     match insn.op {
-        Op::Ja(Width::Bits64) => goes_over(state, units, i64::from(insn.offset)),
-        Op::Ja(Width::Bits32) => goes_over(state, units, insn.imm),
+        Op::Ja(width) => match width {
+            Width::Bits64 => goes_over(state, units, i64::from(insn.offset)),
+            Width::Bits32 => goes_over(state, units, insn.imm),
+        },
         Op::Jump(width, code, src) => jump(state, units, insn, width, code, src),
         Op::Exit => exit(state),
         _ => goes_on(units, refs, state, frame, maps, insn),
