@@ -10,7 +10,7 @@ use Rattle.bpf_isa.specs.declared.operation.Op.TheVariants.{LoadImm}
 use Rattle.bpf_isa.specs.declared.instruction.Insn.{Insn}
 use Rattle.bpf_isa.specs.Opcode.{code_of}
 use Rattle.bpf_isa.specs.Spelling.{units_of, spelled, spelling, IsInsn, Begins, HasImm}
-use Rattle.bpf_isa.proofs.Codes.{code_of-injective}
+use Rattle.bpf_isa.proofs.CodeLaws.{code_of-injective}
 use Rattle.bpf_isa.proofs.Units.{unit_one}
 use Rattle.bpf_isa.proofs.Fronts.{fields_of, split, insn_is}
 

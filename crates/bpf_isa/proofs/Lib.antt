@@ -1,4 +1,4 @@
-pub mod Codes
+pub mod CodeLaws
 pub mod Units
 pub mod Fronts
 pub mod Laws

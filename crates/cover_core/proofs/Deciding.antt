@@ -24,6 +24,7 @@ use Rattle.kind_core.specs.Conditions.{bounds_test, mirrored, null_test, against
 use Rattle.kind_core.specs.Effects.{operand, jump}
 use Rattle.kind_core.specs.Edges.{decision}
 use Rattle.kind_core.specs.Describes.{World, Describes, DescribesNumber, DescribesMachine}
+use Rattle.kind_core.proofs.OperandLaws.{operand_described}
 
 -- an entry
 record IsEntryAt (x : Value) : Type 0 where
@@ -78,10 +79,6 @@ condition_decided w maps wd c (Num (Known i)) (Num Unknown) x y t p q h = absurd
 condition_decided w maps wd c (Num Unknown) (Num n) x y t p q h = absurd (cc)
 condition_decided w maps Bits64 c a b x y t p q h = pointer_decided w maps c a b x y t p q h
 condition_decided w maps Bits32 c a b x y t p q h = absurd (cc)
-
-operand_described : (w : World) (k : Kinds) (m : Machine) (i : Insn) (s : Src) → DescribesMachine w k m → Describes w m.maps (operand k i s) (step.operand m.registers i s)
-operand_described w k m i K d = refl
-operand_described w k m i X d = d.registers i.src
 
 pub jump_decided : (w : World) (k : Kinds) (m : Machine) (i : Insn) (wd : Width) (c : JumpCode) (s : Src) (t : Bool) → DescribesMachine w k m → decision (jump k i wd c s) ≡ Some t
     → compared wd c (machine.register m.registers i.dst) (step.operand m.registers i s) ≡ Some t

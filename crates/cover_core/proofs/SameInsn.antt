@@ -3,7 +3,7 @@ use Rattle.std.proofs.Common.{◌≡◌, ℕ, ℤ, sym, ◌∙◌, ap}
 use Rattle.xdp_machine.specs.bpf_isa.Opcode.{code_of}
 use Rattle.xdp_machine.specs.bpf_isa.declared.operation.Op.{Op}
 use Rattle.xdp_machine.specs.bpf_isa.declared.instruction.Insn.{Insn}
-use Rattle.xdp_machine.proofs.bpf_isa_laws.Codes.{code_of-injective}
+use Rattle.xdp_machine.proofs.bpf_isa_laws.CodeLaws.{code_of-injective}
 use Rattle.cover_core.specs.Cover.{undirected, AreSameFields}
 use Rattle.cover_core.proofs.Twins.{op_kept, same_op}
 

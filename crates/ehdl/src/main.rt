@@ -26,7 +26,7 @@ fn main(rt: HostRuntime) -> ExitCode {
             return ExitCode::from(NO_MEMORY);
         }
     }
-    let mut shelf = DirShelf::new(&rt);
+    let mut shelf = DirShelf::new(alloc, &rt);
     let mut out = StdSink::new(&rt);
     let status = top(alloc, &words, &mut shelf, &mut out);
     ExitCode::from(status.code())

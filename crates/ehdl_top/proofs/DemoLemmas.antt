@@ -5,7 +5,6 @@ use Rattle.std.specs.declared.alloc.Global.{Global}
 use Rattle.std.specs.List.{AllByRecursion}
 use Rattle.std.proofs.Common.{get_or, IsErrAnd, refl, sym, ap, subst, ◌∙◌, inl, inr, arith}
 use Rattle.std.proofs.lemmas.List.{length-map}
-use Rattle.std.proofs.lemmas.List.Elements.{All-from_recursion}
 use Rattle.std.proofs.lemmas.List.FromFn.{length-map-range_with_len}
 use Rattle.std.proofs.lemmas.List.Sums.{sum_by-le}
 use Rattle.beat_core.specs.declared.frame.TheConstants.{FRAME_LIMIT}
@@ -21,16 +20,12 @@ use Rattle.xdp_object.specs.xdp_machine.Program.{XdpProgram}
 use Rattle.xdp_object.specs.Choice.{chosen}
 use Rattle.xdp_object.specs.Object.{IsObject}
 use Rattle.xdp_object.proofs.OutcomeLaws.{one_outcome}
-use Rattle.xdp_object.specs.xdp_machine.State.{Code, PacketIn, start}
-use Rattle.xdp_object.specs.xdp_machine.Runs.{Leaves, Progress, IsRun, AreRuns}
-use Rattle.xdp_object.specs.xdp_machine.MachineLaws.{KeepsSizes}
-use Rattle.kind_core.proofs.xdp_machine_laws.RunLaws.{runs_keep_sizes}
 use Rattle.xdp_state.specs.declared.refusal.Refusal.{Refusal}
 use Rattle.row_rules.specs.NodeRows.Acceptance.{IsFirstRefusal}
 use Rattle.row_rules.proofs.NodeRows.OneOutcomeLaws.{has_one_outcome}
 use Rattle.port_drive.specs.realization.Bounds.{clock_bound, most_beats}
 use Rattle.ehdl_build.specs.declared.built.Built.{Built}
-use Rattle.ehdl_build.specs.Compiled.{HasSize, IsSequential, answer_of, code_of, packets_in, size_of}
+use Rattle.ehdl_build.specs.Compiled.{HasSize, IsSequential, size_of}
 use Rattle.flow_demo.specs.Program.{IsDemoObject, demo_program, flow}
 use Rattle.flow_demo.specs.Packets.{demo_content, demo_packets, packet_from, state_before}
 use Rattle.flow_demo.specs.DemoGraph.Size.{DemoIsAccepted}
@@ -39,16 +34,18 @@ use Rattle.command_line.specs.Request.{AskDemo}
 use Rattle.ehdl_top.specs.declared.error.CommandError.{CommandError}
 use Rattle.ehdl_top.specs.declared.error.CommandError.TheVariants as error
 use Rattle.ehdl_top.specs.declared.packets.Captured.{Captured}
-use Rattle.ehdl_top.specs.States.{ShelfState}
-use Rattle.ehdl_top.specs.Forms.{ProgramFaults, CaptureFaults, IsCaptured, built, program_form, capture_form}
-use Rattle.ehdl_top.specs.Results.{timed_packets, came_by}
+use Rattle.capture_run.specs.States.{ShelfState}
+use Rattle.capture_run.specs.Captures.{IsCaptured}
+use Rattle.ehdl_top.specs.Forms.{ProgramFaults, CaptureFaults, built, program_form, capture_form}
+use Rattle.capture_run.specs.Results.{timed_packets, came_by}
 use Rattle.ehdl_top.specs.Demo.{demo_lines}
 use Rattle.ehdl_top.specs.Outcome.{IsDemo}
-use Rattle.ehdl_top.specs.Steps.{IsGivenUp, IsRealized, IsLegal, IsCaptureOf, EndsIn}
-use Rattle.ehdl_top.proofs.StateLemmas.{changes_none}
+use Rattle.capture_run.specs.Runs.{IsLegal}
+use Rattle.ehdl_top.specs.Steps.{IsGivenUp, IsRealized, IsCaptureOf, EndsIn}
+use Rattle.capture_run.proofs.StateLaws.{changes_none}
 use Rattle.ehdl_top.proofs.FormLemmas.{one_result, no_result, no_fault}
 use Rattle.ehdl_top.proofs.OutcomeLemmas.{demo_makes, answers_count}
-use Rattle.ehdl_top.proofs.RealizedLemmas.{sequential_decls}
+use Rattle.ehdl_top.proofs.RealizedLemmas.{sequential_decls, answers_fit}
 use Rattle.ehdl_top.proofs.EndLemmas.{out_of_memory, ends_as, ends_done}
 
 -- ---- the object
@@ -114,31 +111,11 @@ frames_are magic [] = refl
 frames_are magic (p ∷ rest) = ap (λ fs. p.bytes ∷ fs) (frames_are magic rest)
 
 -- ---- the bytes that are answered
-frame_kept : (code : Code) (packet : PacketIn) (maps : MapState) (e : Leaves) → IsRun code packet maps e → length e.frame ≡ length packet.frame
-frame_kept code packet maps e (n, ran) = let P : Progress → Type 0 = KeepsSizes (start packet maps) in (subst P ran (runs_keep_sizes code n (start packet maps) refl)).frame
-
-short_answers : (code : Code) (maps : MapState) (packets : List PacketIn) (es : List Leaves) (last : MapState) → AreRuns code maps packets es last → AllByRecursion (λ p. length p.frame ≤ FRAME_LIMIT) packets
-    → AllByRecursion (λ (a : Answer). length a.frame ≤ FRAME_LIMIT) (map answer_of es)
-short_answers code maps [] [] last runs short = tt
-short_answers code maps [] (e ∷ es) last runs short = absurd runs
-short_answers code maps (packet ∷ packets) [] last runs short = absurd runs
-short_answers code maps (packet ∷ packets) (e ∷ es) last runs short =
-    let kept : length e.frame ≡ length packet.frame = frame_kept code packet maps e runs.0 in
-    let few : length packet.frame ≤ FRAME_LIMIT = short.0 in
-    (omega (arith, kept, few), short_answers code e.maps packets es last runs.1 short.1)
-
-short_packets : (ifindex : ℕ) (timed : List Timed) → AllByRecursion IsLegal timed → AllByRecursion (λ p. length p.frame ≤ FRAME_LIMIT) (packets_in (came_by ifindex timed))
-short_packets ifindex [] legal = tt
-short_packets ifindex (p ∷ rest) legal = (legal.0.0.room, short_packets ifindex rest legal.1)
-
 pub bytes_fit : (p : XdpProgram) (maps last : MapState) (ifindex : ℕ) (timed : List Timed) (answers : List Answer) → IsSequential p maps (came_by ifindex timed) answers last → AllByRecursion IsLegal timed → length timed < 2 ^ 32 → byte_count answers < 2 ^ 64
 bytes_fit p maps last ifindex timed answers is legal few =
-    let es = is.leaves in
-    let packets : List PacketIn = packets_in (came_by ifindex timed) in
-    let short = All-from_recursion (λ (a : Answer). length a.frame ≤ FRAME_LIMIT) (map answer_of es) (short_answers (code_of p) maps packets es last is.runs (short_packets ifindex timed legal)) in
-    let most : byte_count (map answer_of es) ≤ length (map answer_of es) * FRAME_LIMIT = sum_by-le (λ (a : Answer). length a.frame) FRAME_LIMIT (map answer_of es) short in
+    let most : byte_count answers ≤ length answers * FRAME_LIMIT = sum_by-le (λ (a : Answer). length a.frame) FRAME_LIMIT answers (answers_fit p maps last ifindex timed answers is legal) in
     let count : length answers ≡ length timed = answers_count p maps last ifindex timed answers is in
-    omega (arith, most, count, ap (λ (rs : List Answer). length rs) is.answers_are, few, ap byte_count is.answers_are)
+    omega (arith, most, count, few)
 
 -- ---- what is counted
 pub demo_of : (seed n : ℕ) (b : Built) (program : XdpProgram) (captured : Captured) (packets : List Packet) (bytes : List ℕ) (timed : List Timed) (first last : MapState) (answers : List Answer) (limit : ℕ) (lines : List (List ℕ))

@@ -1,9 +1,7 @@
--- What a drive gives: no more answers than are owed, and it stops at a wire of the design.
+-- A drive stops at a wire of the design.
 use Rattle.std.specs.Prelude.{if◌then◌else◌}
-use Rattle.std.proofs.Common.{◌≡◌, ℕ, zero, suc, ◌+◌, ◌<◌, ◌≤◌, Bool, true, false, ◌&&◌, Option, Some, None, List, [], ◌∷◌, ◌++◌, length, refl, sym, ap, ◌∙◌, subst, arith}
-use Rattle.beat_core.specs.declared.beat.Beat.{Beat}
-use Rattle.beat_core.specs.Beats.{bytes_of_beat}
-use Rattle.beat_core.specs.Ports.{Offered, Given, answers_among}
+use Rattle.std.proofs.Common.{◌≡◌, ℕ, zero, suc, ◌+◌, ◌<◌, Bool, true, false, Option, Some, None, List, [], ◌∷◌, length, refl, sym, ap, ◌∙◌, subst, arith}
+use Rattle.beat_core.specs.Ports.{Offered}
 use Rattle.net_core.specs.declared.tree.Net.{Net}
 use Rattle.net_core.specs.declared.tree.Net.TheVariants.{Wire}
 use Rattle.net_core.specs.Nets.{Netlist, RightTree, WireTree}
@@ -11,9 +9,10 @@ use Rattle.net_core.specs.Names.{name_place}
 use Rattle.net_core.specs.Value.{Env, stops}
 use Rattle.net_core.specs.Clock.{Stored, after, stopping, stopped_at, rights, env_of}
 use Rattle.net_core.specs.Ports.{words_of}
+use Rattle.net_core.proofs.WireLaws.{length_rights}
 use Rattle.realization.proofs.DriveLaws.{stopped_drive}
-use Rattle.net_core.specs.Trace.{Cycle, cycle_of}
-use Rattle.port_drive.specs.realization.History.{answers_given, given_out, goes_out, shown_beat, drive_inputs, left_after, owed_after, Drive, drive, and_then, Ended, Answered, Stopped, OutOfClocks}
+use Rattle.net_core.specs.Trace.{cycle_of}
+use Rattle.port_drive.specs.realization.History.{drive_inputs, left_after, owed_after, Drive, drive, and_then, Ended, Answered, Stopped, OutOfClocks}
 use Rattle.port_drive.proofs.DriveLaws.{done_drive, late_drive, next_drive}
 use Rattle.verilog_read.specs.design_rules.Formed.{IsWellFormed}
 use Rattle.verilog_read.proofs.design_rules_laws.FormedItemLaws.{last_kept}
@@ -28,10 +27,6 @@ stopped_within v at w [] e = absurd cc
 stopped_within v at w (r ∷ rs) e =
     first_or_later (stops v r) at (at + length (r ∷ rs)) w (stopped_at v (suc at) rs) e (omega arith)
     (λ f. let h : w < suc at + length rs = stopped_within v (suc at) w rs f in omega (arith, h))
-
-pub length_rights : (ws : List WireTree) → length (rights ws) ≡ length ws
-length_rights [] = refl
-length_rights (w ∷ ws) = ap suc (length_rights ws)
 
 -- a drive, by whether its first clock stops
 by_stop : (P : Drive → Type 0) (d : Netlist) (s : Stored) (left : List Offered) (owed limit : ℕ) (o : Option ℕ) → stopping d (words_of (drive_inputs left)) s ≡ o
@@ -64,33 +59,3 @@ drive_stopped d s left (suc owed) (suc limit) =
 -- a wire has a name
 pub wire_named : (d : Netlist) → IsWellFormed d → (w : ℕ) → w < length d.wires → name_place d (Wire w) < length d.names
 wire_named d formed w within = let e : length d.names ≡ length d.ports + length d.declared + length d.wires = (last_kept d formed).names in omega (arith, e, within)
-
--- ---- how many answers there are
-one_clock : (go last : Bool) (owed word bytes verdict target : ℕ) (so_far : List ℕ) (gs : List Given) →
-    let b : Beat = record { word = word; bytes = bytes; last = last } in
-    let most : ℕ = if go && last then owed else suc owed in
-    length (answers_among [] gs) ≤ most → length (answers_among (so_far ++ bytes_of_beat b) gs) ≤ most → length (answers_among so_far gs) ≤ most →
-    length (answers_among so_far (if go then record { beat = b; verdict = verdict; target = target } ∷ gs else gs)) ≤ suc owed
-one_clock true true owed word bytes verdict target so_far gs e b k = omega arith
-one_clock true false owed word bytes verdict target so_far gs e b k = b
-one_clock false true owed word bytes verdict target so_far gs e b k = k
-one_clock false false owed word bytes verdict target so_far gs e b k = k
-
-abbrev GivesFew : ℕ → Drive → Type 0
-GivesFew owed r = (so_far : List ℕ) → length (answers_given so_far r.trace) ≤ owed
-
-gives_none : (owed : ℕ) (r : Drive) (e : Ended) → r ≡ record { trace = []; ended = e } → GivesFew owed r
-gives_none owed r e is = λ so_far. let n : length (answers_given so_far r.trace) ≡ 0 = ap (λ (q : Drive). length (answers_given so_far q.trace)) is in omega (arith, n)
-
-pub drive_few : (d : Netlist) (s : Stored) (left : List Offered) (owed limit : ℕ) → GivesFew owed (drive d s left owed limit)
-drive_few d s left zero limit = gives_none zero (drive d s left zero limit) Answered (done_drive d s left limit)
-drive_few d s left (suc owed) zero = gives_none (suc owed) (drive d s left (suc owed) zero) OutOfClocks (late_drive d s left owed)
-drive_few d s left (suc owed) (suc limit) =
-    by_stop (GivesFew (suc owed)) d s left owed limit (stopping d (words_of (drive_inputs left)) s) refl
-    (λ w e. gives_none (suc owed) (record { trace = []; ended = Stopped w }) (Stopped w) refl)
-    (λ so_far.
-    let m : Cycle = cycle_of d s (drive_inputs left) in
-    let rest : Drive = drive d (after d (words_of (drive_inputs left)) s) (left_after m left) (owed_after m (suc owed)) limit in
-    let few : GivesFew (owed_after m (suc owed)) rest = drive_few d (after d (words_of (drive_inputs left)) s) (left_after m left) (owed_after m (suc owed)) limit in
-    one_clock (goes_out m) m.shown.out_last owed m.shown.out_data m.shown.out_bytes m.shown.out_verdict m.shown.out_target so_far (given_out rest.trace)
-    (few []) (few (so_far ++ bytes_of_beat (shown_beat m))) (few so_far))

@@ -1,20 +1,23 @@
 -- How a command ends, by the step at which it does.
-use Rattle.std.proofs.Common.{◌≡◌, ℕ, Bool, IsTrue, List, [], ◌∷◌, ◌++◌, Option, Some, None, Result, Ok, Err, IsErrAnd, refl, sym, subst, inl, inr}
+use Rattle.std.proofs.Common.{◌≡◌, ℕ, Bool, IsTrue, List, [], ◌∷◌, ◌++◌, Option, Some, None, Result, Ok, Err, IsErrAnd, ◌⊎◌, refl, sym, ap, subst, inl, inr}
 use Rattle.xdp_maps.specs.declared.decl.MapDecl.{MapDecl}
 use Rattle.command_line.specs.Request.{Request}
 use Rattle.ehdl_top.specs.declared.error.CommandError.{CommandError}
 use Rattle.ehdl_top.specs.declared.error.CommandError.TheVariants as error
+use Rattle.ehdl_top.specs.declared.status.Status.{Status}
+use Rattle.ehdl_top.specs.declared.status.Status.TheVariants as status
 use Rattle.ehdl_top.specs.Status.{ended, status_of}
-use Rattle.ehdl_top.specs.States.{ShelfState, Changes}
-use Rattle.ehdl_top.specs.Writes.{Write, AreDone, OneFailed}
-use Rattle.ehdl_top.specs.Forms.{InputForm, IsReady, IsFaulty, maps_form}
+use Rattle.capture_run.specs.States.{ShelfState, Changes, OneRose}
+use Rattle.capture_run.specs.Writes.{Write, AreDone, OneFailed}
+use Rattle.ehdl_top.specs.Forms.{InputForm, IsReady, IsFaulty, maps_form, capture_form}
 use Rattle.ehdl_top.specs.Inputs.{Input, input, may_input, AreReady, FirstStop, OneUnread, EndsAtInput}
 use Rattle.ehdl_top.specs.Requests.{inputs_of, outputs_of, EndsItself}
-use Rattle.ehdl_top.specs.Steps.{IsRead, IsUnread, AreUnread, StopsBy, Unread, AtInput, OutOfMemory, Unwritten, AtEnd, EndsIn, AreOneEnd}
-use Rattle.ehdl_top.proofs.StateLemmas.{changes_none, changes_then, changes_within, rose_from, tells_later}
+use Rattle.ehdl_top.specs.Ends.{HasStopped, LeftUnread, LeftOut}
+use Rattle.ehdl_top.specs.Steps.{IsRead, IsUnread, AreUnread, FailsWrite, WritesAll, GoesOut, EndsOver, IsOver, StopsBy, Unread, AtInput, OutOfMemory, Unwritten, UnreadLate, OutLate, AtOther, AtEnd, EndsIn, AreOneEnd}
+use Rattle.capture_run.proofs.StateLaws.{changes_none, changes_then, changes_within, rose_from, one_rose_from, tells_later}
 use Rattle.ehdl_top.proofs.InputLemmas.{unread_behind, stop_behind, ends_behind}
-use Rattle.ehdl_top.proofs.WriteLemmas.{AreOf, done_changes, failed_changes}
-use Rattle.ehdl_top.proofs.OutcomeLemmas.{Makes, was_held, writes_all, fails_write}
+use Rattle.capture_run.proofs.WriteLaws.{AreOf, done_changes, failed_changes}
+use Rattle.ehdl_top.proofs.OutcomeLemmas.{Makes, was_held, writes_all, fails_write, broken_write, stopped_part}
 
 -- memory ran out before anything was read
 pub out_of_memory : {T : Type 0} (request : Request) (s : ShelfState) → EndsIn {T = T} request s s (Err error.NoMemory)
@@ -90,13 +93,124 @@ ends_done request old mid new ws can of same makes done = record {
   kept = changes_then (outputs_of request) old mid new (changes_within (outputs_of request) old mid same) (done_changes (outputs_of request) ws mid new of done);
 }
 
--- all was written, and the drive was given up
-pub ends_driven : (request : Request) (e : CommandError) (old mid new : ShelfState) (ws : List Write) → EndsItself request (ended (Some e)) → AreOf (outputs_of request) ws → Changes [] old mid
-    → (IsTrue old.tells → Makes request old.held (Some e) ws) → AreDone ws mid new → EndsIn {T = Unit {0}} request old new (Err e)
-ends_driven request e old mid new ws can of same makes done = record {
-  by = AtEnd (writes_all request (Some e) old mid new ws can same makes done);
-  kept = changes_then (outputs_of request) old mid new (changes_within (outputs_of request) old mid same) (done_changes (outputs_of request) ws mid new of done);
-}
+-- ---- a command that reads its capture again while it writes
+-- neither a fault nor want of memory
+abbrev pub IsPlainEnd : Status → Type 0
+IsPlainEnd status.ReadFault = ⊥
+IsPlainEnd status.WriteFault = ⊥
+IsPlainEnd status.NoMemory = ⊥
+IsPlainEnd s = Unit {0}
+
+-- whose kind of end is none that an input is why for, nor a fault
+pub record IsOwnEnd (request : Request) (Itself : Status → Type 0) : Type 0 where
+  pub done : EndsItself request status.Done
+  pub other : (s : Status) → Itself s → EndsItself request s
+  pub plain : (s : Status) → Itself s → IsPlainEnd s
+  pub no_input : ¬ Itself status.Input
+  pub reads : (rest : List Write) → LeftUnread request rest
+
+-- how its writes went, where the shelf tells
+pub record IsToldOut (request : Request) (Itself : Status → Type 0) (old mid new : ShelfState) (r : Result (Unit {0}) CommandError) : Type 0 where
+  pub end : Option CommandError
+  pub ws : List Write
+  pub makes : Makes request old.held end ws
+  pub out : GoesOut Itself (LeftOut request) r end ws mid new
+
+module _ (request : Request) (Itself : Status → Type 0) (own : IsOwnEnd request Itself) (old mid new : ShelfState) (same : Changes [] old mid) where
+  done_out : (r : Result (Unit {0}) CommandError) → r ≡ Ok tt → (IsTrue old.tells → IsToldOut request Itself old mid new r) → WritesAll request None old new
+  done_out r is told = record {
+    can = own.done;
+    has = λ t.
+        let h = told t in
+        let P : Result (Unit {0}) CommandError → Type 0 = λ q. GoesOut Itself (LeftOut request) q h.end h.ws mid new in
+        let o = subst P is h.out in
+        let Q : Option CommandError → Type 0 = λ end. Makes request old.held end h.ws in
+        (writes_all request None old mid new h.ws own.done same (λ _. subst Q o.0 h.makes) o.1).has t;
+  }
+
+  written_out : (r : Result (Unit {0}) CommandError) → r ≡ Err error.WriteFault → OneRose (outputs_of request) mid.write_faults new.write_faults → (IsTrue old.tells → IsToldOut request Itself old mid new r) → FailsWrite request old new
+  written_out r is rose told = record {
+    rose = one_rose_from (outputs_of request) old.write_faults mid.write_faults new.write_faults same.later.writes rose;
+    broken = λ t.
+        let h = told t in
+        let P : Result (Unit {0}) CommandError → Type 0 = λ q. GoesOut Itself (LeftOut request) q h.end h.ws mid new in
+        broken_write request h.end old mid new h.ws same t h.makes (subst P is h.out);
+  }
+
+  unread_out : (r : Result (Unit {0}) CommandError) → r ≡ Err error.ReadFault → (IsTrue old.tells → IsToldOut request Itself old mid new r) → IsTrue old.tells → HasStopped request (LeftUnread request) old new
+  unread_out r is told t =
+      let h = told t in
+      let P : Result (Unit {0}) CommandError → Type 0 = λ q. GoesOut Itself (LeftOut request) q h.end h.ws mid new in
+      let s = subst P is h.out in
+      stopped_part request h.end (LeftUnread request) old mid new h.ws s.done s.rest same t h.makes s.all (own.reads s.rest) s.are
+
+  memory_out : (r : Result (Unit {0}) CommandError) → r ≡ Err error.NoMemory → (IsTrue old.tells → IsToldOut request Itself old mid new r) → IsTrue old.tells → Changes [] old new ⊎ HasStopped request (LeftOut request) old new
+  memory_out r is told t =
+      let h = told t in
+      let P : Result (Unit {0}) CommandError → Type 0 = λ q. GoesOut Itself (LeftOut request) q h.end h.ws mid new in
+      elim (subst P is h.out) [
+        | inl none ↦ inl (changes_then [] old mid new same none)
+        | inr s ↦ inr (stopped_part request h.end (LeftOut request) old mid new h.ws s.done s.rest same t h.makes s.all s.left s.are)
+      ]
+
+  -- an end that is neither a fault nor want of memory is its own, where the shelf tells
+  own_out : (e : CommandError) (end : Option CommandError) (ws : List Write) → IsPlainEnd (status_of e) → GoesOut Itself (LeftOut request) (Err e) end ws mid new → (end ≡ Some e) × Itself (status_of e) × AreDone ws mid new
+  own_out error.WriteFault end ws plain out = absurd plain
+  own_out error.ReadFault end ws plain out = absurd plain
+  own_out error.NoMemory end ws plain out = absurd plain
+  own_out error.Usage end ws plain out = out
+  own_out (error.Object x) end ws plain out = out
+  own_out (error.Refused x) end ws plain out = out
+  own_out error.LongVerilog end ws plain out = out
+  own_out (error.Verilog x) end ws plain out = out
+  own_out error.LongMaps end ws plain out = out
+  own_out (error.Maps x) end ws plain out = out
+  own_out error.LongCapture end ws plain out = out
+  own_out (error.Capture x) end ws plain out = out
+  own_out (error.XValue x) end ws plain out = out
+  own_out (error.Late x y) end ws plain out = out
+
+  itself_out : (e : CommandError) → IsPlainEnd (status_of e) → Itself (status_of e) → (IsTrue old.tells → IsToldOut request Itself old mid new (Err e)) → WritesAll request (Some e) old new
+  itself_out e plain itself told = record {
+    can = own.other (status_of e) itself;
+    has = λ t.
+        let h = told t in
+        let o = own_out e h.end h.ws plain h.out in
+        let Q : Option CommandError → Type 0 = λ end. Makes request old.held end h.ws in
+        (writes_all request (Some e) old mid new h.ws (own.other (status_of e) itself) same (λ _. subst Q o.0 h.makes) o.2).has t;
+  }
+
+  -- another capture, which a shelf that tells does not hold
+  other_out : (e : CommandError) → status_of e ≡ status.Input → (IsTrue old.tells → IsToldOut request Itself old mid new (Err e)) → ¬ IsTrue old.tells
+  other_out e is told t =
+      let h = told t in
+      let P : Status → Type 0 = IsPlainEnd in
+      let o = own_out e h.end h.ws (subst P (sym is) tt) h.out in
+      own.no_input (subst Itself is o.1)
+
+  -- whatever it comes to
+  pub ends_over : (r : Result (Unit {0}) CommandError) (before : List Input) (capture : List ℕ) → inputs_of request old.held ≡ before ++ input capture capture_form ∷ [] → (IsTrue old.tells → AreReady before old.held)
+      → (IsTrue old.tells → IsToldOut request Itself old mid new r) → IsOver Itself capture (outputs_of request) r mid new → EndsIn request old new r
+  ends_over (Ok u) before capture are ready told over = record {
+    by = done_out (Ok tt) refl told;
+    kept = changes_then (outputs_of request) old mid new (changes_within (outputs_of request) old mid same) over.kept;
+  }
+  ends_over (Err e) before capture are ready told over = record {
+    by = by_cause over.cause;
+    kept = changes_then (outputs_of request) old mid new (changes_within (outputs_of request) old mid same) over.kept;
+  }
+    where
+      by_cause : EndsOver Itself capture (outputs_of request) mid new e → StopsBy request old new e
+      by_cause (inl x) =
+          let P : List Input → Type 0 = λ is. OneUnread is old new in
+          UnreadLate x.0 (subst P (sym are) (unread_behind before (input capture capture_form) [] old new ready (rose_from (old.read_faults capture) (mid.read_faults capture) (new.read_faults capture) (same.later.reads.each capture) x.1)))
+          (unread_out (Err e) (ap Err x.0) told)
+      by_cause (inr (inl x)) = Unwritten x.0 (written_out (Err e) (ap Err x.0) x.1 told)
+      by_cause (inr (inr (inl is))) = OutLate is (memory_out (Err e) (ap Err is) told)
+      by_cause (inr (inr (inr (inl is)))) =
+          let P : List Input → Type 0 = λ inputs. EndsAtInput inputs (status_of e) in
+          AtOther is (subst P (sym are) (ends_behind before (input capture capture_form) [] (status_of e) is)) (other_out e is told)
+      by_cause (inr (inr (inr (inr itself)))) = AtEnd (itself_out e (own.plain (status_of e) itself) itself told)
 
 -- ---- the same end
 pub ends_as : {T U : Type 0} (request : Request) (old new : ShelfState) (r : Result T CommandError) (s : Result U CommandError) → AreOneEnd r s → EndsIn request old new r → EndsIn request old new s

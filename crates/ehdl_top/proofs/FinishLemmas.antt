@@ -11,7 +11,7 @@ use Rattle.ehdl_top.specs.declared.status.Status.TheVariants as status
 use Rattle.ehdl_top.specs.declared.error.CommandError.{CommandError}
 use Rattle.ehdl_top.specs.declared.error.CommandError.TheVariants as error
 use Rattle.ehdl_top.specs.Status.{status_of}
-use Rattle.ehdl_top.specs.States.{ShelfState, SinkState}
+use Rattle.capture_run.specs.States.{ShelfState, SinkState}
 use Rattle.ehdl_top.specs.Requests.{PutsLines, AreLines, IsCause}
 use Rattle.ehdl_top.specs.Ends.{ByInputs, IsEarly, SaysWhy, AreLinesOf, ArePut, SaysLast}
 use Rattle.ehdl_top.specs.Steps.{EndsIn, IsFinished}

@@ -25,7 +25,8 @@ use Rattle.ehdl_top.specs.declared.status.Status.TheVariants as status
 use Rattle.ehdl_top.specs.declared.error.CommandError.{CommandError}
 use Rattle.ehdl_top.specs.declared.error.CommandError.TheVariants as error
 use Rattle.ehdl_top.specs.Status.{status_of}
-use Rattle.ehdl_top.specs.Forms.{ProgramRule, ProgramFaults, ObjectFaults, TextFaults, MapsFaults, CaptureFaults, IsTaken, IsCaptured, IsCaptureFault, built, accepted, program_form, object_form, text_form, maps_form, decls_in, held_decls, capture_form}
+use Rattle.capture_run.specs.Captures.{IsCaptured, IsCaptureFault}
+use Rattle.ehdl_top.specs.Forms.{ProgramRule, ProgramFaults, ObjectFaults, TextFaults, MapsFaults, CaptureFaults, IsTaken, built, accepted, program_form, object_form, text_form, maps_form, decls_in, held_decls, capture_form}
 use Rattle.ehdl_top.specs.Requests.{inputs_of}
 use Rattle.ehdl_top.specs.Steps.{IsGivenUp}
 use Rattle.ehdl_top.proofs.InputLemmas.{IsSound, AreSound, IsInputStatus, may_sound}

@@ -1,7 +1,7 @@
 -- The first input that is not in its form is one, and there is none where all are.
 use Rattle.std.proofs.Common.{◌≡◌, ℕ, ◌<◌, ◌≤◌, IsTrue, List, [], ◌∷◌, ◌++◌, length, Option, Some, None, sym, ◌∙◌, ap, subst, inl, inr, arith}
 use Rattle.shelf_core.specs.Shelf.{Holding, IsLonger, Rose}
-use Rattle.ehdl_top.specs.States.{ShelfState, OneRose}
+use Rattle.capture_run.specs.States.{ShelfState, OneRose}
 use Rattle.ehdl_top.specs.Forms.{InputForm, Holds, IsReady, IsFaulty}
 use Rattle.ehdl_top.specs.Inputs.{Input, may_input, names_in, AreReady, FirstStop, OneUnread, EndsAtInput}
 use Rattle.ehdl_top.specs.Status.{status_of}

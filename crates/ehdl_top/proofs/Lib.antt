@@ -1,6 +1,4 @@
 pub mod ListLemmas
-pub mod StateLemmas
-pub mod WriteLemmas
 pub mod InputLemmas
 pub mod FormLemmas
 pub mod ObjectLemmas
@@ -8,13 +6,15 @@ pub mod ProgramLemmas
 pub mod CaptureLemmas
 pub mod DriveLemmas
 pub mod SimulationLemmas
+pub mod SimLemmas
 pub mod ResultLemmas
 pub mod RealizedLemmas
+pub mod RunLemmas
 pub mod OutcomeLemmas
 pub mod EndLemmas
 pub mod CauseLemmas
 pub mod PutLemmas
 pub mod FinishLemmas
 pub mod NameLemmas
-pub mod SequentialLemmas
+pub mod ReferenceLemmas
 pub mod DemoLemmas

@@ -10,6 +10,8 @@ files_apart names apart = record {
   answer_verdicts = apart 2 3 [] (omega arith) (omega arith);
   answer_final = apart 2 4 [] (omega arith) (omega arith);
   verdicts_final = apart 3 4 [] (omega arith) (omega arith);
+  capture_answer = apart 1 2 [] (omega arith) (omega arith);
+  capture_verdicts = apart 1 3 [] (omega arith) (omega arith);
 }
 
 text_apart : (names : Names) (verilog : List ℕ) → words.AreDistinct (verilog ∷ files_of names) → IsTextApart names verilog
@@ -17,6 +19,7 @@ text_apart names verilog apart = record {
   answer = apart 0 3 [] (omega arith) (omega arith);
   verdicts = apart 0 4 [] (omega arith) (omega arith);
   final = apart 0 5 [] (omega arith) (omega arith);
+  capture = apart 0 2 [] (omega arith) (omega arith);
 }
 
 pub names_apart : (words : List (List ℕ)) (request : Request) → AsksFor words request → NamesApart request

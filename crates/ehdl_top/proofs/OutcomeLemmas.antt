@@ -1,14 +1,14 @@
 -- What a command is to leave: its inputs are in their forms, and it comes to one end.
-use Rattle.std.proofs.Common.{◌≡◌, ℕ, ◌≤◌, IsTrue, List, [], ◌∷◌, suc, length, map, Option, Some, None, refl, sym, ap, subst, ◌∙◌, inl, arith}
+use Rattle.std.proofs.Common.{◌≡◌, ℕ, ◌≤◌, IsTrue, List, [], ◌∷◌, ◌++◌, suc, length, map, Option, Some, None, refl, sym, ap, subst, ◌∙◌, inl, arith}
 use Rattle.std.proofs.lemmas.List.{length-map}
 use Rattle.shelf_core.specs.Shelf.{Holding}
 use Rattle.pcap_core.specs.Format.{Packet, Content}
+use Rattle.pcap_core.specs.Streaming.{Opened}
 use Rattle.net_core.specs.Nets.{Netlist}
 use Rattle.port_drive.specs.realization.History.{Arrival}
 use Rattle.beat_core.specs.declared.answer.Answer.{Answer}
 use Rattle.beat_core.specs.declared.frame.Timed.{Timed}
 use Rattle.beat_core.specs.Laws.{arrival_of}
-use Rattle.pcap_core.specs.Time.{timed_of}
 use Rattle.xdp_maps.specs.declared.decl.MapDecl.{MapDecl}
 use Rattle.xdp_maps.specs.State.{MapState, opened_state}
 use Rattle.xdp_object.specs.xdp_machine.Program.{XdpProgram}
@@ -21,28 +21,29 @@ use Rattle.command_line.specs.Request.{Request, AskCompile, AskRun, AskSim, AskR
 use Rattle.maps_text.specs.Text.{IsMapsText}
 use Rattle.maps_text.specs.Writing.{text_of}
 use Rattle.maps_text.specs.Laws.{HasOneMeaning}
-use Rattle.ehdl_top.specs.declared.limits.TheConstants.{OBJECT_LIMIT, VERILOG_LIMIT, MAPS_LIMIT, CAPTURE_LIMIT}
+use Rattle.capture_run.specs.declared.records.TheConstants.{CAPTURE_LIMIT}
+use Rattle.ehdl_top.specs.declared.limits.TheConstants.{OBJECT_LIMIT, VERILOG_LIMIT, MAPS_LIMIT}
 use Rattle.ehdl_top.specs.declared.error.CommandError.{CommandError}
-use Rattle.ehdl_top.specs.declared.write.Write as code
-use Rattle.ehdl_top.specs.declared.sim.Simulated.{Simulated}
 use Rattle.ehdl_top.specs.declared.object.Accepted.{Accepted}
-use Rattle.ehdl_top.specs.declared.packets.Captured.{Captured}
 use Rattle.ehdl_top.specs.Status.{ended}
-use Rattle.ehdl_top.specs.States.{ShelfState, Changes}
-use Rattle.ehdl_top.specs.Forms.{Holds, ProgramRule, IsReady, IsTaken, IsTextOf, StartsFrom, IsCaptured, built, accepted, program_form, object_form, text_form, maps_form, held_decls, capture_form}
+use Rattle.capture_run.specs.States.{ShelfState, Changes}
+use Rattle.capture_run.specs.Captures.{IsCaptured, HoldsCapture}
+use Rattle.ehdl_top.specs.Forms.{Holds, ProgramRule, IsReady, IsTaken, IsTextOf, StartsFrom, built, accepted, program_form, object_form, text_form, maps_form, held_decls, capture_form}
 use Rattle.ehdl_top.specs.Inputs.{input, may_input, AreReady}
-use Rattle.ehdl_top.specs.Writes.{Outputs, names_in, Write, AreDone, OneFailed}
-use Rattle.ehdl_top.specs.Results.{timed_packets, came_by, compile_outputs, result_outputs, run_outputs, sim_outputs, no_outputs}
+use Rattle.capture_run.specs.Writes.{Outputs, names_in, Write, AreDone, OneFailed}
+use Rattle.capture_run.specs.Results.{timed_packets, came_by}
+use Rattle.ehdl_top.specs.Results.{compile_outputs, result_outputs, run_outputs, sim_outputs, no_outputs}
 use Rattle.ehdl_top.specs.Simulation.{Simulation, simulation, final_text, given_up}
 use Rattle.ehdl_top.specs.Report.{report_lines}
 use Rattle.ehdl_top.specs.Outcome.{IsSimulated, IsReported, IsDemo}
+use Rattle.ehdl_top.specs.Ends.{HasBroken, HasStopped}
 use Rattle.ehdl_top.specs.Requests.{inputs_of, outputs_of, IsOutcome, EndsItself}
-use Rattle.ehdl_top.specs.Steps.{IsRead, AreRead, IsBuiltOf, IsAcceptedBy, IsCaptureOf, IsRunOf, IsSimOf, IsReferenceOf, AreDistinct, IsTextApart, FailsWrite, WritesAll, write_of, stamp_of}
-use Rattle.ehdl_top.proofs.StateLemmas.{tells_later}
+use Rattle.ehdl_top.specs.Steps.{IsRead, AreRead, IsBuiltOf, IsAcceptedBy, AreDistinct, IsTextApart, FailsWrite, WritesAll}
+use Rattle.capture_run.proofs.StateLaws.{tells_later}
 use Rattle.ehdl_top.proofs.ProgramLemmas.{accepted_of}
 use Rattle.ehdl_top.proofs.InputLemmas.{holds_both, ready_both}
 use Rattle.ehdl_top.proofs.FormLemmas.{one_captured, decls_held}
-use Rattle.ehdl_top.proofs.WriteLemmas.{AreOf, AreBuilt, done_from, failed_from, done_changes, failed_changes, failed_rose, done_whole, failed_prefixes}
+use Rattle.capture_run.proofs.WriteLaws.{AreOf, AreBuilt, of_front, some_prefixes, done_from, failed_from, done_changes, failed_changes, failed_rose, done_whole, failed_prefixes}
 use Rattle.ehdl_top.proofs.ResultLemmas.{compile_built, result_built, result_names, run_built, run_of}
 
 -- ---- where the inputs are in their forms
@@ -138,6 +139,26 @@ pub record Makes (request : Request) (held : Holding) (end : Option CommandError
   pub built : AreBuilt outputs.files outputs.writes
   pub of : AreOf (names_in outputs.files) outputs.writes
 
+-- a part of these writes was made, and no others were begun
+pub stopped_part : (request : Request) (end : Option CommandError) (Left : List Write → Type 0) (old mid new : ShelfState) (ws done rest : List Write) → Changes [] old mid → IsTrue old.tells → Makes request old.held end ws → ws ≡ done ++ rest → Left rest → AreDone done mid new → HasStopped request Left old new
+stopped_part request end Left old mid new ws done rest same told m all left are =
+    let whole : m.outputs.writes ≡ done ++ rest = sym m.writes_are ∙ all in
+    let P : List Write → Type 0 = AreBuilt m.outputs.files in
+    let Q : List Write → Type 0 = AreOf (names_in m.outputs.files) in
+    let made : AreDone done old new = done_from done old mid new same are in
+    record {
+      end = end;
+      outputs = m.outputs;
+      outcome = m.outcome;
+      done = done;
+      rest = rest;
+      all = whole;
+      left = left;
+      prefixes = some_prefixes m.outputs.files done rest old new (subst P whole m.built) made told;
+      others = done_changes (names_in m.outputs.files) done old new (of_front (names_in m.outputs.files) done rest (subst Q whole m.of)) made;
+      in_order = made;
+    }
+
 pub writes_all : (request : Request) (end : Option CommandError) (old mid new : ShelfState) (ws : List Write) → EndsItself request (ended end) → Changes [] old mid → (IsTrue old.tells → Makes request old.held end ws) → AreDone ws mid new → WritesAll request end old new
 writes_all request end old mid new ws can same makes done = record {
   can = can;
@@ -154,21 +175,23 @@ writes_all request end old mid new ws can same makes done = record {
       };
 }
 
+pub broken_write : (request : Request) (end : Option CommandError) (old mid new : ShelfState) (ws : List Write) → Changes [] old mid → IsTrue old.tells → Makes request old.held end ws → OneFailed ws mid new → HasBroken request old new
+broken_write request end old mid new ws same told m failed =
+    let P : List Write → Type 0 = λ vs. OneFailed vs old new in
+    let f : OneFailed m.outputs.writes old new = subst P m.writes_are (failed_from ws old mid new same failed) in
+    record {
+      end = end;
+      outputs = m.outputs;
+      outcome = m.outcome;
+      prefixes = failed_prefixes m.outputs.files m.outputs.writes old new m.built f told;
+      others = failed_changes (names_in m.outputs.files) m.outputs.writes old new m.of f;
+      in_order = f;
+    }
+
 pub fails_write : (request : Request) (end : Option CommandError) (old mid new : ShelfState) (ws : List Write) → AreOf (outputs_of request) ws → Changes [] old mid → (IsTrue old.tells → Makes request old.held end ws) → OneFailed ws mid new → FailsWrite request old new
 fails_write request end old mid new ws of same makes failed = record {
   rose = failed_rose (outputs_of request) ws old new of (failed_from ws old mid new same failed);
-  broken = λ told.
-      let m = makes told in
-      let P : List Write → Type 0 = λ vs. OneFailed vs old new in
-      let f : OneFailed m.outputs.writes old new = subst P m.writes_are (failed_from ws old mid new same failed) in
-      record {
-        end = end;
-        outputs = m.outputs;
-        outcome = m.outcome;
-        prefixes = failed_prefixes m.outputs.files m.outputs.writes old new m.built f told;
-        others = failed_changes (names_in m.outputs.files) m.outputs.writes old new m.of f;
-        in_order = f;
-      };
+  broken = λ told. broken_write request end old mid new ws same told (makes told) failed;
 }
 
 -- ---- each command
@@ -211,11 +234,15 @@ compile_makes object verilog chosen old bytes pipeline ws read is e told = recor
   of = (inl refl, (inl refl, tt));
 }
 
-pub run_makes : (names : Names) (verilog : List ℕ) (chosen : Chosen) (ifindex : ℕ) (a b c : ShelfState) (object capture : List ℕ) (pipeline : Built) (first : MapState) (magic : ℕ) (packets : List Packet) (writes : List code.Write) → AreDistinct names → IsTextApart names verilog → Changes [] a b → Changes [] a c
-    → IsRead (program_form chosen built) names.object a object → (is : IsBuiltOf chosen object pipeline) → AreRead names.maps is.program.decls b first → IsRead capture_form names.capture c capture → IsCaptured capture magic packets
-    → IsRunOf names verilog pipeline.text.items is.program first ifindex magic packets writes → IsTrue a.tells → Makes (AskRun names verilog chosen ifindex) a.held None (map write_of writes)
-run_makes names verilog chosen ifindex a b c object capture pipeline first magic packets writes apart own same same' read is starts read' captured run told = record {
-  outputs = run_outputs names verilog pipeline.text.items magic packets run.answers (text_of run.final);
+-- the capture that was read through in a later state, in which nothing has changed
+pub capture_held : (name : List ℕ) (a b : ShelfState) (opened : Opened) (packets : List Packet) → Changes [] a b → HoldsCapture opened (b.held name) packets → Holds CAPTURE_LIMIT (a.held name) (λ bytes. IsCaptured bytes opened.magic packets)
+capture_held name a b opened packets same holds = record { bytes = holds.content; there = sym (same.others name tt) ∙ holds.there; within = holds.within; is = holds.is }
+
+pub run_makes : (names : Names) (verilog : List ℕ) (chosen : Chosen) (ifindex : ℕ) (a b c : ShelfState) (object : List ℕ) (pipeline : Built) (first : MapState) (opened : Opened) (packets : List Packet) (answers : List Answer) (final : MapState) → AreDistinct names → IsTextApart names verilog → Changes [] a b → Changes [] a c
+    → IsRead (program_form chosen built) names.object a object → (is : IsBuiltOf chosen object pipeline) → AreRead names.maps is.program.decls b first → HoldsCapture opened (c.held names.capture) packets
+    → IsSequential is.program first (came_by ifindex (timed_packets opened.magic packets)) answers final → IsTrue a.tells → Makes (AskRun names verilog chosen ifindex) a.held None (run_outputs names verilog pipeline.text.items opened.magic packets answers (text_of final)).writes
+run_makes names verilog chosen ifindex a b c object pipeline first opened packets answers final apart own same same' read is starts captured runs told = record {
+  outputs = run_outputs names verilog pipeline.text.items opened.magic packets answers (text_of final);
   outcome = (
     refl,
     record {
@@ -227,25 +254,25 @@ run_makes names verilog chosen ifindex a b c object capture pipeline first magic
       realizes = is.realized.realizes;
       first = first;
       starts = starts_from names.maps is.program.decls a b first same starts told;
-      magic = magic;
+      magic = opened.magic;
       packets = packets;
-      held_capture = was_held CAPTURE_LIMIT names.capture a c capture (λ bytes. IsCaptured bytes magic packets) same' read'.there read'.within captured told;
-      answers = run.answers;
-      final = run.final;
-      runs = run.runs;
+      held_capture = capture_held names.capture a c opened packets same' captured;
+      answers = answers;
+      final = final;
+      runs = runs;
       outputs_are = refl;
     },
   );
-  writes_are = run.writes_are;
-  built = run_built names verilog pipeline.text.items magic packets run.answers (text_of run.final) apart own;
-  of = run_of names verilog pipeline.text.items magic packets run.answers (text_of run.final);
+  writes_are = refl;
+  built = run_built names verilog pipeline.text.items opened.magic packets answers (text_of final) apart own;
+  of = run_of names verilog pipeline.text.items opened.magic packets answers (text_of final);
 }
 
-pub sim_makes : (names : Names) (verilog : List ℕ) (chosen : Chosen) (ifindex clocks : ℕ) (events : Option ℕ) (a b c d : ShelfState) (object text capture : List ℕ) (program : XdpProgram) (design : Netlist) (first : MapState) (magic : ℕ) (packets : List Packet) (simulated : Simulated) → AreDistinct names → Changes [] a b → Changes [] a c → Changes [] a d
-    → IsRead (object_form chosen) names.object a object → IsObject chosen object program → IsRead text_form verilog b text → IsTextOf text design → AreRead names.maps program.decls c first → IsRead capture_form names.capture d capture → IsCaptured capture magic packets
-    → IsSimOf names design first ifindex clocks magic packets simulated → IsTrue a.tells → Makes (AskSim names verilog chosen ifindex clocks events) a.held simulated.end (map write_of simulated.writes.items)
-sim_makes names verilog chosen ifindex clocks events a b c d object text capture program design first magic packets simulated apart same same' same'' read is read' spells starts read'' captured sim told = record {
-  outputs = sim_outputs names magic packets sim.given;
+pub sim_makes : (names : Names) (verilog : List ℕ) (chosen : Chosen) (ifindex clocks : ℕ) (events : Option ℕ) (a b c d : ShelfState) (object text : List ℕ) (program : XdpProgram) (design : Netlist) (first : MapState) (opened : Opened) (packets : List Packet) (given : Simulation) → AreDistinct names → Changes [] a b → Changes [] a c → Changes [] a d
+    → IsRead (object_form chosen) names.object a object → IsObject chosen object program → IsRead text_form verilog b text → IsTextOf text design → AreRead names.maps program.decls c first → HoldsCapture opened (d.held names.capture) packets
+    → given ≡ simulation design first ifindex (timed_packets opened.magic packets) clocks → IsTrue a.tells → Makes (AskSim names verilog chosen ifindex clocks events) a.held (given_up given.end) (sim_outputs names opened.magic packets given).writes
+sim_makes names verilog chosen ifindex clocks events a b c d object text program design first opened packets given apart same same' same'' read is read' spells starts captured is_given told = record {
+  outputs = sim_outputs names opened.magic packets given;
   outcome = record {
     program = program;
     held_object = record { bytes = object; there = read.there told; within = read.within; is = is };
@@ -253,24 +280,24 @@ sim_makes names verilog chosen ifindex clocks events a b c d object text capture
     held_text = was_held VERILOG_LIMIT verilog a b text (λ bytes. IsTextOf bytes design) same read'.there read'.within spells told;
     first = first;
     starts = starts_from names.maps program.decls a c first same' starts told;
-    magic = magic;
+    magic = opened.magic;
     packets = packets;
-    held_capture = was_held CAPTURE_LIMIT names.capture a d capture (λ bytes. IsCaptured bytes magic packets) same'' read''.there read''.within captured told;
-    given = sim.given;
-    is_given = sim.is_given;
-    end_is = sim.end_is;
+    held_capture = capture_held names.capture a d opened packets same'' captured;
+    given = given;
+    is_given = is_given;
+    end_is = refl;
     outputs_are = refl;
   };
-  writes_are = sim.writes_are;
-  built = result_built names magic packets sim.given.answers (final_text sim.given.end) apart;
-  of = result_names names magic packets sim.given.answers (final_text sim.given.end);
+  writes_are = refl;
+  built = result_built names opened.magic packets given.answers (final_text given.end) apart;
+  of = result_names names opened.magic packets given.answers (final_text given.end);
 }
 
-pub ref_makes : (names : Names) (chosen : Chosen) (ifindex : ℕ) (a b c : ShelfState) (object capture : List ℕ) (program : XdpProgram) (first : MapState) (magic : ℕ) (packets : List Packet) (writes : List code.Write) → AreDistinct names → Changes [] a b → Changes [] a c
-    → IsRead (program_form chosen accepted) names.object a object → IsTaken chosen accepted object program → AreRead names.maps program.decls b first → IsRead capture_form names.capture c capture → IsCaptured capture magic packets
-    → IsReferenceOf names program first ifindex magic packets writes → IsTrue a.tells → Makes (AskRef names chosen ifindex) a.held None (map write_of writes)
-ref_makes names chosen ifindex a b c object capture program first magic packets writes apart same same' read is starts read' captured ref told = record {
-  outputs = result_outputs names magic packets ref.answers (Some (text_of ref.final));
+pub ref_makes : (names : Names) (chosen : Chosen) (ifindex : ℕ) (a b c : ShelfState) (object : List ℕ) (program : XdpProgram) (first : MapState) (opened : Opened) (packets : List Packet) (answers : List Answer) (final : MapState) → AreDistinct names → Changes [] a b → Changes [] a c
+    → IsRead (program_form chosen accepted) names.object a object → IsTaken chosen accepted object program → AreRead names.maps program.decls b first → HoldsCapture opened (c.held names.capture) packets
+    → IsSequential program first (came_by ifindex (timed_packets opened.magic packets)) answers final → IsTrue a.tells → Makes (AskRef names chosen ifindex) a.held None (result_outputs names opened.magic packets answers (Some (text_of final))).writes
+ref_makes names chosen ifindex a b c object program first opened packets answers final apart same same' read is starts captured runs told = record {
+  outputs = result_outputs names opened.magic packets answers (Some (text_of final));
   outcome = (
     refl,
     record {
@@ -278,18 +305,18 @@ ref_makes names chosen ifindex a b c object capture program first magic packets 
       held_program = record { bytes = object; there = read.there told; within = read.within; is = is };
       first = first;
       starts = starts_from names.maps program.decls a b first same starts told;
-      magic = magic;
+      magic = opened.magic;
       packets = packets;
-      held_capture = was_held CAPTURE_LIMIT names.capture a c capture (λ bytes. IsCaptured bytes magic packets) same' read'.there read'.within captured told;
-      answers = ref.answers;
-      final = ref.final;
-      runs = ref.runs;
+      held_capture = capture_held names.capture a c opened packets same' captured;
+      answers = answers;
+      final = final;
+      runs = runs;
       outputs_are = refl;
     },
   );
-  writes_are = ref.writes_are;
-  built = result_built names magic packets ref.answers (Some (text_of ref.final)) apart;
-  of = result_names names magic packets ref.answers (Some (text_of ref.final));
+  writes_are = refl;
+  built = result_built names opened.magic packets answers (Some (text_of final)) apart;
+  of = result_names names opened.magic packets answers (Some (text_of final));
 }
 
 -- ---- as many answers as frames
@@ -317,17 +344,3 @@ report_makes object chosen held lines is = record { outputs = no_outputs; outcom
 
 pub demo_makes : (seed packets : ℕ) (held : Holding) (lines : List (List ℕ)) → IsDemo seed packets lines → Makes (AskDemo seed packets) held None []
 demo_makes seed packets held lines is = record { outputs = no_outputs; outcome = (refl, refl, lines, is); writes_are = refl; built = tt; of = tt }
-
--- no more than there are packets
-pub count_within : (n : ℕ) (timed : List Timed) (captured : Captured) (packets : List Packet) → n ≤ length timed → timed ≡ captured.packets.items → IsCaptureOf captured packets → n ≤ length captured.stamps.items
-count_within n timed captured packets few same of =
-    let f : length timed ≡ length (timed_packets captured.magic packets) = ap length (same ∙ of.timed) in
-    let s : length captured.stamps.items ≡ length (map stamp_of packets) = ap length of.stamps in
-    let g : length (timed_packets captured.magic packets) ≡ length packets = length-map packets (timed_of captured.magic) in
-    let h : length (map stamp_of packets) ≡ length packets = length-map packets stamp_of in
-    omega (arith, few, f, s, g, h)
-
-pub counted : (program : XdpProgram) (maps last : MapState) (ifindex : ℕ) (timed : List Timed) (answers : List Answer) (captured : Captured) (packets : List Packet) → IsSequential program maps (came_by ifindex timed) answers last → timed ≡ captured.packets.items → IsCaptureOf captured packets → length answers ≤ length captured.stamps.items
-counted program maps last ifindex timed answers captured packets is same of =
-    let e : length answers ≡ length timed = answers_count program maps last ifindex timed answers is in
-    count_within (length answers) timed captured packets (omega (arith, e)) same of

@@ -6,9 +6,9 @@ use Rattle.std.proofs.lemmas.List.{take_more}
 use Rattle.std.proofs.Math.Seq.{split_at}
 use Rattle.shelf_core.specs.Shelf.{Rose, HoldsFront, LeavesFront, appended, content_of}
 use Rattle.shelf_core.proofs.PrefixLaws.{front_of_more}
-use Rattle.ehdl_top.specs.States.{SinkState, IsLaterSink}
+use Rattle.capture_run.specs.States.{SinkState, IsLaterSink}
 use Rattle.ehdl_top.specs.Ends.{ArePut, AreCutOff}
-use Rattle.ehdl_top.proofs.StateLemmas.{rose_from}
+use Rattle.capture_run.proofs.StateLaws.{rose_from}
 
 -- ---- one line more
 -- after the lines so far, as one text

@@ -1,8 +1,10 @@
 -- What a pipeline that was built of a program gives over a capture.
-use Rattle.std.specs.Prelude.{◌≡◌, ◌≢◌, ℕ, ◌^◌, ◌<◌, ◌≤◌, List, [], ◌∷◌, ◌++◌, length, map, Result, Ok, Err, IfErr, All}
+use Rattle.std.specs.Prelude.{◌≡◌, ◌≢◌, ℕ, ◌^◌, ◌<◌, ◌≤◌, List, [], ◌∷◌, ◌++◌, length, map, Result, Ok, Err, IfOk, IfErr, All}
 use Rattle.std.specs.List.{flat_map, AllByRecursion}
 use Rattle.std.proofs.lemmas.List.{length-map}
+use Rattle.std.proofs.lemmas.List.Elements.{All-from_recursion}
 use Rattle.std.proofs.Common.{refl, sym, ap, subst, ◌∙◌, arith}
+use Rattle.beat_core.specs.declared.frame.TheConstants.{FRAME_LIMIT}
 use Rattle.beat_core.specs.declared.frame.Timed.{Timed}
 use Rattle.beat_core.specs.declared.answer.Answer.{Answer}
 use Rattle.beat_core.specs.Ports.{Offered, Arrival, offers_of}
@@ -16,6 +18,7 @@ use Rattle.port_drive.proofs.HostLaws.{never_stops}
 use Rattle.port_drive.specs.Reports.{full_drive, given_in}
 use Rattle.port_drive.specs.declared.report.DriveError.{DriveError}
 use Rattle.port_drive.specs.declared.report.DriveError.TheVariants.{X, Late, NoMemory}
+use Rattle.clock_sim.specs.Running.{Running}
 use Rattle.xdp_maps.specs.Contents.{IsWithinLimits}
 use Rattle.xdp_maps.specs.State.{MapState, IsSound}
 use Rattle.xdp_maps.specs.declared.decl.MapDecl.{MapDecl}
@@ -30,9 +33,10 @@ use Rattle.port_drive.specs.realization.HostHistory.Host.{load, ShowsMaps}
 use Rattle.ehdl_build.specs.declared.built.Built.{Built}
 use Rattle.port_drive.specs.realization.Bounds.{clock_bound, most_beats}
 use Rattle.port_drive.specs.realization.Realizes.{Meets, IsWhole, IsPacket, frames_in, all_offers}
-use Rattle.ehdl_build.specs.Compiled.{PipelineSize, IsSequential, DoNotConflict, code_of, packets_in, size_of}
-use Rattle.ehdl_top.specs.Results.{came_by}
-use Rattle.ehdl_top.specs.Steps.{IsLegal, IsRealized, AreDeclared}
+use Rattle.ehdl_build.specs.Compiled.{PipelineSize, IsSequential, DoNotConflict, answer_of, code_of, packets_in, size_of}
+use Rattle.capture_run.specs.Results.{came_by}
+use Rattle.capture_run.specs.Runs.{IsLegal}
+use Rattle.ehdl_top.specs.Steps.{IsRealized, DrivesAsRuns, IsPipelineOf, AreDeclared}
 
 -- ---- the maps that a capture run leaves
 run_decls : (code : Code) (packet : PacketIn) (maps : MapState) (e : Leaves) → IsRun code packet maps e → e.maps.decls ≡ maps.decls
@@ -46,6 +50,29 @@ runs_decls code maps (packet ∷ packets) (e ∷ es) last runs = runs_decls code
 
 pub sequential_decls : (p : XdpProgram) (maps : MapState) (packets : List Arrival) (answers : List Answer) (after : MapState) → IsSequential p maps packets answers after → after.decls ≡ maps.decls
 sequential_decls p maps packets answers after s = runs_decls (code_of p) maps (packets_in packets) s.leaves after s.runs
+
+-- ---- answers are as long as their packets
+frame_kept : (code : Code) (packet : PacketIn) (maps : MapState) (e : Leaves) → IsRun code packet maps e → length e.frame ≡ length packet.frame
+frame_kept code packet maps e (n, ran) = let P : Progress → Type 0 = KeepsSizes (start packet maps) in (subst P ran (runs_keep_sizes code n (start packet maps) refl)).frame
+
+short_answers : (code : Code) (maps : MapState) (packets : List PacketIn) (es : List Leaves) (last : MapState) → AreRuns code maps packets es last → AllByRecursion (λ p. length p.frame ≤ FRAME_LIMIT) packets
+    → AllByRecursion (λ (a : Answer). length a.frame ≤ FRAME_LIMIT) (map answer_of es)
+short_answers code maps [] [] last runs short = tt
+short_answers code maps [] (e ∷ es) last runs short = absurd runs
+short_answers code maps (packet ∷ packets) [] last runs short = absurd runs
+short_answers code maps (packet ∷ packets) (e ∷ es) last runs short =
+    let kept : length e.frame ≡ length packet.frame = frame_kept code packet maps e runs.0 in
+    let few : length packet.frame ≤ FRAME_LIMIT = short.0 in
+    (omega (arith, kept, few), short_answers code e.maps packets es last runs.1 short.1)
+
+short_packets : (ifindex : ℕ) (timed : List Timed) → AllByRecursion IsLegal timed → AllByRecursion (λ p. length p.frame ≤ FRAME_LIMIT) (packets_in (came_by ifindex timed))
+short_packets ifindex [] legal = tt
+short_packets ifindex (p ∷ rest) legal = (legal.0.0.room, short_packets ifindex rest legal.1)
+
+pub answers_fit : (p : XdpProgram) (maps last : MapState) (ifindex : ℕ) (timed : List Timed) (answers : List Answer) → IsSequential p maps (came_by ifindex timed) answers last → AllByRecursion IsLegal timed → All (λ (a : Answer). length a.frame ≤ FRAME_LIMIT) answers
+answers_fit p maps last ifindex timed answers is legal =
+    let P : List Answer → Type 0 = λ rs. All (λ (a : Answer). length a.frame ≤ FRAME_LIMIT) rs in
+    subst P (sym is.answers_are) (All-from_recursion (λ (a : Answer). length a.frame ≤ FRAME_LIMIT) (map answer_of is.leaves) (short_answers (code_of p) maps (packets_in (came_by ifindex timed)) is.leaves last is.runs (short_packets ifindex timed legal)))
 
 -- ---- a call that has the host go on for clocks of which none stops
 pub goes_whole : {A : Type 0} (d : Netlist) (s t : Stored) (clocks : List Inputs) (r : Result A DriveError) (e : DriveError) → r ≡ Err e → ClocksOrNone d s clocks r t → IfErr r (λ f. f ≢ NoMemory) → NeverStops d s clocks → ⊥
@@ -75,16 +102,9 @@ legal-came_by ifindex (p ∷ rest) fits h = (record { frame = h.0.0; ifindex = f
 abbrev pub loaded : Netlist → MapState → Stored
 loaded d maps = stored_after d (first_stored d) (load maps)
 
--- what a drive from there on gives, where these maps were loaded
-pub record Runs (p : XdpProgram) (first : MapState) (d : Netlist) (s : Stored) (ifindex limit : ℕ) (packets : List Timed) : Type 0 where
-  pub ended : (full_drive d ifindex s packets limit).ended ≡ Answered
-  pub last : MapState
-  pub all : IsSequential p first (came_by ifindex packets) (answers_given [] (full_drive d ifindex s packets limit).trace) last
-  pub shown : ShowsMaps d (stored_after d s (given_in (full_drive d ifindex s packets limit).trace)) last
-
 whole : (p : XdpProgram) (first : MapState) (d : Netlist) (s : Stored) (z : PipelineSize) (ifindex limit : ℕ) (packets : List Timed)
     → Meets d s (IsSequential p first) (DoNotConflict p first z.stages) z.stages z.records
-    → AllByRecursion IsLegal packets → ifindex < 2 ^ 32 → clock_bound (length packets) z.stages (most_beats (map (λ p. p.frame) packets)) z.records ≤ limit → Runs p first d s ifindex limit packets
+    → AllByRecursion IsLegal packets → ifindex < 2 ^ 32 → clock_bound (length packets) z.stages (most_beats (map (λ p. p.frame) packets)) z.records ≤ limit → DrivesAsRuns p first d s ifindex limit packets
 whole p first d s z ifindex limit packets meets are fits enough =
     let came : List Arrival = came_by ifindex packets in
     let many : length came ≡ length packets = length-map packets (arrival_of ifindex) in
@@ -98,20 +118,36 @@ whole p first d s z ifindex limit packets meets are fits enough =
     (subst (λ os. W os (length came)) (offers-came_by ifindex packets) (meets.complete came limit (legal-came_by ifindex packets fits are) bound)) in
     record { ended = w.ended; last = w.maps; all = w.all; shown = w.shown }
 
-at_most : (n limit : ℕ) → limit ≡ n → n ≤ limit
-at_most n limit is = omega (arith, is)
-
 -- The design of the text, in which the host has loaded maps of the program, answers in the stated clocks as sequential execution on these
 -- maps does, and shows the maps that this leaves.
-pub runs : (b : Built) (p : XdpProgram) (r : IsRealized b p) (first : MapState) (d e : Netlist) (s : Stored) (ifindex limit : ℕ) (packets : List Timed) → first.decls ≡ b.decls.items → IsSound first
+runs : (b : Built) (p : XdpProgram) (r : IsRealized b p) (first : MapState) (d e : Netlist) (s : Stored) (ifindex limit : ℕ) (packets : List Timed) → first.decls ≡ b.decls.items → IsSound first
     → r.realizes.design ≡ d → e ≡ d → s ≡ loaded d first → AllByRecursion IsLegal packets → ifindex < 2 ^ 32
-    → limit ≡ clock_bound (length packets) b.rows (most_beats (map (λ p. p.frame) packets)) b.records → Runs p first e s ifindex limit packets
+    → clock_bound (length packets) b.rows (most_beats (map (λ p. p.frame) packets)) b.records ≤ limit → DrivesAsRuns p first e s ifindex limit packets
 runs b p r first d e s ifindex limit packets declared sound same netlist stored are fits enough =
     let z : PipelineSize = size_of b in
-    let there : Runs p first r.realizes.design (loaded r.realizes.design first) ifindex limit packets =
-    whole p first r.realizes.design (loaded r.realizes.design first) z ifindex limit packets (r.realizes.meets first (record { declared = declared ∙ r.decls; sound = sound })) are fits (at_most _ limit enough) in
-    subst (λ (t : Stored). Runs p first e t ifindex limit packets) (sym stored)
-    (subst (λ (x : Netlist). Runs p first x (loaded d first) ifindex limit packets) (sym netlist) (subst (λ (x : Netlist). Runs p first x (loaded x first) ifindex limit packets) same there))
+    let there : DrivesAsRuns p first r.realizes.design (loaded r.realizes.design first) ifindex limit packets =
+    whole p first r.realizes.design (loaded r.realizes.design first) z ifindex limit packets (r.realizes.meets first (record { declared = declared ∙ r.decls; sound = sound })) are fits enough in
+    subst (λ (t : Stored). DrivesAsRuns p first e t ifindex limit packets) (sym stored)
+    (subst (λ (x : Netlist). DrivesAsRuns p first x (loaded d first) ifindex limit packets) (sym netlist) (subst (λ (x : Netlist). DrivesAsRuns p first x (loaded x first) ifindex limit packets) same there))
+
+-- so does a simulator of it
+pub opened : {E : Type 0} (b : Built) (first : MapState) (d : Netlist) (r : Result Running E) → first.decls ≡ b.decls.items → IsSound first → ((p : XdpProgram) (realized : IsRealized b p) → realized.realizes.design ≡ d)
+    → IfOk r (λ sim. sim.netlist ≡ d) → IfOk r (λ sim. sim.stored ≡ loaded d first) → IfOk r (λ sim. (p : XdpProgram) → IsRealized b p → IsPipelineOf p b first sim.netlist sim.stored)
+opened b first d (Ok sim) declared sound only netlist stored =
+    λ p realized ifindex limit packets fits legal enough. runs b p realized first d sim.netlist sim.stored ifindex limit packets declared sound (only p realized) netlist stored legal fits enough
+opened b first d (Err e) declared sound only netlist stored = tt
+
+pub at_most : (n limit : ℕ) → limit ≡ n → n ≤ limit
+at_most n limit is = omega (arith, is)
+
+-- sequential execution of packets
+pub sequential_of : (b : Built) (p : XdpProgram) (r : IsRealized b p) (first : MapState) (ifindex : ℕ) (packets : List Timed) → first.decls ≡ b.decls.items → IsSound first → AllByRecursion IsLegal packets → ifindex < 2 ^ 32
+    → (answers : List Answer) × (last : MapState) × IsSequential p first (came_by ifindex packets) answers last
+sequential_of b p r first ifindex packets declared sound legal fits =
+    let d : Netlist = r.realizes.design in
+    let limit : ℕ = clock_bound (length packets) b.rows (most_beats (map (λ q. q.frame) packets)) b.records in
+    let run : DrivesAsRuns p first d (loaded d first) ifindex limit packets = runs b p r first d d (loaded d first) ifindex limit packets declared sound refl refl refl legal fits (at_most limit limit refl) in
+    (answers_given [] (full_drive d ifindex (loaded d first) packets limit).trace, run.last, run.all)
 
 -- the declarations of a program are within their limits
 pub limits_of : (p : XdpProgram) (decls : List MapDecl) → IsProgram p → decls ≡ p.decls → All IsWithinLimits decls

@@ -4,11 +4,12 @@ use Rattle.std.proofs.lemmas.Option.{get_or_from_slice_get}
 use Rattle.pcap_core.specs.Format.{Packet}
 use Rattle.beat_core.specs.declared.answer.Answer.{Answer}
 use Rattle.command_line.specs.Request.{Names}
-use Rattle.ehdl_top.specs.Writes.{names_in, Write, Append}
-use Rattle.ehdl_top.specs.Results.{texts, record_at, line_at, answer_bytes, verdict_lines, line_of, no_answer, packet_writes, final_writes, result_writes, compile_outputs, result_outputs, run_outputs}
+use Rattle.capture_run.specs.Writes.{names_in, Write, Append}
+use Rattle.capture_run.specs.Results.{texts, record_at, line_at, answer_bytes, verdict_lines, line_of, no_answer, packet_writes, final_writes, result_writes}
+use Rattle.ehdl_top.specs.Results.{compile_outputs, result_outputs, run_outputs}
 use Rattle.ehdl_top.specs.Steps.{AreDistinct, IsTextApart}
-use Rattle.ehdl_top.proofs.StateLemmas.{IsOneOf}
-use Rattle.ehdl_top.proofs.WriteLemmas.{AreOf, of_both, Adds, Builds, AreBuilt, adds_as, adds_both, Skips, skips_both, skips_adds, builds_after}
+use Rattle.capture_run.proofs.StateLaws.{IsOneOf}
+use Rattle.capture_run.proofs.WriteLaws.{AreOf, of_both, Adds, Builds, AreBuilt, adds_as, adds_both, Skips, skips_both, skips_adds, builds_after}
 
 -- the line of an answer that stands there
 pub line_there : (rs : List Answer) (i : ℕ) (r : Answer) → slice_get rs i ≡ Some r → line_of i r ≡ line_at rs i

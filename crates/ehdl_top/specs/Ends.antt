@@ -1,11 +1,11 @@
 -- How a command ends.
-use Rattle.std.specs.Prelude.{◌≡◌, ◌≢◌, ◌⊎◌, ℕ, IsTrue, List, [], ◌∷◌, Option, Some, None}
+use Rattle.std.specs.Prelude.{◌≡◌, ◌≢◌, ◌⊎◌, ℕ, IsTrue, List, [], ◌∷◌, ◌++◌, Option, Some, None}
 use Rattle.std.specs.List.{concat}
 use Rattle.shelf_core.specs.Shelf.{Rose, appended, LeavesFront}
-use Rattle.command_line.specs.Request.{Request}
+use Rattle.command_line.specs.Request.{Request, AskRun, AskSim, AskRef}
 use Rattle.command_line.specs.AsksFor.{AsksFor}
-use Rattle.ehdl_top.specs.States.{ShelfState, SinkState, Changes}
-use Rattle.ehdl_top.specs.Writes.{Outputs, HoldWhole, HoldPrefixes, AreDone, OneFailed, names_in}
+use Rattle.capture_run.specs.States.{ShelfState, SinkState, Changes}
+use Rattle.capture_run.specs.Writes.{Write, Outputs, HoldWhole, HoldPrefixes, AreDone, OneFailed, names_in, file_writes}
 use Rattle.ehdl_top.specs.Requests.{IsOutcome, PutsLines, AreLines}
 use Rattle.ehdl_top.specs.Lines.{line_of}
 use Rattle.ehdl_top.specs.Status.{ended, status_of}
@@ -39,10 +39,41 @@ pub record HasBroken (request : Request) (old new : ShelfState) : Type 0 where
   pub others : Changes (names_in outputs.files) old new
   pub in_order : OneFailed outputs.writes old new
 
--- what is lost where a write fails, or a put of the command's lines after all writes, or memory runs out: then nothing was written, or all
+-- It stopped between two writes: those before were done, in their order, and none after was begun. What was left to be done is of this kind.
+pub record HasStopped (request : Request) (Left : List Write → Type 0) (old new : ShelfState) : Type 0 where
+  pub end : Option CommandError
+  pub outputs : Outputs
+  pub outcome : IsOutcome request old.held end outputs
+  pub done : List Write
+  pub rest : List Write
+  pub all : outputs.writes ≡ done ++ rest
+  pub left : Left rest
+  pub prefixes : HoldPrefixes outputs.files old.held new.held
+  pub others : Changes (names_in outputs.files) old new
+  pub in_order : AreDone done old new
+
+-- where a read fails: a capture is read again while the outputs are written
+abbrev pub LeftUnread : Request → List Write → Type 0
+LeftUnread (AskRun names verilog chosen ifindex) rest = Unit {0}
+LeftUnread (AskSim names verilog chosen ifindex clocks events) rest = Unit {0}
+LeftUnread (AskRef names chosen ifindex) rest = Unit {0}
+LeftUnread request rest = ⊥
+
+-- where memory runs out: the final maps alone, for which all answers were written; of a simulation anything, for its answers may be longer
+-- than frames are
+abbrev pub LeftOut : Request → List Write → Type 0
+LeftOut (AskRun names verilog chosen ifindex) rest = (text : List ℕ) × (rest ≡ file_writes names.final_maps text)
+LeftOut (AskSim names verilog chosen ifindex clocks events) rest = Unit {0}
+LeftOut (AskRef names chosen ifindex) rest = (text : List ℕ) × (rest ≡ file_writes names.final_maps text)
+LeftOut request rest = ⊥
+
+-- What is lost where an input is not in its form: nothing. Where a read fails: nothing, or what was left to be written. Where a write fails, or
+-- a put of the command's lines after all writes. Where memory runs out: nothing, or what was left to be written, or nothing again, for all was.
 abbrev pub Loses : Status → Request → ShelfState → ShelfState → Type 0
 Loses status.WriteFault request old new = HasBroken request old new ⊎ (PutsLines request × HasWritten request None old new)
-Loses status.NoMemory request old new = Changes [] old new ⊎ ((end : Option CommandError) × HasWritten request end old new)
+Loses status.NoMemory request old new = Changes [] old new ⊎ (HasStopped request (LeftOut request) old new ⊎ ((end : Option CommandError) × HasWritten request end old new))
+Loses status.ReadFault request old new = Changes [] old new ⊎ HasStopped request (LeftUnread request) old new
+Loses status.Input request old new = Changes [] old new
 Loses s request old new = Unit {0}
 
 -- ---- kinds of ends
@@ -62,13 +93,11 @@ ByInputs status.XValue = Unit {0}
 ByInputs status.Late = Unit {0}
 ByInputs s = ⊥
 
--- before any output was begun
+-- before any output was begun, whatever the shelf tells
 abbrev pub IsEarly : Status → Type 0
 IsEarly status.Usage = Unit {0}
 IsEarly status.Object = Unit {0}
 IsEarly status.Refused = Unit {0}
-IsEarly status.Input = Unit {0}
-IsEarly status.ReadFault = Unit {0}
 IsEarly s = ⊥
 
 -- ---- the line that says why

@@ -2,8 +2,7 @@
 use Rattle.std.specs.Prelude.{◌≡◌, ◌⊎◌, ℕ, ◌≤◌, List, [], length, Option, Some, None, Result, Ok, Err}
 use Rattle.shelf_core.specs.Shelf.{Holding, IsLonger}
 use Rattle.pcap_core.specs.declared.error.PcapError.{PcapError}
-use Rattle.beat_core.specs.list_laws.Bytes.{IsBytes}
-use Rattle.pcap_core.specs.Format.{Packet, Content, IsContent, IsHeaderFault}
+use Rattle.pcap_core.specs.Format.{Packet}
 use Rattle.net_core.specs.Nets.{Netlist}
 use Rattle.ehdl_build.specs.verilog_write.VerilogGrammar.Spelling.{Spells}
 use Rattle.verilog_read.specs.declared.error.ReadError.{ReadError}
@@ -19,7 +18,9 @@ use Rattle.xdp_object.specs.Maps.{MapTable}
 use Rattle.xdp_object.specs.Object.{FirstFault, IsObject, function_of, maps_of}
 use Rattle.xdp_state.specs.declared.refusal.Refusal.{Refusal}
 use Rattle.row_rules.specs.NodeRows.Acceptance.{IsAccepted, IsFirstRefusal}
-use Rattle.ehdl_top.specs.declared.limits.TheConstants.{OBJECT_LIMIT, VERILOG_LIMIT, MAPS_LIMIT, CAPTURE_LIMIT}
+use Rattle.capture_run.specs.declared.records.TheConstants.{CAPTURE_LIMIT}
+use Rattle.capture_run.specs.Captures.{IsCaptured, IsCaptureFault}
+use Rattle.ehdl_top.specs.declared.limits.TheConstants.{OBJECT_LIMIT, VERILOG_LIMIT, MAPS_LIMIT}
 use Rattle.ehdl_top.specs.declared.status.Status.{Status}
 use Rattle.ehdl_top.specs.declared.status.Status.TheVariants as status
 use Rattle.ehdl_top.specs.declared.error.CommandError.{CommandError}
@@ -158,15 +159,6 @@ StartsFrom (Some name) decls held maps = Holds MAPS_LIMIT (held name) (λ bytes.
 StartsFrom None decls held maps = maps ≡ opened_state decls
 
 -- ---- captures
--- The bytes are a capture of these packets and nothing else. Its magic number says what fractions of a second are.
-abbrev pub IsCaptured : List ℕ → ℕ → List Packet → Type 0
-IsCaptured bytes magic packets = IsContent bytes (record { magic = magic; packets = packets; fault = None })
-
--- The bytes are no capture, and this is the first fault: that of the header, or that of the first record which is not whole.
-pub record IsCaptureFault (bytes : List ℕ) (fault : PcapError) : Type 0 where
-  pub are_bytes : IsBytes bytes
-  pub first : IsHeaderFault bytes fault ⊎ ((c : Content) × IsContent bytes c × (c.fault ≡ Some fault))
-
 abbrev pub CaptureFaults : List ℕ → CommandError → Type 0
 CaptureFaults bytes (error.Capture fault) = IsCaptureFault bytes fault
 CaptureFaults bytes e = ⊥

@@ -1,7 +1,7 @@
 -- The inputs of a command, in the order in which they are looked at, and the first at which it stops.
 use Rattle.std.specs.Prelude.{◌⊎◌, ℕ, IsTrue, List, [], ◌∷◌, Option, Some, None}
 use Rattle.shelf_core.specs.Shelf.{Holding, Rose}
-use Rattle.ehdl_top.specs.States.{ShelfState}
+use Rattle.capture_run.specs.States.{ShelfState}
 use Rattle.ehdl_top.specs.Forms.{InputForm, IsReady, IsFaulty}
 use Rattle.ehdl_top.specs.declared.status.Status.{Status}
 use Rattle.ehdl_top.specs.declared.error.CommandError.{CommandError}

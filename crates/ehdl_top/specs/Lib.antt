@@ -1,9 +1,7 @@
 pub mod Status
 pub mod Lines
-pub mod States
 pub mod Forms
 pub mod Inputs
-pub mod Writes
 pub mod Simulation
 pub mod Results
 pub mod Report

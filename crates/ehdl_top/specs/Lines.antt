@@ -1,4 +1,4 @@
--- The lines that are written: that of a verdict, and the one that says why a command stops.
+-- The line that says why a command stops.
 use Rattle.std.specs.Prelude.{ℕ, List, ◌++◌, [], codes, decimal}
 use Rattle.std.specs.Fmt.{signed_decimal}
 use Rattle.xdp_object.specs.Codes as object
@@ -15,10 +15,6 @@ use Rattle.verilog_read.specs.declared.error.ReadError.TheVariants as verilog
 use Rattle.verilog_read.specs.declared.error.ReadError.TheVariants.{Lex, Syntax, Unknown, Twice, Width, Order, Ports}
 use Rattle.ehdl_top.specs.declared.error.CommandError.{CommandError}
 use Rattle.ehdl_top.specs.declared.error.CommandError.TheVariants as error
-
--- four numbers in decimal with one space between them, and a line feed
-abbrev pub verdict_line_of : ℕ → ℕ → ℕ → ℕ → List ℕ
-verdict_line_of index verdict target length = decimal index ++ codes " " ++ decimal verdict ++ codes " " ++ decimal target ++ codes " " ++ decimal length ++ codes "\n"
 
 -- ---- codes, and then their numbers in decimal
 -- why a program is refused, and where: after the reason of an unknown helper stands its number

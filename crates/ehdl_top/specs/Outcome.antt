@@ -12,12 +12,15 @@ use Rattle.xdp_object.specs.Choice.{Chosen}
 use Rattle.xdp_object.specs.Object.{IsObject}
 use Rattle.row_rules.specs.NodeRows.Acceptance.{IsAccepted}
 use Rattle.command_line.specs.Request.{Names}
-use Rattle.ehdl_top.specs.declared.limits.TheConstants.{OBJECT_LIMIT, VERILOG_LIMIT, CAPTURE_LIMIT}
+use Rattle.ehdl_top.specs.declared.limits.TheConstants.{OBJECT_LIMIT, VERILOG_LIMIT}
 use Rattle.ehdl_top.specs.declared.error.CommandError.{CommandError}
-use Rattle.ehdl_top.specs.Forms.{Holds, IsTaken, IsTextOf, StartsFrom, IsCaptured, built, accepted}
+use Rattle.capture_run.specs.declared.records.TheConstants.{CAPTURE_LIMIT}
+use Rattle.capture_run.specs.Captures.{IsCaptured}
+use Rattle.ehdl_top.specs.Forms.{Holds, IsTaken, IsTextOf, StartsFrom, built, accepted}
 use Rattle.ehdl_top.specs.Simulation.{Simulation, simulation, given_up}
-use Rattle.ehdl_top.specs.Writes.{Outputs}
-use Rattle.ehdl_top.specs.Results.{timed_packets, came_by, compile_outputs, run_outputs, result_outputs, sim_outputs}
+use Rattle.capture_run.specs.Writes.{Outputs}
+use Rattle.capture_run.specs.Results.{timed_packets, came_by}
+use Rattle.ehdl_top.specs.Results.{compile_outputs, run_outputs, result_outputs, sim_outputs}
 use Rattle.ehdl_top.specs.Report.{report_lines}
 use Rattle.port_drive.specs.realization.Bounds.{clock_bound, most_beats}
 use Rattle.flow_demo.specs.Program.{demo_program}

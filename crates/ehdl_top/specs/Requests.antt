@@ -6,10 +6,10 @@ use Rattle.command_line.specs.Request.{Request, AskCompile, AskRun, AskSim, AskR
 use Rattle.ehdl_top.specs.declared.status.Status.{Status}
 use Rattle.ehdl_top.specs.declared.status.Status.TheVariants as status
 use Rattle.ehdl_top.specs.declared.error.CommandError.{CommandError}
-use Rattle.ehdl_top.specs.States.{ShelfState, SinkState, OneRose}
+use Rattle.capture_run.specs.States.{ShelfState, SinkState, OneRose}
 use Rattle.ehdl_top.specs.Forms.{program_form, built, accepted, object_form, text_form, maps_form, held_decls, capture_form}
 use Rattle.ehdl_top.specs.Inputs.{Input, input, may_input, FirstStop, EndsAtInput}
-use Rattle.ehdl_top.specs.Writes.{Outputs}
+use Rattle.capture_run.specs.Writes.{Outputs}
 use Rattle.ehdl_top.specs.Results.{no_outputs}
 use Rattle.ehdl_top.specs.Outcome.{IsCompiled, IsRun, IsSimulated, IsReference, IsReported, IsDemo}
 

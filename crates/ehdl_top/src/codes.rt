@@ -3,7 +3,7 @@
 ghost use Rattle.std.specs.Prelude.{◌≡◌, ◌++◌, IfOk, codes, decimal};
 ghost use Rattle.ehdl_top.specs.Lines.{capture_code, maps_code, verilog_code, refusal_code};
 
-use crate::line::push_decimal;
+use capture_run::push_decimal;
 use maps_text::MapsError;
 use pcap_core::PcapError;
 use std::alloc::{AllocError, Global};

@@ -4,9 +4,9 @@ ghost use Rattle.std.specs.Prelude.{◌≡◌, ◌≢◌, ◌⊎◌, ◌↔◌, 
 ghost use Rattle.shelf_core.specs.Shelf.{SameHeld};
 ghost use Rattle.command_line.specs.Request.{Request, request_of};
 ghost use Rattle.command_line.specs.AsksFor.{AsksFor};
-ghost use Rattle.ehdl_top.specs.States.{state_of, sink_of, Changes, IsLater, IsLaterSink, OneRose};
+ghost use Rattle.capture_run.specs.States.{state_of, sink_of, Changes, IsLater, IsLaterSink, OneRose};
 ghost use Rattle.ehdl_top.specs.Inputs.{AreReady, FirstStop, OneUnread, names_in};
-ghost use Rattle.ehdl_top.specs.Writes.{Outputs};
+ghost use Rattle.capture_run.specs.Writes.{Outputs};
 ghost use Rattle.ehdl_top.specs.Status.{status_of};
 ghost use Rattle.ehdl_top.specs.Requests.{inputs_of, outputs_of, IsOutcome, PutsLines, AreLines, OneUnwritten, IsCause, CanEnd, IsFault};
 ghost use Rattle.ehdl_top.specs.Ends.{AllWritten, ByInputs, EndsAs, IsEarly, Loses, SaysWhy, AreLinesOf, ArePut, AreCutOff, SaysLast};

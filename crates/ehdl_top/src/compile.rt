@@ -2,13 +2,13 @@
 
 ghost use Rattle.xdp_object.specs.Choice.{chosen_of};
 ghost use Rattle.command_line.specs.Request.{AskCompile};
-ghost use Rattle.ehdl_top.specs.States.{state_of};
+ghost use Rattle.capture_run.specs.States.{state_of};
 ghost use Rattle.ehdl_top.specs.Steps.{EndsIn};
 
 use crate::error::CommandError;
 use crate::form::read_input;
 use crate::object::ProgramForm;
-use crate::write::{push_file, write_all};
+use capture_run::put_file;
 use command_line::Choice;
 use shelf_core::Shelf;
 use std::alloc::Global;
@@ -24,8 +24,6 @@ pub(crate) fn compile_file<S: Shelf>(
     ensures { EndsIn (AskCompile object.now verilog.now (chosen_of choice.entry)) (state_of S.Shelf shelf.old) (state_of S.Shelf shelf.new) result }
 {
     let built = read_input(alloc, shelf, object, &ProgramForm { choice })?;
-    let mut writes = Vec::new(alloc);
-    push_file(&mut writes, verilog, built.text)?;
-    write_all(shelf, &writes)?;
+    put_file(shelf, verilog, &built.text)?;
     Ok(())
 }

@@ -13,7 +13,7 @@ use crate::drive::clock_limit;
 use crate::error::CommandError;
 use crate::form::Form;
 use crate::object::ProgramForm;
-use crate::packets::CaptureForm;
+use crate::packets::read_capture;
 use crate::pipeline::{Ran, run_pipeline};
 use crate::report::counted_line;
 use beat_core::Bytes;
@@ -76,7 +76,7 @@ pub(crate) fn run_demo(alloc: Global, seed: u32, packets: u32) -> Result<Vec<Byt
         hash_cap: HASH_CAP,
     };
     let built = ProgramForm { choice }.read(alloc, &demo.object)?;
-    let capture = CaptureForm.read(alloc, &demo.capture)?;
+    let capture = read_capture(alloc, &demo.capture)?;
     let first = Maps::new(alloc, &built.decls)?;
     let ran = run_pipeline(alloc, &built, &first, &capture.packets, INTERFACE)?;
     let limit = clock_limit(&capture.packets, built.rows, built.records);

@@ -1,33 +1,22 @@
-// A design, simulated: the host loads maps into it, packets are driven through it, and the host reads its maps.
+// A design that is driven: what it is given up for, and the maps that the host then reads.
 
-ghost use Rattle.std.specs.Prelude.{◌≡◌, ◌≤◌, ◌<◌, ◌^◌, List, Some, All, length, map, drop, IfOk};
-ghost use Rattle.net_core.specs.View.{netlist_of};
-ghost use Rattle.net_core.specs.Clock.{first_stored};
+ghost use Rattle.std.specs.Prelude.{◌≡◌, ◌≤◌, ◌<◌, ◌^◌, Some, All, length, map, IfOk};
 ghost use Rattle.verilog_read.specs.design_rules.Formed.{IsWellFormed};
 ghost use Rattle.xdp_maps.specs.Contents.{IsWithinLimits};
 ghost use Rattle.port_drive.specs.realization.Bounds.{clock_bound, most_beats};
-ghost use Rattle.ehdl_top.specs.Simulation.{dumped, driven, simulation};
-ghost use Rattle.ehdl_top.specs.Steps.{StopsInside, error_of, IsGiven};
+ghost use Rattle.ehdl_top.specs.Simulation.{dumped};
+ghost use Rattle.ehdl_top.specs.Steps.{StopsInside, error_of};
 
 use crate::error::{CommandError, NetName};
-use crate::events::open_events;
 use beat_core::Timed;
-use clock_sim::{Clocked, Sim};
-use net_core::design::Design;
-use port_drive::{Answers, DriveError, drive, dump, load};
+use clock_sim::Clocked;
+use port_drive::{DriveError, dump};
 use std::alloc::{AllocError, Global};
 use xdp_maps::decl::MapDecl;
 use xdp_maps::state::Maps;
 
-/// What a simulation gave: the answers, and the maps in the end, or why it was given up.
-#[derive(Drop)]
-pub(crate) struct Driven {
-    pub(crate) answers: Answers,
-    pub(crate) end: Result<Maps, CommandError>,
-}
-
-// What a simulation is given up for, with the name of the net where a clock stopped.
-fn give_up<C: Clocked>(
+/// What a simulation is given up for, with the name of the net where a clock stopped.
+pub(crate) fn give_up<C: Clocked>(
     alloc: Global,
     sim: &C,
     error: DriveError,
@@ -49,8 +38,8 @@ fn give_up<C: Clocked>(
     }
 }
 
-// The maps that a design shows the host, unless a clock stops.
-fn dump_design<C: Clocked>(
+/// The maps that a design shows the host, unless a clock stops.
+pub(crate) fn dump_design<C: Clocked>(
     alloc: Global,
     sim: &mut C,
     decls: &[MapDecl],
@@ -65,94 +54,6 @@ fn dump_design<C: Clocked>(
         Err(error) => {
             let error = give_up(alloc, sim, error)?;
             Ok(Err(error))
-        }
-    }
-}
-
-// Drives a design by packets whose beats are offered, and those of answers taken, at every clock, in at most so many clocks. After the
-// last answer its maps are dumped.
-fn drive_design<C: Clocked>(
-    alloc: Global,
-    sim: &mut C,
-    decls: &[MapDecl],
-    packets: &[Timed],
-    ifindex: u32,
-    clocks: u64,
-) -> Result<Driven, AllocError>
-    requires formed { IsWellFormed (C.netlist sim.old) }
-    requires limits { All IsWithinLimits decls.now }
-    requires few { length decls.now ≤ 16 }
-    ensures { IfOk result (IsGiven (driven (C.netlist sim.old) (C.stored sim.old) decls.now ifindex packets.now clocks)) }
-{
-    let mut answers = Answers::new(alloc);
-    match drive(alloc, sim, packets, ifindex, clocks, &mut answers) {
-        Ok(_drive) => {
-            let end = dump_design(alloc, sim, decls)?;
-            Ok(Driven { answers, end })
-        }
-        Err(error) => {
-            let error = give_up(alloc, sim, error)?;
-            Ok(Driven {
-                answers,
-                end: Err(error),
-            })
-        }
-    }
-}
-
-// Simulates a design that stores its first values over packets: these maps are loaded, the packets are driven through in at most so many
-// clocks, and the maps are dumped.
-fn simulate_from_first<C: Clocked>(
-    alloc: Global,
-    sim: &mut C,
-    maps: &Maps,
-    packets: &[Timed],
-    ifindex: u32,
-    clocks: u64,
-) -> Result<Driven, AllocError>
-    requires formed { IsWellFormed (C.netlist sim.old) }
-    requires first { C.stored sim.old ≡ first_stored (C.netlist sim.old) }
-    requires limits { All IsWithinLimits maps.now.decls }
-    requires few { length maps.now.decls ≤ 16 }
-    ensures { IfOk result (IsGiven (simulation (C.netlist sim.old) maps.now ifindex packets.now clocks)) }
-{
-    let decls = maps.decls();
-    match load(sim, maps) {
-        Ok(()) => drive_design(alloc, sim, decls, packets, ifindex, clocks),
-        Err(error) => {
-            let error = give_up(alloc, sim, error)?;
-            Ok(Driven {
-                answers: Answers::new(alloc),
-                end: Err(error),
-            })
-        }
-    }
-}
-
-/// Simulates a design over packets: these maps are loaded, the packets are driven through in at most so many clocks, and the maps are
-/// dumped. Where a seed is given, a clock is settled by events, in the order of its draws, which gives the same.
-pub(crate) fn simulate_design(
-    alloc: Global,
-    design: Design,
-    maps: &Maps,
-    packets: &[Timed],
-    ifindex: u32,
-    clocks: u64,
-    events: Option<u32>,
-) -> Result<Driven, AllocError>
-    requires formed { IsWellFormed (netlist_of design) }
-    requires limits { All IsWithinLimits maps.now.decls }
-    requires few { length maps.now.decls ≤ 16 }
-    ensures { IfOk result (IsGiven (simulation (netlist_of design) maps.now ifindex packets.now clocks)) }
-{
-    match events {
-        None => {
-            let mut sim = Sim::open(alloc, design)?;
-            simulate_from_first(alloc, &mut sim, maps, packets, ifindex, clocks)
-        }
-        Some(seed) => {
-            let mut sim = open_events(alloc, design, seed)?;
-            simulate_from_first(alloc, &mut sim, maps, packets, ifindex, clocks)
         }
     }
 }

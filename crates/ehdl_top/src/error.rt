@@ -3,10 +3,12 @@
 ghost use Rattle.std.specs.Prelude.{◌≡◌, IfOk, IsOk};
 ghost use Rattle.ehdl_top.specs.Lines.{line_of};
 ghost use Rattle.ehdl_top.specs.Status.{status_of};
-ghost use Rattle.ehdl_top.specs.Steps.{bytes_of, IsFixed};
+ghost use Rattle.capture_run.specs.Runs.{IsPlainStop};
+ghost use Rattle.ehdl_top.specs.Steps.{bytes_of, IsFixed, stop_error};
 
 use crate::codes::{capture_line, maps_line, named, numbered, refusal_line, verilog_line};
 use crate::status::Status;
+use capture_run::{CaptureError, RunError};
 use maps_text::MapsError;
 use pcap_core::PcapError;
 use shelf_core::Failed;
@@ -115,6 +117,33 @@ impl From<Failed> for CommandError {
 
     fn from(_error: Failed) -> CommandError {
         CommandError::WriteFault
+    }
+}
+
+impl From<CaptureError> for CommandError {
+    ghost use Rattle.std.specs.Prelude.{◌≡◌};
+    ghost use Rattle.ehdl_top.specs.Steps.{capture_error};
+
+    ghost from_gives = { λ c e. e ≡ capture_error c };
+
+    fn from(error: CaptureError) -> CommandError {
+        match error {
+            CaptureError::Failed => CommandError::ReadFault,
+            CaptureError::TooLong => CommandError::LongCapture,
+            CaptureError::Fault(fault) => CommandError::Capture(fault),
+        }
+    }
+}
+
+/// Why a command stops whose run over a capture ended early for what was read or written alone.
+pub(crate) fn stopped(error: RunError) -> CommandError
+    requires { IsPlainStop error }
+    ensures { result ≡ stop_error error }
+{
+    match error {
+        RunError::Capture(error) => CommandError::from(error),
+        RunError::Unwritten => CommandError::WriteFault,
+        _ => unreachable!(),
     }
 }
 

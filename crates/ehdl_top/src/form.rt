@@ -1,7 +1,7 @@
 // The forms of inputs, and how an input of any form is read.
 
 ghost use Rattle.std.specs.Prelude.{◌≡◌, ℕ, List, [], IfOk, IfErr};
-ghost use Rattle.ehdl_top.specs.States.{state_of, Changes};
+ghost use Rattle.capture_run.specs.States.{state_of, Changes};
 ghost use Rattle.ehdl_top.specs.Forms.{InputForm};
 ghost use Rattle.ehdl_top.specs.Status.{status_of};
 ghost use Rattle.ehdl_top.specs.Steps.{IsGivenUp, IsUnread, IsRead};

@@ -8,6 +8,3 @@ pub const VERILOG_LIMIT: u64 = 1_073_741_824;
 
 /// The most bytes of a text of maps.
 pub const MAPS_LIMIT: u64 = 67_108_864;
-
-/// The most bytes of a capture.
-pub const CAPTURE_LIMIT: u64 = 1_073_741_824;

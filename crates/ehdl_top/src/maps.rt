@@ -3,7 +3,7 @@
 ghost use Rattle.std.specs.Prelude.{◌≡◌, [], IfOk, IfErr};
 ghost use Rattle.std.specs.Option.{option_copied};
 ghost use Rattle.maps_text.specs.Text.{IsMapsText};
-ghost use Rattle.ehdl_top.specs.States.{state_of, Changes};
+ghost use Rattle.capture_run.specs.States.{state_of, Changes};
 ghost use Rattle.ehdl_top.specs.Forms.{maps_form};
 ghost use Rattle.ehdl_top.specs.Steps.{AreDeclared, AreRead, AreUnread, IsGivenUp};
 

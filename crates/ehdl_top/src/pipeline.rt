@@ -13,8 +13,9 @@ ghost use Rattle.port_drive.specs.realization.HostHistory.Host.{load, ShowsMaps}
 ghost use Rattle.port_drive.specs.Reports.{full_drive, given_in};
 ghost use Rattle.verilog_read.specs.design_rules.Formed.{IsWellFormed};
 ghost use Rattle.ehdl_build.specs.Compiled.{IsSequential};
-ghost use Rattle.ehdl_top.specs.Results.{came_by};
-ghost use Rattle.ehdl_top.specs.Steps.{IsLegal, IsRealized};
+ghost use Rattle.capture_run.specs.Results.{came_by};
+ghost use Rattle.capture_run.specs.Runs.{IsLegal};
+ghost use Rattle.ehdl_top.specs.Steps.{IsRealized, IsPipelineOf};
 
 use crate::drive::clock_limit;
 use crate::error::CommandError;
@@ -51,6 +52,22 @@ fn open_loaded(alloc: Global, design: Design, maps: &Maps) -> Result<Sim, AllocE
     }
 }
 
+/// Opens the pipeline of the text that was built of a program, and has the host load maps.
+pub(crate) fn open_pipeline(alloc: Global, built: &Built, first: &Maps) -> Result<Sim, AllocError>
+    requires realized { (program : XdpProgram) × IsRealized built.now program }
+    requires decls { first.now.decls ≡ built.now.decls.items }
+    ensures pipeline { IfOk result (λ sim. (program : XdpProgram) → IsRealized built.now program → IsPipelineOf program built.now first.now sim.netlist sim.stored) }
+{
+    // (what maps are over)
+    let _decls = first.decls();
+    match read_verilog(alloc, &built.text) {
+        Ok(design) => open_loaded(alloc, design, first),
+        Err(CommandError::NoMemory) => Err(AllocError),
+        // The text spells a design.
+        Err(_) => unreachable!(),
+    }
+}
+
 // Drives a design that answers all packets in this time.
 fn answers_in_time(
     alloc: Global,
@@ -73,8 +90,12 @@ fn answers_in_time(
     }
 }
 
-// The maps that a design shows the host.
-fn shown_maps(alloc: Global, sim: &mut Sim, decls: &[MapDecl]) -> Result<Maps, AllocError>
+/// The maps that a design shows the host.
+pub(crate) fn shown_maps(
+    alloc: Global,
+    sim: &mut Sim,
+    decls: &[MapDecl],
+) -> Result<Maps, AllocError>
     requires limits { All IsWithinLimits decls.now }
     requires few { length decls.now ≤ 16 }
     requires shows { (maps : MapState) × (maps.decls ≡ decls.now) × ShowsMaps sim.old.netlist sim.old.stored maps }
@@ -104,15 +125,9 @@ pub(crate) fn run_pipeline(
     ensures sequential { (program : XdpProgram) → IsRealized built.now program → IfOk result (λ ran. IsSequential program first.now (came_by ifindex packets.now) ran.answers ran.maps) }
     ensures few { IfOk result (λ ran. length ran.maps.decls ≤ 16) }
 {
-    let design = match read_verilog(alloc, &built.text) {
-        Ok(design) => design,
-        Err(CommandError::NoMemory) => return Err(AllocError),
-        // The text spells a design.
-        Err(_) => unreachable!(),
-    };
     let decls = first.decls();
     let limit = clock_limit(packets, built.rows, built.records);
-    let mut sim = open_loaded(alloc, design, first)?;
+    let mut sim = open_pipeline(alloc, built, first)?;
     let answers = answers_in_time(alloc, &mut sim, packets, ifindex, limit)?;
     let maps = shown_maps(alloc, &mut sim, decls)?;
     Ok(Ran { answers, maps })

@@ -9,6 +9,7 @@ use Rattle.net_core.specs.declared.tree.Net.TheVariants.{Port, Register, Memory,
 use Rattle.net_core.specs.Nets.{RightTree, RPlain, WireTree, AssignTree, Netlist}
 use Rattle.net_core.specs.Value.{nothing, value, right_value, stops}
 use Rattle.net_core.specs.Clock.{Stored, net_value, env, with_wires, rights, stopped_at, stopping}
+use Rattle.net_core.proofs.WireLaws.{length_rights}
 use Rattle.design_rules.specs.FormedScope.{sorts, is_value, reads_known, right_known}
 use Rattle.design_rules.specs.Formed.{IsWellFormed}
 use Rattle.design_rules.proofs.FormedItemLaws.{wire_kept, assign_kept}
@@ -22,10 +23,6 @@ pub no_wire : WireTree
 no_wire = record { width = 0; right = no_right }
 
 -- ---- the right side of a net
-pub length_rights : (ws : List WireTree) → length (rights ws) ≡ length ws
-length_rights [] = refl
-length_rights (w ∷ ws) = ap (λ (n : ℕ). suc n) (length_rights ws)
-
 pub rights_counted : (d : Netlist) → length (right_sides d) ≡ net_count d
 rights_counted d = omega (arith, length-append (rights d.wires) (assigned_rights d.assigns), length_rights d.wires, length-map d.assigns (λ a. RPlain a.value))
 

@@ -19,9 +19,10 @@ use Rattle.net_core.specs.Value.{Env, word, nothing, value, stops}
 use Rattle.net_core.specs.Clock.{rights, stopped_at, assigned}
 use Rattle.net_core.specs.Ports.{input_width, words_by, numbers_of}
 use Rattle.net_core.specs.View.{netlist_of, right_of, wire_of, assign_of}
+use Rattle.net_core.proofs.WireLaws.{length_rights}
 use Rattle.event_sim.specs.Showing.{stored_for}
 use Rattle.event_sim.specs.Orders.{IsOrder}
-use Rattle.event_sim.proofs.Settling.{length_rights, right_in}
+use Rattle.event_sim.proofs.Settling.{right_in}
 
 -- ---- wires
 pub drop_right : (ws : List Wire) (i : ℕ) (x : Wire) → i < length ws → x ≡ get_or ws i x → drop i (rights (map wire_of ws)) ≡ right_of x.right ∷ drop (i + 1) (rights (map wire_of ws))

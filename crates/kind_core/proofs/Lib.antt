@@ -9,6 +9,7 @@ pub mod Sound
 pub mod SoundPointers
 pub mod MachineSteps
 pub mod SoundLoads
+pub mod OperandLaws
 pub mod SoundRegisters
 pub mod SoundConditions
 pub mod Kept

@@ -37,7 +37,7 @@ use Rattle.kind_core.specs.Describes.{World, Describes, DescribesNumber, Describ
 use Rattle.kind_core.specs.Soundness.{ConditionsAreSound}
 use Rattle.kind_core.proofs.Sound.{number_of}
 use Rattle.kind_core.proofs.TestLaws.{bind_ok}
-use Rattle.kind_core.proofs.SoundRegisters.{operand_described}
+use Rattle.kind_core.proofs.OperandLaws.{operand_described}
 
 -- ---- what is learnt of the answer of a lookup
 refined_null : (w : World) (maps : MapState) (n : ℕ) (x : Value) (k : Kind) (v : Value) → x ≡ w.gave n → x ≡ is.Number 0 → Describes w maps k v → Describes w maps (refined (IsNull n) k) v

@@ -36,6 +36,7 @@ use Rattle.kind_core.specs.Describes.{World, Describes, DescribesMachine}
 use Rattle.kind_core.specs.Soundness.{Stands, at_reference, RegistersAreSound}
 use Rattle.kind_core.proofs.Sound.{Gives, number_of, of_number, one_is}
 use Rattle.kind_core.proofs.TestLaws.{bind_ok, bind_passed}
+use Rattle.kind_core.proofs.OperandLaws.{operand_described}
 use Rattle.kind_core.proofs.SoundPointers.{combined_sound}
 use Rattle.kind_core.proofs.SoundLoads.{loaded_plain_sound, loaded_signed_sound}
 use Rattle.kind_core.proofs.MachineSteps.{assigned_at, changed_number, renumbered_is}
@@ -81,10 +82,6 @@ renumbered_sound w k m i is_ref f st h =
     subst (λ o. IfOk (assigned i (renumbered k i (from_one f))) (Leaves w k m is_ref (with_registers m o))) (sym (renumbered_is m.registers i f))
     (assigned_sound w k m i is_ref st h (renumbered k i (from_one f)) (changed_number f (machine.register m.registers i.dst))
     (renumbered_gives w m.maps f (register k i.dst) (machine.register m.registers i.dst) (st.described.registers i.dst)))
-
-pub operand_described : (w : World) (k : Kinds) (m : Machine) (i : Insn) (s : Src) → DescribesMachine w k m → Describes w m.maps (operand k i s) (step.operand m.registers i s)
-operand_described w k m i K d = refl
-operand_described w k m i X d = d.registers i.src
 
 operand_readable : (k : Kinds) (i : Insn) (wd : Width) (c : AluCode) (s : Src) → read_if (reads_source (Alu wd c s)) (register k i.src) ≡ passed → readable (operand k i s) ≡ passed
 operand_readable k i wd c K h = refl

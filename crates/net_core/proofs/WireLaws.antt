@@ -6,6 +6,7 @@ use Rattle.net_core.specs.declared.design.Wire.{Wire}
 use Rattle.net_core.specs.Nets.{WireTree}
 use Rattle.net_core.specs.View.{wire_of}
 use Rattle.net_core.specs.Width.{wire_widths}
+use Rattle.net_core.specs.Clock.{rights}
 
 pub width_at : (ws : List WireTree) (k : ℕ) (w : WireTree) → k < length ws → get_or (wire_widths ws) k 0 ≡ (get_or ws k w).width
 width_at [] k w l = absurd (omega arith)
@@ -15,6 +16,10 @@ width_at (x ∷ ws) (suc k) w l = width_at ws k w (omega arith)
 pub length_widths : (ws : List WireTree) → length (wire_widths ws) ≡ length ws
 length_widths [] = refl
 length_widths (w ∷ ws) = ap (λ (n : ℕ). suc n) (length_widths ws)
+
+pub length_rights : (ws : List WireTree) → length (rights ws) ≡ length ws
+length_rights [] = refl
+length_rights (w ∷ ws) = ap (λ (n : ℕ). suc n) (length_rights ws)
 
 pub wire_widths_at : (xs : List Wire) (k : ℕ) (d : Wire) → k < length xs → get_or (wire_widths (map wire_of xs)) k 0 ≡ (get_or xs k d).width
 wire_widths_at [] k d h = absurd (omega arith)

@@ -6,7 +6,7 @@ use Rattle.pcap_core.specs.declared.error.PcapError.{PcapError}
 use Rattle.pcap_core.specs.declared.error.PcapError.TheVariants.{Short, Magic, Version, Link, Frame}
 use Rattle.pcap_core.specs.Number.{number, spelled}
 use Rattle.beat_core.specs.declared.frame.TheConstants.{FRAME_LIMIT}
-use Rattle.beat_core.specs.list_laws.Bytes.{IsBytes}
+use Rattle.list_laws.specs.Bytes.{IsBytes}
 
 -- ---- the header
 

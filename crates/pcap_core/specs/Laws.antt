@@ -4,7 +4,7 @@ use Rattle.std.specs.List.{AllByRecursion}
 use Rattle.pcap_core.specs.declared.error.PcapError.{PcapError}
 use Rattle.pcap_core.specs.Format.{Header, IsHeader, Record, IsRecord, packets_of, capture_bytes, Content, IsContent, IsHeaderFault}
 use Rattle.pcap_core.specs.Reading.{content_of}
-use Rattle.beat_core.specs.list_laws.Bytes.{IsBytes}
+use Rattle.list_laws.specs.Bytes.{IsBytes}
 
 pub record IsOneReading : Type 0 where
   -- What is read is so, and what is so is read.

@@ -63,6 +63,7 @@ pub fn write_record(
     ensures ok { OnOk result (into.new.items ≡ record_bytes Little (record { packet = record { seconds = seconds; fraction = fraction; bytes = frame.now }; original = length frame.now })) }
     ensures err { OnErr result (into.new.items ≡ []) }
     ensures full { OnErr result (vec_capacity into.old < 16 + length frame.now) }
+    ensures room { vec_capacity into.old ≤ vec_capacity into.new }
 {
     let length = frame.len() as u32;
     into.clear();

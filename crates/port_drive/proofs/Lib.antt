@@ -3,8 +3,9 @@ pub mod RoomLaws
 pub mod DrivingLaws
 pub mod TurnLaws
 pub mod DriveLaws
+pub mod OutgrownLaws
 pub mod GivingLaws
-pub mod DriveTurns
+pub mod DriveTurnLaws
 pub mod HostLaws
 pub mod HostClocks
 pub mod LoadLemmas

@@ -7,7 +7,7 @@ use Rattle.beat_core.specs.declared.beat.Beat.{Beat}
 use Rattle.beat_core.specs.Beats.{beats_of}
 use Rattle.beat_core.specs.Ports.{Offered}
 use Rattle.beat_core.specs.Words.{low_bytes}
-use Rattle.beat_core.proofs.Left.{left_none, left_some, left_after}
+use Rattle.beat_core.proofs.LeftLaws.{left_none, left_some, left_after}
 use Rattle.net_core.specs.declared.ports.Inputs.{Inputs}
 use Rattle.net_core.specs.declared.ports.Outputs.{Outputs}
 use Rattle.port_drive.specs.Driving.{taken_in, held_bytes, begun_next, ended_by}

@@ -18,7 +18,7 @@ use Rattle.port_drive.specs.declared.report.DriveError.{DriveError}
 use Rattle.port_drive.specs.declared.report.DriveError.TheVariants.{X, Late, NoMemory}
 use Rattle.port_drive.specs.declared.turn.Turn.{Turn}
 use Rattle.port_drive.specs.declared.turn.Turn.TheVariants.{Need, Done, Over}
-use Rattle.port_drive.specs.Driving.{Taking, taken_in, ends_answer, ended_by, begun_next, begun_after, Driving, clocked, FitsOn, IsGoing, IsDue, TurnOf, Turns, RunsOn, next_cycle, ClocksOn}
+use Rattle.port_drive.specs.Driving.{Taking, taken_in, ends_answer, ended_by, begun_next, begun_after, Driving, clocked, FitsOn, IsGoing, IsDue, IsSameDrive, TurnOf, Turns, RunsOn, next_cycle, ClocksOn}
 use Rattle.port_drive.proofs.BeatLemmas.{takes_out}
 use Rattle.port_drive.proofs.DrivingLaws.{answers_step, answers_append, begun_append, fits_same, fits_on}
 
@@ -105,17 +105,20 @@ module _ (old v : Driving) (d : Netlist) (s0 s : Stored) (t : Turning old v d s0
   turn_late going out = record { clocks = t.clocks; fits = t.fits; ends = (t.none, going, out, refl, refl, refl) }
 
   -- a clock that failed
-  pub turn_failed : (new : Driving) (s' : Stored) (e : DriveError) → IsGoing v → v.clocks < v.limit → ClocksOn v new d s s' (Err e) → Turns old new d s0 s' (Err e)
-  turn_failed new s' (X x) going more h =
+  pub turn_failed : (new : Driving) (s' : Stored) (e : DriveError) → IsSameDrive old v → IsGoing v → v.clocks < v.limit → ClocksOn v new d s s' (Err e) → Turns old new d s0 s' (Err e)
+  turn_failed new s' (X x) same going more h =
       let here : TurnOf old v d s0 s (Err (X x)) = record { clocks = t.clocks; fits = t.fits; ends = (t.none, going, more, h.2) } in
       subst (λ w. Turns old w d s0 s' (Err (X x))) (sym h.0) (subst (λ u. Turns old v d s0 u (Err (X x))) (sym h.1) here)
-  turn_failed new s' NoMemory going more h = record {
+  turn_failed new s' NoMemory same going more h = record {
     clocks = t.clocks ++ next_cycle v d s ∷ [];
     new = clocked v (next_cycle v d s);
     fits = fits_on old v d s0 s s' t.clocks t.fits going h.0;
+    same = record { ifindex = same.ifindex; limit = same.limit; given = same.given; ended = same.ended };
+    within = omega arith;
+    gave = answers_with;
     longer = h.1;
   }
-  turn_failed new s' (Late answers packets clocks) going more h = absurd h
+  turn_failed new s' (Late answers packets clocks) same going more h = absurd h
 
   -- a clock that was run, by what it said
   pub turn_ended : (new : Driving) (s' : Stored) (b : Bool) → b ≡ true → IsGoing v → ClocksOn v new d s s' (Ok b) → TurnOf old new d s0 s' (Ok Done)

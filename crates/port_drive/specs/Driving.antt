@@ -1,5 +1,5 @@
 -- Packets that are given one at a time to one who drives a design by them, and the clocks that fit them.
-use Rattle.std.specs.Prelude.{◌≡◌, ◌≢◌, ℕ, ⊤, ◌+◌, ◌<◌, List, [], ◌∷◌, ◌++◌, length, Option, Some, None, is_some, Bool, true, false, ◌&&◌, if◌then◌else◌, Result, Ok, Err}
+use Rattle.std.specs.Prelude.{◌≡◌, ◌≢◌, ℕ, ⊤, ◌+◌, ◌<◌, ◌≤◌, List, [], ◌∷◌, ◌++◌, length, Option, Some, None, is_some, option_to_list, Bool, true, false, ◌&&◌, if◌then◌else◌, Result, Ok, Err}
 use Rattle.std.specs.List.{flat_map}
 use Rattle.beat_core.specs.declared.frame.Timed.{Timed}
 use Rattle.beat_core.specs.declared.frame.TheConstants.{FRAME_LIMIT}
@@ -159,11 +159,21 @@ pub record TurnOf (old new : Driving) (d : Netlist) (s s' : Stored) (result : Re
   pub fits : FitsOn old new d s s' clocks
   pub ends : EndsTurn new d s' (answers_given old.begun clocks) result
 
--- the same where an answer has become longer than a frame
+-- what no clock changes
+pub record IsSameDrive (old new : Driving) : Type 0 where
+  pub ifindex : new.ifindex ≡ old.ifindex
+  pub limit : new.limit ≡ old.limit
+  pub given : new.given ≡ old.given
+  pub ended : new.ended ≡ old.ended
+
+-- The same where an answer has become longer than a frame: the one that the last clock has ended, or else the one that has begun.
 pub record OutgrowsFrame (old : Driving) (d : Netlist) (s s' : Stored) : Type 0 where
   pub clocks : List Cycle
   pub new : Driving
   pub fits : FitsOn old new d s s' clocks
+  pub same : IsSameDrive old new
+  pub within : new.clocks ≤ new.limit
+  pub gave : answers_given old.begun clocks ≡ option_to_list new.last
   pub longer : FRAME_LIMIT < length (held_bytes new.begun new.last)
 
 abbrev pub Turns : Driving → Driving → Netlist → Stored → Stored → Result Turn DriveError → Type 0

@@ -1,5 +1,5 @@
 use Rattle.std.proofs.Common.{◌≡◌, take}
-use Rattle.ehdl_top.specs.States.{sink_of, IsLaterSink}
+use Rattle.capture_run.specs.States.{sink_of, IsLaterSink}
 use Rattle.ehdl_top.specs.Ends.{ArePut}
 use Rattle.ehdl_top.proofs.command.put_lines.Given as goal
 

@@ -1,7 +1,7 @@
 use Rattle.std.proofs.Common.{sym, subst}
 use Rattle.command_line.specs.Request.{request_of}
 use Rattle.command_line.specs.declared.command.Command.{Command}
-use Rattle.ehdl_top.specs.States.{state_of}
+use Rattle.capture_run.specs.States.{state_of}
 use Rattle.ehdl_top.specs.Steps.{EndsIn}
 use Rattle.ehdl_top.proofs.DemoLemmas.{demo_ends}
 use Rattle.ehdl_top.proofs.command.run_command.Goals as goal

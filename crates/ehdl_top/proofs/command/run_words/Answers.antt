@@ -1,7 +1,7 @@
 use Rattle.std.proofs.Common.{rules, subst}
 use Rattle.command_line.specs.Request.{Request, request_of}
 use Rattle.ehdl_top.specs.declared.error.CommandError.TheVariants as error
-use Rattle.ehdl_top.specs.States.{state_of}
+use Rattle.capture_run.specs.States.{state_of}
 use Rattle.ehdl_top.specs.Steps.{EndsIn}
 use Rattle.ehdl_top.proofs.NameLemmas.{names_apart}
 use Rattle.ehdl_top.proofs.CauseLemmas.{stops_of, never_usage, early_of}

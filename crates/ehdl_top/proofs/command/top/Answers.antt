@@ -1,4 +1,4 @@
-use Rattle.ehdl_top.specs.States.{state_of, sink_of}
+use Rattle.capture_run.specs.States.{state_of, sink_of}
 use Rattle.ehdl_top.proofs.CauseLemmas.{ended_outcome, ended_complete, ended_read, ended_write, ended_can, ended_inputs, ended_driven, ended_loses}
 use Rattle.ehdl_top.proofs.FinishLemmas.{finished_ended, finished_put, finished_silent, finished_why, finished_usage, finished_unread, finished_early, lines_of}
 use Rattle.ehdl_top.proofs.command.top.Goals as goal

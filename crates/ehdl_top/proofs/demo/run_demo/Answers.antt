@@ -9,7 +9,8 @@ use Rattle.xdp_maps.specs.declared.decl.MapDecl.{MapDecl}
 use Rattle.xdp_maps.specs.State.{opened_state}
 use Rattle.port_drive.specs.realization.Bounds.{clock_bound, most_beats}
 use Rattle.ehdl_top.specs.Forms.{built, program_form, capture_form}
-use Rattle.ehdl_top.specs.Steps.{IsGivenUp, IsLegal}
+use Rattle.capture_run.specs.Runs.{IsLegal}
+use Rattle.ehdl_top.specs.Steps.{IsGivenUp}
 use Rattle.ehdl_top.proofs.DemoLemmas.{object_given_up, capture_given_up, program_is, has_map, is_hash, bytes_fit, demo_of, stops_at}
 use Rattle.ehdl_top.proofs.demo.run_demo.Goals as goal
 
@@ -30,7 +31,7 @@ returns-in_err-capture-clause-memory c =
 pub demo_lines-requires-clause-few : goal.demo_lines-requires-clause-few
 demo_lines-requires-clause-few c =
     let gives = c.in_ok-built.ensures.gives in
-    let of = c.in_ok-capture.ensures.gives.of in
+    let of = c.in_ok-capture.ensures.captured.of in
     let same = sym c.deref-4.ensures.value in
     bytes_fit gives.program c.in_ok-first.first c.in_ok-ran.ran.maps 1 c.deref-4.result.now c.in_ok-ran.ran.answers (c.in_ok-ran.ensures.sequential gives.program gives.realized)
     (subst (λ (timed : List Timed). AllByRecursion IsLegal timed) same of.are) (subst (λ (timed : List Timed). length timed < 2 ^ 32) same of.few)
@@ -52,7 +53,7 @@ demo_lines-requires-clause-hash c =
 pub returns-clause-lines : goal.returns-clause-lines
 returns-clause-lines c =
     let gives = c.in_ok-built.ensures.gives in
-    let seen = c.in_ok-capture.ensures.gives in
+    let seen = c.in_ok-capture.ensures.captured in
     let same = program_is c.deref.result.now gives.program (subst IsDemoObject (sym c.deref.ensures.value) c.in_ok-demo.ensures.object) gives.taken.object in
     let opened = subst (λ (ds : List MapDecl). c.in_ok-first.first ≡ opened_state ds) c.deref-3.ensures.value c.in_ok-first.ensures in
     let content = subst (λ (bytes : List ℕ). content_of bytes ≡ Ok (demo_content c.args.seed c.args.packets)) (sym c.deref-2.ensures.value) c.in_ok-demo.ensures.packets in

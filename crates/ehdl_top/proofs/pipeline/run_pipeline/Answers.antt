@@ -1,25 +1,16 @@
 use Rattle.std.proofs.Common.{◌≡◌, ◌∙◌, ℕ, List, length, sym, ap, subst, arith}
 use Rattle.beat_core.specs.declared.answer.Answer.{Answer}
-use Rattle.net_core.specs.View.{netlist_of}
 use Rattle.xdp_maps.specs.declared.decl.MapDecl.{MapDecl}
 use Rattle.xdp_maps.specs.State.{MapState}
-use Rattle.ehdl_build.specs.verilog_write.VerilogGrammar.Spelling.{Spells}
 use Rattle.ehdl_build.specs.Compiled.{IsSequential}
-use Rattle.ehdl_top.specs.Results.{came_by}
-use Rattle.ehdl_top.proofs.RealizedLemmas.{runs, limits_of, sequential_decls, shows_as}
+use Rattle.capture_run.specs.Results.{came_by}
+use Rattle.ehdl_top.proofs.RealizedLemmas.{at_most, limits_of, sequential_decls, shows_as}
 use Rattle.ehdl_top.proofs.pipeline.run_pipeline.Goals as goal
-
-pub open_loaded-requires-clause-few : goal.open_loaded-requires-clause-few
-open_loaded-requires-clause-few c =
-    let r = c.requires.realized in
-    omega (arith, ap (λ (ds : List MapDecl). length ds) (c.requires.decls ∙ r.1.decls), r.1.is_program.maps)
 
 pub answers_in_time-requires : goal.answers_in_time-requires
 answers_in_time-requires c =
     let r = c.requires.realized in
-    (runs c.args.built.now r.0 r.1 c.args.first.now (netlist_of c.in-Ok.design) c.in_ok-sim.sim.netlist c.in_ok-sim.sim.stored c.args.ifindex c.clock_limit-limit.result c.args.packets.now c.requires.decls c.decls-decls.ensures.sound
-    (c.in-Ok.ensures.design.only r.1.realizes.design (subst (λ (text : List ℕ). Spells text r.1.realizes.design) (sym c.deref.ensures.value) r.1.realizes.spells))
-    c.in_ok-sim.ensures.netlist c.in_ok-sim.ensures.stored c.requires.packets c.ranges.ifindex.fits c.clock_limit-limit.ensures).ended
+    (c.in_ok-sim.ensures.pipeline r.0 r.1 c.args.ifindex c.clock_limit-limit.result c.args.packets.now c.ranges.ifindex.fits c.requires.packets (at_most _ _ c.clock_limit-limit.ensures)).ended
 
 pub shown_maps-requires-clause-limits : goal.shown_maps-requires-clause-limits
 shown_maps-requires-clause-limits c =
@@ -29,9 +20,7 @@ shown_maps-requires-clause-limits c =
 pub shown_maps-requires-clause-shows : goal.shown_maps-requires-clause-shows
 shown_maps-requires-clause-shows c =
     let r = c.requires.realized in
-    let a = runs c.args.built.now r.0 r.1 c.args.first.now (netlist_of c.in-Ok.design) c.in_ok-sim.sim.netlist c.in_ok-sim.sim.stored c.args.ifindex c.clock_limit-limit.result c.args.packets.now c.requires.decls c.decls-decls.ensures.sound
-    (c.in-Ok.ensures.design.only r.1.realizes.design (subst (λ (text : List ℕ). Spells text r.1.realizes.design) (sym c.deref.ensures.value) r.1.realizes.spells))
-    c.in_ok-sim.ensures.netlist c.in_ok-sim.ensures.stored c.requires.packets c.ranges.ifindex.fits c.clock_limit-limit.ensures in
+    let a = c.in_ok-sim.ensures.pipeline r.0 r.1 c.args.ifindex c.clock_limit-limit.result c.args.packets.now c.ranges.ifindex.fits c.requires.packets (at_most _ _ c.clock_limit-limit.ensures) in
     let left : a.last.decls ≡ c.decls-decls.result.now = sequential_decls r.0 c.args.first.now (came_by c.args.ifindex c.args.packets.now) _ a.last a.all ∙ sym c.decls-decls.ensures.decls in
     let shows = shows_as c.in_ok-sim.sim.netlist c.answers_in_time.new.sim.netlist _ c.answers_in_time.new.sim.stored a.last c.in_ok-answers.ensures.netlist c.in_ok-answers.ensures.stored a.shown in
     (a.last, left, shows)
@@ -39,9 +28,7 @@ shown_maps-requires-clause-shows c =
 pub returns-clause-sequential : goal.returns-clause-sequential
 returns-clause-sequential c = λ program realized.
     let first = c.args.first.now in
-    let a = runs c.args.built.now program realized first (netlist_of c.in-Ok.design) c.in_ok-sim.sim.netlist c.in_ok-sim.sim.stored c.args.ifindex c.clock_limit-limit.result c.args.packets.now c.requires.decls c.decls-decls.ensures.sound
-    (c.in-Ok.ensures.design.only realized.realizes.design (subst (λ (text : List ℕ). Spells text realized.realizes.design) (sym c.deref.ensures.value) realized.realizes.spells))
-    c.in_ok-sim.ensures.netlist c.in_ok-sim.ensures.stored c.requires.packets c.ranges.ifindex.fits c.clock_limit-limit.ensures in
+    let a = c.in_ok-sim.ensures.pipeline program realized c.args.ifindex c.clock_limit-limit.result c.args.packets.now c.ranges.ifindex.fits c.requires.packets (at_most _ _ c.clock_limit-limit.ensures) in
     let came = came_by c.args.ifindex c.args.packets.now in
     let left : a.last.decls ≡ c.decls-decls.result.now = sequential_decls program first came _ a.last a.all ∙ sym c.decls-decls.ensures.decls in
     let shows = shows_as c.in_ok-sim.sim.netlist c.answers_in_time.new.sim.netlist _ c.answers_in_time.new.sim.stored a.last c.in_ok-answers.ensures.netlist c.in_ok-answers.ensures.stored a.shown in
@@ -51,9 +38,7 @@ returns-clause-sequential c = λ program realized.
 pub returns-clause-few : goal.returns-clause-few
 returns-clause-few c =
     let r = c.requires.realized in
-    let a = runs c.args.built.now r.0 r.1 c.args.first.now (netlist_of c.in-Ok.design) c.in_ok-sim.sim.netlist c.in_ok-sim.sim.stored c.args.ifindex c.clock_limit-limit.result c.args.packets.now c.requires.decls c.decls-decls.ensures.sound
-    (c.in-Ok.ensures.design.only r.1.realizes.design (subst (λ (text : List ℕ). Spells text r.1.realizes.design) (sym c.deref.ensures.value) r.1.realizes.spells))
-    c.in_ok-sim.ensures.netlist c.in_ok-sim.ensures.stored c.requires.packets c.ranges.ifindex.fits c.clock_limit-limit.ensures in
+    let a = c.in_ok-sim.ensures.pipeline r.0 r.1 c.args.ifindex c.clock_limit-limit.result c.args.packets.now c.ranges.ifindex.fits c.requires.packets (at_most _ _ c.clock_limit-limit.ensures) in
     let left : a.last.decls ≡ c.decls-decls.result.now = sequential_decls r.0 c.args.first.now (came_by c.args.ifindex c.args.packets.now) _ a.last a.all ∙ sym c.decls-decls.ensures.decls in
     let shows = shows_as c.in_ok-sim.sim.netlist c.answers_in_time.new.sim.netlist _ c.answers_in_time.new.sim.stored a.last c.in_ok-answers.ensures.netlist c.in_ok-answers.ensures.stored a.shown in
     omega (arith, ap (λ (m : MapState). length m.decls) (c.in_ok-maps.ensures a.last left shows), ap (λ (ds : List MapDecl). length ds) (left ∙ c.decls-decls.ensures.decls ∙ c.requires.decls ∙ r.1.decls), r.1.is_program.maps)

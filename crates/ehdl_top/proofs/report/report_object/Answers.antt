@@ -1,8 +1,8 @@
 use Rattle.std.proofs.Common.{[], Ok, refl}
 use Rattle.xdp_object.specs.Choice.{chosen_of}
 use Rattle.command_line.specs.Request.{AskReport}
-use Rattle.ehdl_top.specs.States.{state_of}
-use Rattle.ehdl_top.proofs.StateLemmas.{changes_none}
+use Rattle.capture_run.specs.States.{state_of}
+use Rattle.capture_run.proofs.StateLaws.{changes_none}
 use Rattle.ehdl_top.proofs.OutcomeLemmas.{reported_of, report_makes}
 use Rattle.ehdl_top.proofs.EndLemmas.{ends_as, ends_done}
 use Rattle.ehdl_top.proofs.report.report_object.Goals as goal

@@ -6,7 +6,7 @@ use Rattle.port_drive.specs.declared.turn.Turn.TheVariants.{Need, Done, Over}
 use Rattle.port_drive.specs.Reports.{full_drive, GivesFirst}
 use Rattle.port_drive.specs.Driving.{TurnOf}
 use Rattle.port_drive.proofs.DriveLaws.{driven_from, driven_done, driven_prefix}
-use Rattle.port_drive.proofs.DriveTurns.{turns_as, on_need, on_given, never_over, on_done, on_late, on_stop, fewer_done, fewer_given}
+use Rattle.port_drive.proofs.DriveTurnLaws.{turns_as, on_need, on_given, never_over, on_done, on_late, on_stop, fewer_done, fewer_given}
 use Rattle.port_drive.proofs.driving.drive.Goals as goal
 
 pub loop-answers-init : goal.loop-answers-init

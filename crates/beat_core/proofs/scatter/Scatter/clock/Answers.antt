@@ -1,7 +1,7 @@
 use Rattle.std.proofs.Common.{◌≡◌, ◌-◌, ◌≤◌, ◌≢◌, ℕ, List, [], Bool, true, false, Some, drop, take, slice_get, length, if◌then◌else◌, refl, sym, ap, ◌∙◌, arith}
 use Rattle.beat_core.specs.declared.beat.Beat.{Beat}
 use Rattle.beat_core.specs.Beats.{beats_of, first_beat}
-use Rattle.beat_core.proofs.Left.{left_none, left_some, left_after}
+use Rattle.beat_core.proofs.LeftLaws.{left_none, left_some, left_after}
 use Rattle.beat_core.proofs.scatter.Scatter.clock.Goals as goal
 
 -- what is shown is the first beat left

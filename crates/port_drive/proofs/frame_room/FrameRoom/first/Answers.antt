@@ -3,7 +3,7 @@ use Rattle.std.specs.Prelude.{map}
 use Rattle.beat_core.specs.declared.beat.Beat.{Beat}
 use Rattle.beat_core.specs.Beats.{first_beat}
 use Rattle.beat_core.specs.Ports.{Offered, offered}
-use Rattle.beat_core.proofs.Left.{left_none, left_some}
+use Rattle.beat_core.proofs.LeftLaws.{left_none, left_some}
 use Rattle.port_drive.proofs.frame_room.FrameRoom.first.Goals as goal
 
 pub returns-then-self-clause-first : goal.returns-then-self-clause-first

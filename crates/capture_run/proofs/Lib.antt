@@ -1,0 +1,11 @@
+pub mod StateLaws
+pub mod WriteLaws
+pub mod EndLaws
+pub mod RunLaws
+pub mod PassingLemmas
+pub mod SurveyLemmas
+pub mod RecordLemmas
+pub mod PacketWriteLaws
+pub mod RunOverLaws
+pub mod DrivenLaws
+pub mod ToldLaws
