@@ -1,5 +1,5 @@
 -- How a reader goes on from record to record: each step's facts, joined.
-use Rattle.std.proofs.Common.{◌≡◌, ℕ, ◌+◌, ◌<◌, ◌≤◌, true, List, [], ◌∷◌, ◌++◌, length, take, drop, Option, Some, None, Ok, Err, refl, sym, ap, ◌∙◌, subst, arith, inl, inr, length-drop, take-add}
+use Rattle.std.proofs.Common.{◌≡◌, ℕ, ◌+◌, ◌<◌, ◌≤◌, true, List, [], ◌∷◌, ◌++◌, length, take, drop, Option, None, Ok, Err, refl, sym, ap, ◌∙◌, subst, arith, inl, inr, length-drop, take-add}
 use Rattle.std.specs.Prelude.{nat_lt}
 use Rattle.std.proofs.lemmas.Bool.{cases_lt, lt-ltb}
 use Rattle.std.proofs.lemmas.List.{length-take, length-take-le, take_all, drop_all, drop-drop}
@@ -54,9 +54,6 @@ none_from order index content f all = ap (records_at order index f.at) (drop_all
 
 -- ---- the numbers in front
 -- nothing comes only at the end
-pub none_left : (content given : List ℕ) (at need : ℕ) → 0 < need → given ≡ take need (drop at content) → length given ≡ 0 → length content ≤ at
-none_left content given at need some is none = omega (arith, ap length is, length-take need (drop at content), length-drop at content)
-
 -- something comes only before it
 pub some_left : (content given : List ℕ) (at need : ℕ) → given ≡ take need (drop at content) → 0 < length given → 0 < length (drop at content)
 some_left content given at need is some = omega (arith, ap length is, length-take need (drop at content))
@@ -93,13 +90,6 @@ comes_whole order index content h packet old mid new numbers place some count gi
     ∙ ap (λ (l : List ℕ). (packet ∷ (records_at order (index + 1) new.at l).0, (records_at order (index + 1) new.at l).1)) later
 
 -- the record whose packet is cut off
-pub comes_cut : (order : Order) (index : ℕ) (content : List ℕ) (h : RecHead) (old mid : Feeding) (fault : PcapError) → mid.at ≡ old.at + 16 → 0 < h.length → fault ≡ Short old.at → length (take h.length (drop mid.at content)) < h.length → ComesWith order index old.at h (drop old.at content)
-    → coming_from order index content old ≡ ([], Some fault)
-comes_cut order index content h old mid fault numbers some is short comes =
-    let rest = drop old.at content in
-    let less : length rest < 16 + h.length = omega (arith, short, length-take h.length (drop mid.at content), length-drop mid.at content, length-drop old.at content) in
-    comes.cut less ∙ ap (λ (f : PcapError). ([], Some f)) (sym is)
-
 -- ---- a capture that has packets still
 pub no_end : (c : Coming) (p : Packet) (rest : List Packet) (fault : Option PcapError) → c ≡ (p ∷ rest, None) → c ≡ ([], fault) → ⊥
 no_end c p rest fault e f = let g : p ∷ rest ≡ [] = sym (ap (λ (m : Coming). m.0) e) ∙ ap (λ (m : Coming). m.0) f in absurd (cc)

@@ -9,7 +9,7 @@ use Rattle.pcap_core.specs.Reading.{Coming, records_at, content_from, content_of
 use Rattle.pcap_core.specs.Streaming.{Opened, Opens}
 use Rattle.pcap_core.proofs.ContentLaws.{content_of-is, content_of-fault}
 use Rattle.capture_run.specs.Captures.{HoldsCapture, HoldsFault, IsSurveyed}
-use Rattle.capture_run.specs.Passing.{GoesOn, Stops, coming_from, IsReadOut, ReadsOut, IsBehindHeader}
+use Rattle.capture_run.specs.Passing.{GoesOn, coming_from, IsReadOut, ReadsOut, IsBehindHeader}
 use Rattle.capture_run.proofs.PassingLemmas.{none_from}
 use Rattle.capture_run.specs.declared.records.TheConstants.{CAPTURE_LIMIT}
 use Rattle.capture_run.specs.declared.records.CaptureError.{CaptureError}
@@ -24,15 +24,6 @@ pub record Follows (opened : Opened) (content : List ℕ) (index : ℕ) (f : Fee
   pub packets : List Packet
   pub count : length packets ≡ index
   pub coming : records_at opened.order 0 24 (drop 24 content) ≡ (packets ++ (coming_from opened.order index content f).0, (coming_from opened.order index content f).1)
-
-pub follows_none : (opened : Opened) (content : List ℕ) (f : Feeding) → IsBehindHeader opened content f → Follows opened content 0 f
-follows_none opened content f b = record {
-  ahead = b.ahead;
-  passed = b.passed;
-  packets = [];
-  count = refl;
-  coming = ap (λ (k : ℕ). records_at opened.order 0 k (drop k content)) (sym b.at);
-}
 
 pub follows_more : (opened : Opened) (content : List ℕ) (index : ℕ) (p : Packet) (old new : Feeding) → Follows opened content index old → GoesOn content old new → coming_from opened.order index content old ≡ (p ∷ (coming_from opened.order (index + 1) content new).0, (coming_from opened.order (index + 1) content new).1) → Follows opened content (index + 1) new
 follows_more opened content index p old new f on gives =
@@ -102,12 +93,6 @@ pub fault_out : (error : CaptureError) (fault : PcapError) (content : List ℕ) 
 fault_out Failed fault content out holds = tt
 fault_out TooLong fault content out holds = out
 fault_out (Fault f) fault content out holds = let P : PcapError → Type 0 = HoldsFault (Some content) in subst P (sym out.0) (holds out.1)
-
--- a step stopped, and not at a fault
-pub stopped : (error : CaptureError) (content : List ℕ) → Stops error content (λ fault. ⊥) → IsSurveyed (Err error) (Some content)
-stopped Failed content s = tt
-stopped TooLong content s = s
-stopped (Fault f) content s = absurd s
 
 -- ---- what is known of a name that is there, or is not
 pub by_name : (result : Result Survey CaptureError) (held : Option (List ℕ)) → (held ≡ None → IsSurveyed result None) → ((content : List ℕ) → held ≡ Some content → IsSurveyed result (Some content)) → IsSurveyed result held

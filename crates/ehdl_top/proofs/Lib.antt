@@ -1,4 +1,4 @@
-pub mod ListLemmas
+pub mod ErrorLemmas
 pub mod InputLemmas
 pub mod FormLemmas
 pub mod ObjectLemmas
@@ -6,6 +6,7 @@ pub mod ProgramLemmas
 pub mod CaptureLemmas
 pub mod DriveLemmas
 pub mod SimulationLemmas
+pub mod StreamLemmas
 pub mod SimLemmas
 pub mod ResultLemmas
 pub mod RealizedLemmas

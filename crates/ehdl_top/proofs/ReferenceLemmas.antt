@@ -1,9 +1,6 @@
 -- The command `ref`: runs of the packets of a capture, and how what is written of them goes out.
-use Rattle.std.proofs.Common.{◌≡◌, ◌≢◌, ◌⊎◌, ℕ, IsTrue, List, [], ◌∷◌, ◌++◌, length, map, Option, Some, None, Result, Ok, Err, OnOk, OnErr, IsErrAnd, refl, sym, ap, ◌∙◌, subst, inl, inr, append_assoc, append-nil, arith}
-use Rattle.shelf_core.specs.Shelf.{Holding}
-use Rattle.beat_core.specs.declared.answer.Answer.{Answer}
+use Rattle.std.proofs.Common.{◌≡◌, ℕ, List, [], ◌∷◌, ◌++◌, map, Some, None, Result, Ok, Err, IsErrAnd, refl, sym, ap, ◌∙◌, subst, inl, inr, append_assoc, arith}
 use Rattle.pcap_core.specs.Format.{Packet}
-use Rattle.pcap_core.specs.Streaming.{Opened}
 use Rattle.xdp_maps.specs.State.{MapState}
 use Rattle.xdp_object.specs.xdp_machine.Program.{XdpProgram, IsProgram, program_code}
 use Rattle.xdp_object.specs.xdp_machine.State.{Code, PacketIn, start}
@@ -16,20 +13,19 @@ use Rattle.command_line.specs.Request.{Names}
 use Rattle.ehdl_build.specs.Compiled.{IsSequential, code_of, packets_in}
 use Rattle.capture_run.specs.States.{ShelfState, IsOther, Changes}
 use Rattle.capture_run.specs.Writes.{Write, AreDone, OneFailed, file_writes}
-use Rattle.capture_run.specs.Captures.{HoldsCapture, StandsBefore, Reading}
-use Rattle.capture_run.specs.Results.{timed_packets, came_by, head_writes, packet_writes, streamed_writes, final_writes, result_writes}
-use Rattle.capture_run.specs.Runs.{SomeDone, RunsEnd, RunsOut, AnswersOut, IsApart, packet_in, answers_left, result_names}
+use Rattle.capture_run.specs.Results.{timed_packets, came_by, streamed_writes, final_writes, result_writes}
+use Rattle.capture_run.specs.Runs.{RunsEnd, AnswersOut, packet_in, answers_left}
 use Rattle.capture_run.specs.declared.records.CaptureError.{CaptureError}
 use Rattle.capture_run.specs.declared.records.CaptureError.TheVariants.{Failed, TooLong, Fault}
 use Rattle.capture_run.specs.declared.error.RunError.{RunError}
 use Rattle.capture_run.specs.declared.error.RunError.TheVariants as runs
-use Rattle.capture_run.proofs.StateLaws.{changes_then, changes_within, changes_none, tells_later}
-use Rattle.capture_run.proofs.WriteLaws.{AreOf, done_from, failed_from, done_both, failed_after, failed_before, done_changes}
+use Rattle.capture_run.proofs.StateLaws.{changes_none}
+use Rattle.capture_run.proofs.WriteLaws.{done_both, failed_after, failed_before}
 use Rattle.capture_run.proofs.RunLaws.{runs_exist}
 use Rattle.ehdl_top.specs.declared.error.CommandError.{CommandError}
 use Rattle.ehdl_top.specs.declared.error.CommandError.TheVariants as error
-use Rattle.capture_run.specs.Runs.{IsPlainStop}
-use Rattle.ehdl_top.specs.Steps.{AreDistinct, stop_error, capture_error, StreamOut, PartDone, GoesOut, NoOther, LeavesFinals, StreamsRuns, WritesRuns}
+use Rattle.ehdl_top.specs.Steps.{stop_error, capture_error, StreamOut, GoesOut, NoOther, LeavesFinals, StreamsRuns, WritesRuns}
+use Rattle.ehdl_top.proofs.StreamLemmas.{none_done, some_after, some_before}
 
 -- ---- runs
 -- each run of an unfolded program has an end
@@ -53,44 +49,10 @@ sequential_of p code first final ifindex magic packets leaves is runs =
 
 -- ---- what is written leaves the capture
 -- names that are written while the capture is read
-pub apart_of : (names : Names) → AreDistinct names → IsApart names
-apart_of names apart = record { capture_answer = apart.capture_answer; capture_verdicts = apart.capture_verdicts; answer_verdicts = apart.answer_verdicts }
-
 pub held_later : (name : List ℕ) (outputs : List (List ℕ)) (a b : ShelfState) → Changes outputs a b → IsOther outputs name → b.held name ≡ a.held name
 held_later name outputs a b c other = c.others name other
 
-pub holds_later : (opened : Opened) (packets : List Packet) (old new : Option (List ℕ)) → new ≡ old → HoldsCapture opened old packets → HoldsCapture opened new packets
-holds_later opened packets old new same holds = let P : Option (List ℕ) → Type 0 = λ h. HoldsCapture opened h packets in subst P (sym same) holds
-
-pub stands_later : (opened : Opened) (r : Reading) (packets : List Packet) (old new : Option (List ℕ)) → new ≡ old → StandsBefore opened old r packets → StandsBefore opened new r packets
-stands_later opened r packets old new same stands = let P : Option (List ℕ) → Type 0 = λ h. StandsBefore opened h r packets in subst P (sym same) stands
-
-pub head_of : (names : Names) (magic : ℕ) → AreOf (result_names names) (head_writes names magic)
-head_of names magic = (inl refl, (inl refl, (inr (inl refl), tt)))
-
 -- ---- how writes went, after others that were made
-pub some_after : (ws vs : List Write) (a b c : ShelfState) → AreDone ws a b → SomeDone vs b c → SomeDone (ws ++ vs) a c
-some_after ws vs a b c done some = record {
-  done = ws ++ some.done;
-  rest = some.rest;
-  all = ap (λ t. ws ++ t) some.all ∙ sym (append_assoc ws some.done some.rest);
-  are = done_both ws some.done a b c done some.are;
-}
-
-pub none_done : (ws : List Write) (a b : ShelfState) → Changes [] a b → SomeDone ws a b
-none_done ws a b same = record { done = []; rest = ws; all = refl; are = same }
-
-pub all_done : (ws : List Write) (a b : ShelfState) → AreDone ws a b → SomeDone ws a b
-all_done ws a b done = record { done = ws; rest = []; all = sym (append-nil ws); are = done }
-
-pub some_before : (ws vs : List Write) (a b : ShelfState) → SomeDone ws a b → SomeDone (ws ++ vs) a b
-some_before ws vs a b some = record {
-  done = some.done;
-  rest = some.rest ++ vs;
-  all = ap (λ t. t ++ vs) some.all ∙ append_assoc some.done some.rest vs;
-  are = some.are;
-}
-
 -- a run over a capture that ended early, as a command says it
 pub stop_out : (e : RunError) (ws vs : List Write) (left now : Type 0) (a b c : ShelfState) → AreDone ws a b → AnswersOut (Err e) vs left b c → StreamOut (Err (stop_error e)) (ws ++ vs) now a c
 stop_out runs.Unwritten ws vs left now a b c done out = failed_after ws vs a b c done out

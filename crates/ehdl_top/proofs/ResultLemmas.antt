@@ -1,20 +1,16 @@
 -- The writes of a command make its files.
-use Rattle.std.proofs.Common.{◌≡◌, ◌≢◌, ℕ, zero, suc, Option, None, List, [], ◌∷◌, ◌++◌, length, refl, sym, ap, inl, inr, append-nil, slice_get, Some}
-use Rattle.std.proofs.lemmas.Option.{get_or_from_slice_get}
+use Rattle.std.proofs.Common.{◌≢◌, ℕ, zero, suc, Option, None, List, [], ◌∷◌, ◌++◌, length, refl, sym, inl, inr, append-nil, Some}
 use Rattle.pcap_core.specs.Format.{Packet}
 use Rattle.beat_core.specs.declared.answer.Answer.{Answer}
 use Rattle.command_line.specs.Request.{Names}
 use Rattle.capture_run.specs.Writes.{names_in, Write, Append}
-use Rattle.capture_run.specs.Results.{texts, record_at, line_at, answer_bytes, verdict_lines, line_of, no_answer, packet_writes, final_writes, result_writes}
+use Rattle.capture_run.specs.Results.{texts, record_at, line_at, answer_bytes, verdict_lines, packet_writes, final_writes, result_writes}
 use Rattle.ehdl_top.specs.Results.{compile_outputs, result_outputs, run_outputs}
 use Rattle.ehdl_top.specs.Steps.{AreDistinct, IsTextApart}
 use Rattle.capture_run.proofs.StateLaws.{IsOneOf}
 use Rattle.capture_run.proofs.WriteLaws.{AreOf, of_both, Adds, Builds, AreBuilt, adds_as, adds_both, Skips, skips_both, skips_adds, builds_after}
 
 -- the line of an answer that stands there
-pub line_there : (rs : List Answer) (i : ℕ) (r : Answer) → slice_get rs i ≡ Some r → line_of i r ≡ line_at rs i
-line_there rs i r f = ap (line_of i) (sym (get_or_from_slice_get rs i r no_answer f))
-
 -- ---- what packets add
 one_more : (name bytes other more : List ℕ) → name ≢ other → Adds (Append name bytes ∷ Append other more ∷ []) name bytes
 one_more name bytes other more apart = inl (refl, [], sym (append-nil bytes), inr (apart, refl))
@@ -112,11 +108,6 @@ result_names names magic ps rs (Some text) =
 result_names names magic ps rs None = result_of names magic ps rs None (names.answer ∷ names.verdicts ∷ []) (inl refl) (inr (inl refl)) tt
 
 -- the names that a command may write
-pub result_outputs_of : (names : Names) (magic : ℕ) (ps : List Packet) (rs : List Answer) (finals : Option (List ℕ)) → AreOf (names.answer ∷ names.verdicts ∷ names.final_maps ∷ []) (result_outputs names magic ps rs finals).writes
-result_outputs_of names magic ps rs finals =
-    let those : List (List ℕ) = names.answer ∷ names.verdicts ∷ names.final_maps ∷ [] in
-    result_of names magic ps rs finals those (inl refl) (inr (inl refl)) (final_of names finals those (inr (inr (inl refl))))
-
 pub run_built : (names : Names) (verilog text : List ℕ) (magic : ℕ) (ps : List Packet) (rs : List Answer) (final : List ℕ) → AreDistinct names → IsTextApart names verilog → AreBuilt (run_outputs names verilog text magic ps rs final).files (run_outputs names verilog text magic ps rs final).writes
 run_built names verilog text magic ps rs final apart own =
     let finals : Option (List ℕ) = Some final in

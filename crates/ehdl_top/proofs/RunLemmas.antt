@@ -25,16 +25,16 @@ use Rattle.maps_text.specs.Writing.{text_of}
 use Rattle.ehdl_build.specs.declared.built.Built.{Built}
 use Rattle.ehdl_build.specs.Compiled.{IsSequential}
 use Rattle.command_line.specs.Request.{Names}
-use Rattle.capture_run.specs.States.{ShelfState, IsOther, IsLater, Changes, OneRose}
+use Rattle.capture_run.specs.States.{ShelfState, IsOther, Changes, OneRose}
 use Rattle.capture_run.specs.Writes.{Write, AreDone, OneFailed, file_writes}
 use Rattle.capture_run.specs.Captures.{Reading, HoldsCapture, StandsBefore}
 use Rattle.capture_run.specs.Results.{timed_packets, came_by, head_writes, packet_writes, streamed_writes}
-use Rattle.capture_run.specs.Runs.{SomeDone, EndsFor, IsRunOver, result_names, IsApart, IsLegal, DrivesSome, DrivesOut}
+use Rattle.capture_run.specs.Runs.{EndsFor, IsRunOver, result_names, IsLegal, DrivesSome, DrivesOut}
 use Rattle.capture_run.specs.declared.records.CaptureError.{CaptureError}
 use Rattle.capture_run.specs.declared.records.CaptureError.TheVariants as capture
 use Rattle.capture_run.specs.declared.error.RunError.{RunError}
 use Rattle.capture_run.specs.declared.error.RunError.TheVariants as runs
-use Rattle.capture_run.proofs.StateLaws.{changes_then, changes_within, rose_from, one_rose_from}
+use Rattle.capture_run.proofs.StateLaws.{changes_then, changes_within}
 use Rattle.capture_run.proofs.WriteLaws.{AreOf, done_from, failed_from, failed_before, failed_after, done_both, done_changes, failed_changes, failed_rose}
 use Rattle.ehdl_top.specs.declared.status.Status.{Status}
 use Rattle.ehdl_top.specs.declared.error.CommandError.{CommandError}
@@ -42,6 +42,7 @@ use Rattle.ehdl_top.specs.declared.error.CommandError.TheVariants as error
 use Rattle.capture_run.specs.Runs.{IsPlainStop}
 use Rattle.ehdl_top.specs.Steps.{capture_error, stop_error, AreDistinct, IsTextApart, StreamOut, GoesOut, EndsOver, IsOver, NoOther, LeavesFinals, DrivesAsRuns, IsPipelineOf, IsPipelineFor, IsDriven, StreamsDrive, WritesRuns, streamed_names, run_names}
 use Rattle.ehdl_top.proofs.RealizedLemmas.{answers_fit, sequential_decls, shows_as}
+use Rattle.ehdl_top.proofs.StreamLemmas.{none_done, over_then, some_after, some_before, stands_still}
 
 -- ---- the packets of a capture
 time_most : (seconds fraction unit : ℕ) → seconds < 2 ^ 32 → fraction < 2 ^ 32 → unit ≤ 1000 → seconds * 1000000000 + fraction * unit < 2 ^ 64
@@ -136,35 +137,7 @@ by_error Q (Ok u) x is holds = absurd is
 by_error Q (Err e) x is holds = let P : CommandError → Type 0 = λ f. Q (Err f) in subst P (sym is) holds
 
 -- ---- some of the writes
-none_done : (ws : List Write) (a b : ShelfState) → Changes [] a b → SomeDone ws a b
-none_done ws a b same = record { done = []; rest = ws; all = refl; are = same }
-
-some_after : (ws vs : List Write) (a b c : ShelfState) → AreDone ws a b → SomeDone vs b c → SomeDone (ws ++ vs) a c
-some_after ws vs a b c done some = record {
-  done = ws ++ some.done;
-  rest = some.rest;
-  all = ap (λ us. ws ++ us) some.all ∙ sym (append_assoc ws some.done some.rest);
-  are = done_both ws some.done a b c done some.are;
-}
-
-some_before : (ws vs : List Write) (a b : ShelfState) → SomeDone ws a b → SomeDone (ws ++ vs) a b
-some_before ws vs a b some = record {
-  done = some.done;
-  rest = some.rest ++ vs;
-  all = ap (λ us. us ++ vs) some.all ∙ append_assoc some.done some.rest vs;
-  are = some.are;
-}
-
 -- ---- a command that is over
-ends_then : (Itself : Status → Type 0) (name : List ℕ) (outputs : List (List ℕ)) (e : CommandError) (a b c : ShelfState) → IsLater a b → EndsOver Itself name outputs b c e → EndsOver Itself name outputs a c e
-ends_then Itself name outputs e a b c later (inl read) = inl (read.0, rose_from (a.read_faults name) (b.read_faults name) (c.read_faults name) (later.reads.each name) read.1)
-ends_then Itself name outputs e a b c later (inr (inl write)) = inr (inl (write.0, one_rose_from outputs a.write_faults b.write_faults c.write_faults later.writes write.1))
-ends_then Itself name outputs e a b c later (inr (inr other)) = inr (inr other)
-
-over_then : (Itself : Status → Type 0) (name : List ℕ) (outputs : List (List ℕ)) (r : Result (Unit {0}) CommandError) (a b c : ShelfState) → Changes outputs a b → IsOver Itself name outputs r b c → IsOver Itself name outputs r a c
-over_then Itself name outputs (Ok u) a b c before over = record { kept = changes_then outputs a b c before over.kept; cause = tt }
-over_then Itself name outputs (Err e) a b c before over = record { kept = changes_then outputs a b c before over.kept; cause = ends_then Itself name outputs e a b c before.later over.cause }
-
 -- memory ran out
 pub over_out : (Itself : Status → Type 0) (name : List ℕ) (outputs : List (List ℕ)) (r : Result (Unit {0}) CommandError) (a b : ShelfState) → IsErrAnd r (λ e. e ≡ error.NoMemory) → Changes outputs a b → IsOver Itself name outputs r a b
 over_out Itself name outputs r a b is kept = by_error (λ q. IsOver Itself name outputs q a b) r error.NoMemory is (record { kept = kept; cause = inr (inr (inl refl)) })
@@ -211,19 +184,10 @@ over_wider Itself name names more (Ok u) a b over = record { kept = changes_wide
 over_wider Itself name names more (Err e) a b over = record { kept = changes_wider names more a b over.kept; cause = cause_wider Itself name names more e a b over.cause }
 
 -- ---- the reader stands where it stood
-pub holds_still : (opened : Opened) (packets : List Packet) (a b : ShelfState) (name : List ℕ) → b.held name ≡ a.held name → HoldsCapture opened (a.held name) packets → HoldsCapture opened (b.held name) packets
-holds_still opened packets a b name same holds = subst (λ (h : Option (List ℕ)). HoldsCapture opened h packets) (sym same) holds
-
-pub stands_still : (opened : Opened) (r : Reading) (packets : List Packet) (a b : ShelfState) (name : List ℕ) → b.held name ≡ a.held name → StandsBefore opened (a.held name) r packets → StandsBefore opened (b.held name) r packets
-stands_still opened r packets a b name same stands = subst (λ (h : Option (List ℕ)). StandsBefore opened h r packets) (sym same) stands
-
 pub reads_on : (opened : Opened) (r : Reading) (packets : List Packet) (a b c : ShelfState) (name : List ℕ) → Changes [] a b → c.held name ≡ a.held name → StandsBefore opened (b.held name) r packets → StandsBefore opened (c.held name) r packets
 reads_on opened r packets a b c name same still stands = stands_still opened r packets b c name (still ∙ sym (same.others name tt)) stands
 
 -- ---- what is written while the capture is read
-pub apart_of : (names : Names) → AreDistinct names → IsApart names
-apart_of names d = record { capture_answer = d.capture_answer; capture_verdicts = d.capture_verdicts; answer_verdicts = d.answer_verdicts }
-
 pub same_capture : (names : Names) (verilog : List ℕ) (a b : ShelfState) → AreDistinct names → IsTextApart names verilog → Changes (streamed_names names verilog) a b → b.held names.capture ≡ a.held names.capture
 same_capture names verilog a b apart own c = c.others names.capture ((λ e. own.capture (sym e)), (apart.capture_answer, (apart.capture_verdicts, tt)))
 

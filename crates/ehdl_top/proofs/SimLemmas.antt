@@ -1,12 +1,11 @@
 -- What the command `sim` writes, and how it ends, by what its steps did.
-use Rattle.std.proofs.Common.{◌≡◌, ℕ, List, [], ◌++◌, length, Option, Some, None, Result, Ok, Err, IsErrAnd, refl, sym, ◌∙◌, ap, subst, inl, inr, append_assoc, append-nil, flat_map}
+use Rattle.std.proofs.Common.{◌≡◌, ℕ, List, [], ◌++◌, length, Option, Some, None, Result, Ok, Err, IsErrAnd, refl, sym, ◌∙◌, ap, subst, inl, inr, append-nil, flat_map}
 use Rattle.std.proofs.lemmas.List.{length-map}
 use Rattle.shelf_core.specs.Shelf.{Counts, Rose}
 use Rattle.beat_core.specs.declared.answer.Answer.{Answer}
 use Rattle.beat_core.specs.declared.frame.Timed.{Timed}
 use Rattle.beat_core.specs.Ports.{offers_of}
 use Rattle.pcap_core.specs.Format.{Packet}
-use Rattle.pcap_core.specs.Streaming.{Opened}
 use Rattle.pcap_core.specs.Time.{timed_of}
 use Rattle.net_core.specs.declared.tree.Net.{Net}
 use Rattle.net_core.specs.declared.tree.Net.TheVariants.{Wire}
@@ -24,16 +23,15 @@ use Rattle.port_drive.specs.realization.HostHistory.Host.{load}
 use Rattle.port_drive.specs.Reports.{full_drive}
 use Rattle.verilog_read.specs.design_rules.Formed.{IsWellFormed}
 use Rattle.command_line.specs.Request.{Names}
-use Rattle.capture_run.specs.States.{ShelfState, IsLater, Changes, OneRose}
+use Rattle.capture_run.specs.States.{ShelfState, Changes, OneRose}
 use Rattle.capture_run.specs.Writes.{Write, AreDone, OneFailed, file_writes}
-use Rattle.capture_run.specs.Captures.{Reading, HoldsCapture, StandsBefore}
 use Rattle.capture_run.specs.Results.{timed_packets, head_writes, packet_writes, streamed_writes, final_writes}
-use Rattle.capture_run.specs.Runs.{SomeDone, EndsFor, IsRunOver, result_names, IsApart, DrivesSome, DrivesOut}
+use Rattle.capture_run.specs.Runs.{SomeDone, EndsFor, IsRunOver, result_names, DrivesSome, DrivesOut}
 use Rattle.capture_run.specs.declared.records.CaptureError.{CaptureError}
 use Rattle.capture_run.specs.declared.records.CaptureError.TheVariants as capture
 use Rattle.capture_run.specs.declared.error.RunError.{RunError}
 use Rattle.capture_run.specs.declared.error.RunError.TheVariants as runs
-use Rattle.capture_run.proofs.StateLaws.{changes_none, changes_then, changes_within, rose_from, one_rose_from}
+use Rattle.capture_run.proofs.StateLaws.{changes_none, changes_then, changes_within}
 use Rattle.capture_run.proofs.WriteLaws.{AreOf, done_from, failed_from, failed_before, failed_after, done_both, done_changes, failed_changes, failed_rose}
 use Rattle.ehdl_top.specs.declared.status.Status.{Status}
 use Rattle.ehdl_top.specs.declared.status.Status.TheVariants as status
@@ -44,6 +42,7 @@ use Rattle.ehdl_top.specs.Simulation.{x_value, drive_error, dumped, driven, simu
 use Rattle.ehdl_top.specs.Steps.{capture_error, StopsAs, StopsWith, AreDistinct, IsGivenUpDrive, LeavesAny, GoesOut, EndsOver, IsOver, StreamsSim, FinishesSim, WritesSim, written_names}
 use Rattle.ehdl_top.proofs.DriveLemmas.{drive_stopped, wire_named}
 use Rattle.ehdl_top.proofs.SimulationLemmas.{end_by, StopsFor, StopsDump, dump_error, load_given_up}
+use Rattle.ehdl_top.proofs.StreamLemmas.{all_done, head_of, none_done, over_then, some_after, some_before}
 
 -- ---- the error that is passed on
 pub by_err : (r : Result (Unit {0}) CommandError) (P : Result (Unit {0}) CommandError → Type 0) (x : CommandError) → IsErrAnd r (λ e. e ≡ x) → ((e : CommandError) → e ≡ x → P (Err e)) → P r
@@ -51,28 +50,6 @@ by_err (Ok u) P x is for = absurd is
 by_err (Err e) P x is for = for e is
 
 -- ---- some of the writes
-none_done : (ws : List Write) (a b : ShelfState) → Changes [] a b → SomeDone ws a b
-none_done ws a b same = record { done = []; rest = ws; all = refl; are = same }
-
-whole_done : (ws : List Write) (a b : ShelfState) → AreDone ws a b → SomeDone ws a b
-whole_done ws a b done = record { done = ws; rest = []; all = sym (append-nil ws); are = done }
-
-some_after : (ws vs : List Write) (a b c : ShelfState) → AreDone ws a b → SomeDone vs b c → SomeDone (ws ++ vs) a c
-some_after ws vs a b c done some = record {
-  done = ws ++ some.done;
-  rest = some.rest;
-  all = ap (λ us. ws ++ us) some.all ∙ sym (append_assoc ws some.done some.rest);
-  are = done_both ws some.done a b c done some.are;
-}
-
-some_before : (ws vs : List Write) (a b : ShelfState) → SomeDone ws a b → SomeDone (ws ++ vs) a b
-some_before ws vs a b some = record {
-  done = some.done;
-  rest = some.rest ++ vs;
-  all = ap (λ us. us ++ vs) some.all ∙ append_assoc some.done some.rest vs;
-  are = some.are;
-}
-
 -- no write after them
 done_last : (ws : List Write) (a b c : ShelfState) → AreDone ws a b → Changes [] b c → AreDone (ws ++ []) a c
 done_last ws a b c done same = done_both ws [] a b c done same
@@ -81,15 +58,6 @@ done_still : (ws : List Write) (a b c : ShelfState) → AreDone ws a b → Chang
 done_still ws a b c done same = subst (λ (us : List Write). AreDone us a c) (append-nil ws) (done_last ws a b c done same)
 
 -- ---- a command that is over
-pub ends_then : (Itself : Status → Type 0) (name : List ℕ) (outputs : List (List ℕ)) (e : CommandError) (a b c : ShelfState) → IsLater a b → EndsOver Itself name outputs b c e → EndsOver Itself name outputs a c e
-ends_then Itself name outputs e a b c later (inl read) = inl (read.0, rose_from (a.read_faults name) (b.read_faults name) (c.read_faults name) (later.reads.each name) read.1)
-ends_then Itself name outputs e a b c later (inr (inl write)) = inr (inl (write.0, one_rose_from outputs a.write_faults b.write_faults c.write_faults later.writes write.1))
-ends_then Itself name outputs e a b c later (inr (inr other)) = inr (inr other)
-
-pub over_then : (Itself : Status → Type 0) (name : List ℕ) (outputs : List (List ℕ)) (r : Result (Unit {0}) CommandError) (a b c : ShelfState) → Changes outputs a b → IsOver Itself name outputs r b c → IsOver Itself name outputs r a c
-over_then Itself name outputs (Ok u) a b c before over = record { kept = changes_then outputs a b c before over.kept; cause = tt }
-over_then Itself name outputs (Err e) a b c before over = record { kept = changes_then outputs a b c before over.kept; cause = ends_then Itself name outputs e a b c before.later over.cause }
-
 -- memory ran out before anything was written
 pub over_out : (Itself : Status → Type 0) (name : List ℕ) (outputs : List (List ℕ)) (e : CommandError) (a b : ShelfState) → e ≡ error.NoMemory → Changes [] a b → IsOver Itself name outputs (Err e) a b
 over_out Itself name outputs e a b is same = record { kept = changes_within outputs a b same; cause = inr (inr (inl is)) }
@@ -109,9 +77,6 @@ pub over_unwritten : (Itself : Status → Type 0) (name : List ℕ) (outputs : L
 over_unwritten Itself name outputs ws e a b is of failed = record { kept = failed_changes outputs ws a b of failed; cause = inr (inl (is, failed_rose outputs ws a b of failed)) }
 
 -- ---- names
-head_of : (names : Names) (magic : ℕ) → AreOf (result_names names) (head_writes names magic)
-head_of names magic = (inl refl, (inl refl, (inr (inl refl), tt)))
-
 head_within : (names : Names) (magic : ℕ) → AreOf (written_names names) (head_writes names magic)
 head_within names magic = (inl refl, (inl refl, (inr (inl refl), tt)))
 
@@ -144,9 +109,6 @@ over_wider Itself name names (Ok u) a b over = record { kept = changes_wider nam
 over_wider Itself name names (Err e) a b over = record { kept = changes_wider names a b over.kept; cause = cause_wider Itself name names e a b over.cause }
 
 -- ---- the capture while answers are begun
-pub apart_of : (names : Names) → AreDistinct names → IsApart names
-apart_of names d = record { capture_answer = d.capture_answer; capture_verdicts = d.capture_verdicts; answer_verdicts = d.answer_verdicts }
-
 same_capture : (names : Names) (a b : ShelfState) → AreDistinct names → Changes (result_names names) a b → b.held names.capture ≡ a.held names.capture
 same_capture names a b apart c = c.others names.capture (apart.capture_answer, (apart.capture_verdicts, tt))
 
@@ -190,12 +152,6 @@ over_streamed names magic a b c d same begun over = record {
 }
 
 -- ---- the reader stands where it stood
-pub holds_still : (opened : Opened) (packets : List Packet) (a b : ShelfState) (name : List ℕ) → b.held name ≡ a.held name → HoldsCapture opened (a.held name) packets → HoldsCapture opened (b.held name) packets
-holds_still opened packets a b name same holds = subst (λ (h : Option (List ℕ)). HoldsCapture opened h packets) (sym same) holds
-
-pub stands_still : (opened : Opened) (r : Reading) (packets : List Packet) (a b : ShelfState) (name : List ℕ) → b.held name ≡ a.held name → StandsBefore opened (a.held name) r packets → StandsBefore opened (b.held name) r packets
-stands_still opened r packets a b name same stands = subst (λ (h : Option (List ℕ)). StandsBefore opened h r packets) (sym same) stands
-
 -- ---- how the answers of a drive went out
 module _ (names : Names) (design : Netlist) (first last : Stored) (ifindex clocks magic : ℕ) (packets : List Packet) where
   abbrev whole : Drive
@@ -257,7 +213,7 @@ module _ (names : Names) (design : Netlist) (first last : Stored) (ifindex clock
     drive_stops runs.Unwritten e is drives = stream_as e error.WriteFault is (record { out = failed_after (head_writes names magic) written a c d from_here drives.out })
     drive_stops (runs.X x) e (inl is) drives =
         stream_as e (error.XValue (name_of design x.net)) is (record { out = (stopped_at x drives.ends.0 drives.ends.1 drives.ends.2, inl refl, all_out drives.out) })
-    drive_stops (runs.X x) e (inr is) drives = stream_as e error.NoMemory is (record { out = whole_done (streamed_writes names magic packets given) a d (all_out drives.out) })
+    drive_stops (runs.X x) e (inr is) drives = stream_as e error.NoMemory is (record { out = all_done (streamed_writes names magic packets given) a d (all_out drives.out) })
     drive_stops (runs.Late answers frames) e is drives =
         stream_as e (error.Late answers frames) is (record { out = (late_at answers frames drives.ends.0 drives.ends.1 drives.ends.2, inr refl, all_out drives.out) })
     drive_stops runs.NoMemory e is drives = stream_as e error.NoMemory is (record { out = some_out drives.out })
@@ -363,7 +319,7 @@ module _ (names : Names) (d : Netlist) (maps : MapState) (ifindex clocks magic :
         written_as (Ok u) a c (Ok f.0) (ends ∙ f.1) (refl, done_both sent (file_writes names.final_maps (text_of f.0)) a b c done f.2)
     finish_from last a b c (Err error.WriteFault) ends done f =
         written_as (Err error.WriteFault) a c (Ok f.0) (ends ∙ f.1) (failed_after sent (file_writes names.final_maps (text_of f.0)) a b c done f.2)
-    finish_from last a b c (Err error.NoMemory) ends done f = memory_out a c (some_before sent (final_writes names (final_text finals)) a c (whole_done sent a c (done_still sent a b c done f)))
+    finish_from last a b c (Err error.NoMemory) ends done f = memory_out a c (some_before sent (final_writes names (final_text finals)) a c (all_done sent a c (done_still sent a b c done f)))
     finish_from last a b c (Err error.ReadFault) ends done f = absurd (elim f.1 [ inl is ↦ cc | inr is ↦ cc ])
     finish_from last a b c (Err e) ends done f = written_as (Err e) a c (Err e) (ends ∙ f.0) (refl, f.1, done_last sent a b c done f.2)
 

@@ -1,7 +1,7 @@
 use Rattle.std.proofs.Common.{◌≡◌, ◌∙◌, ℕ, IsTrue, List, Some, subst, arith}
 use Rattle.shelf_core.specs.Shelf.{LeavesFront, appended}
 use Rattle.capture_run.specs.States.{sink_of}
-use Rattle.ehdl_top.proofs.ListLemmas.{on_err}
+use Rattle.ehdl_top.proofs.ErrorLemmas.{on_err}
 use Rattle.ehdl_top.proofs.PutLemmas.{put_next, cut_at}
 use Rattle.ehdl_top.proofs.command.put_lines.Goals as goal
 

@@ -11,8 +11,8 @@ use Rattle.ehdl_top.specs.Steps.{NoOther}
 use Rattle.ehdl_top.proofs.OutcomeLemmas.{may_ready, starts_from, read_as, ref_makes}
 use Rattle.ehdl_top.proofs.FormLemmas.{decls_held}
 use Rattle.ehdl_top.proofs.EndLemmas.{was_ready, ends_unread, ends_mapless, ends_over}
-use Rattle.ehdl_top.proofs.ReferenceLemmas.{holds_later}
 use Rattle.ehdl_top.proofs.reference.ref_files.Goals as goal
+use Rattle.ehdl_top.proofs.StreamLemmas.{holds_still}
 
 pub returns-in_err-maps : goal.returns-in_err-maps
 returns-in_err-maps g c =
@@ -75,7 +75,7 @@ returns g c =
     ))
     (λ told.
     let s = c.in_ok-survey.ensures.survey (tells_later old later both.later told) in
-    let holds = holds_later opened s.0 (later.held names.capture) (mid.held names.capture) (c.survey_capture.ensures.kept.others names.capture tt) s.1 in
+    let holds = holds_still opened s.0 later mid names.capture (c.survey_capture.ensures.kept.others names.capture tt) s.1 in
     let w = c.write_runs.ensures.told (tells_later old mid all.later told) s.0 holds s.2 in
     record {
       end = None;

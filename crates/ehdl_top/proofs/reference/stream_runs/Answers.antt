@@ -10,8 +10,9 @@ use Rattle.capture_run.proofs.RunLaws.{runs_exist}
 use Rattle.ehdl_top.specs.declared.error.CommandError.{CommandError}
 use Rattle.ehdl_top.specs.declared.error.CommandError.TheVariants as error
 use Rattle.ehdl_top.specs.Steps.{StreamOut, capture_error}
-use Rattle.ehdl_top.proofs.ReferenceLemmas.{sequential_of, apart_of, held_later, holds_later, stands_later, head_of, stop_out, begin_out, is_error}
+use Rattle.ehdl_top.proofs.ReferenceLemmas.{sequential_of, held_later, stop_out, begin_out, is_error}
 use Rattle.ehdl_top.proofs.reference.stream_runs.Goals as goal
+use Rattle.ehdl_top.proofs.StreamLemmas.{apart_of, head_of, holds_still, stands_still}
 
 pub returns-in_err-begin-clause-told : goal.returns-in_err-begin-clause-told
 returns-in_err-begin-clause-told g c = λ told program is packets holds count.
@@ -63,8 +64,8 @@ returns-in-Ok-clause-told g c = λ told program is packets holds count.
     let head : AreDone hw mid begun = subst (λ m. AreDone (head_writes names m) mid begun) c.magic.ensures c.in_ok-begin_results.ensures.done in
     let changed = changes_then (result_names names) old mid begun (changes_within (result_names names) old mid c.in_ok-begin.ensures.kept) (done_changes (result_names names) hw mid begun (head_of names opened.magic) head) in
     let same = held_later names.capture (result_names names) old begun changed (apart.capture_answer, (apart.capture_verdicts, tt)) in
-    let ran = c.in-Ok.ensures.told (tells_later old begun changed.later told) packets (holds_later opened packets (old.held names.capture) (begun.held names.capture) same holds) count
-    (stands_later opened c.begin.new.self packets (old.held names.capture) (begun.held names.capture) same (c.in_ok-begin.ensures.begins told opened packets holds)) in
+    let ran = c.in-Ok.ensures.told (tells_later old begun changed.later told) packets (holds_still opened packets old begun names.capture same holds) count
+    (stands_still opened c.begin.new.self packets old begun names.capture same (c.in_ok-begin.ensures.begins told opened packets holds)) in
     let pw = packet_writes names packets (answers_left ran.leaves) (length (answers_left ran.leaves)) in
     record {
       answers = answers_left ran.leaves;
@@ -86,8 +87,8 @@ returns-in-Err-clause-told g c = λ told program is packets holds count.
     let head : AreDone hw mid begun = subst (λ m. AreDone (head_writes names m) mid begun) c.magic.ensures c.in_ok-begin_results.ensures.done in
     let changed = changes_then (result_names names) old mid begun (changes_within (result_names names) old mid c.in_ok-begin.ensures.kept) (done_changes (result_names names) hw mid begun (head_of names opened.magic) head) in
     let same = held_later names.capture (result_names names) old begun changed (apart.capture_answer, (apart.capture_verdicts, tt)) in
-    let ran = c.in-Err.ensures.told (tells_later old begun changed.later told) packets (holds_later opened packets (old.held names.capture) (begun.held names.capture) same holds) count
-    (stands_later opened c.begin.new.self packets (old.held names.capture) (begun.held names.capture) same (c.in_ok-begin.ensures.begins told opened packets holds)) in
+    let ran = c.in-Err.ensures.told (tells_later old begun changed.later told) packets (holds_still opened packets old begun names.capture same holds) count
+    (stands_still opened c.begin.new.self packets old begun names.capture same (c.in_ok-begin.ensures.begins told opened packets holds)) in
     let pw = packet_writes names packets (answers_left ran.leaves) (length (answers_left ran.leaves)) in
     record {
       answers = answers_left ran.leaves;

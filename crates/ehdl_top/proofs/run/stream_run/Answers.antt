@@ -5,8 +5,9 @@ use Rattle.capture_run.specs.Writes.{AreDone, OneFailed}
 use Rattle.capture_run.specs.Results.{head_writes}
 use Rattle.capture_run.proofs.StateLaws.{changes_none, changes_then, tells_later}
 use Rattle.ehdl_top.specs.Steps.{NoOther, streamed_names}
-use Rattle.ehdl_top.proofs.RunLemmas.{plain_stop, is_driven, over_unread, over_untexted, over_unbegun, over_stopped, over_streamed, holds_still, reads_on, stands_still, apart_of, same_capture, begun_changes, stream_unread, stream_untexted, stream_unbegun, stream_done, stream_stopped}
+use Rattle.ehdl_top.proofs.RunLemmas.{plain_stop, is_driven, over_unread, over_untexted, over_unbegun, over_stopped, over_streamed, reads_on, same_capture, begun_changes, stream_unread, stream_untexted, stream_unbegun, stream_done, stream_stopped}
 use Rattle.ehdl_top.proofs.run.stream_run.Goals as goal
+use Rattle.ehdl_top.proofs.StreamLemmas.{apart_of, holds_still, stands_still}
 
 pub drive_capture-requires-clause-apart : goal.drive_capture-requires-clause-apart
 drive_capture-requires-clause-apart g c =

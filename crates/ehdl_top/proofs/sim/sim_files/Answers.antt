@@ -17,8 +17,8 @@ use Rattle.ehdl_top.proofs.OutcomeLemmas.{may_ready, starts_from, read_as, sim_m
 use Rattle.ehdl_top.proofs.FormLemmas.{decls_held}
 use Rattle.ehdl_top.proofs.RealizedLemmas.{limits_of, declared_of}
 use Rattle.ehdl_top.proofs.EndLemmas.{IsPlainEnd, was_ready, ends_unread, ends_mapless, ends_over}
-use Rattle.ehdl_top.proofs.ReferenceLemmas.{holds_later}
 use Rattle.ehdl_top.proofs.sim.sim_files.Goals as goal
+use Rattle.ehdl_top.proofs.StreamLemmas.{holds_still}
 
 pub read_maps-requires : goal.read_maps-requires
 read_maps-requires g c = declared_of c.in_ok-program.program c.decls.result.now c.decls.ensures.program c.decls.ensures.decls
@@ -116,7 +116,7 @@ returns g c =
     ))
     (λ told.
     let s = c.in_ok-survey.ensures.survey (tells_later old third all.later told) in
-    let holds = holds_later opened s.0 (third.held names.capture) (mid.held names.capture) (c.survey_capture.ensures.kept.others names.capture tt) s.1 in
+    let holds = holds_still opened s.0 third mid names.capture (c.survey_capture.ensures.kept.others names.capture tt) s.1 in
     let w = c.simulate.ensures.told (tells_later old mid same.later told) s.0 holds s.2 in
     record {
       end = given_up w.given.end;

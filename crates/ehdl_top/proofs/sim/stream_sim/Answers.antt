@@ -5,8 +5,9 @@ use Rattle.capture_run.specs.Runs.{result_names}
 use Rattle.ehdl_top.specs.declared.error.CommandError.TheVariants as error
 use Rattle.ehdl_top.specs.Steps.{IsGivenUpDrive, IsOver, StreamsSim, capture_error}
 use Rattle.capture_run.proofs.StateLaws.{changes_none, changes_then, changes_within, tells_later}
-use Rattle.ehdl_top.proofs.SimLemmas.{by_err, apart_of, over_unread, over_begun, over_stopped, over_streamed, over_then, stops_as, held_begun, begun_changes, head_as, head_failed, holds_still, stands_still, stream_unread, stream_unbegun, stream_done, stream_stopped}
+use Rattle.ehdl_top.proofs.SimLemmas.{by_err, over_unread, over_begun, over_stopped, over_streamed, stops_as, held_begun, begun_changes, head_as, head_failed, stream_unread, stream_unbegun, stream_done, stream_stopped}
 use Rattle.ehdl_top.proofs.sim.stream_sim.Goals as goal
+use Rattle.ehdl_top.proofs.StreamLemmas.{apart_of, holds_still, over_then, stands_still}
 
 pub drive_capture-requires-clause-apart : goal.drive_capture-requires-clause-apart
 drive_capture-requires-clause-apart g c = apart_of (names_of c.args.files.now) c.requires.apart

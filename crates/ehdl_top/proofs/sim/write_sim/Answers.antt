@@ -13,8 +13,9 @@ use Rattle.ehdl_top.specs.declared.error.CommandError.TheVariants as error
 use Rattle.ehdl_top.specs.Steps.{IsGivenUpDrive, IsOver, WritesSim, written_names}
 use Rattle.capture_run.proofs.StateLaws.{changes_none}
 use Rattle.ehdl_top.proofs.SimulationLemmas.{load_goes, load_stops, load_inside}
-use Rattle.ehdl_top.proofs.SimLemmas.{by_err, over_out, over_then, over_wider, over_unbegun, over_unloaded, finish_over, head_as, head_failed, write_out, write_unbegun, write_unloaded, write_unstreamed, write_finished}
+use Rattle.ehdl_top.proofs.SimLemmas.{by_err, over_out, over_wider, over_unbegun, over_unloaded, finish_over, head_as, head_failed, write_out, write_unbegun, write_unloaded, write_unstreamed, write_finished}
 use Rattle.ehdl_top.proofs.sim.write_sim.Goals as goal
+use Rattle.ehdl_top.proofs.StreamLemmas.{over_then}
 
 pub returns-in_err-behind-clause-told : goal.returns-in_err-behind-clause-told
 returns-in_err-behind-clause-told g c = λ told packets holds count.
