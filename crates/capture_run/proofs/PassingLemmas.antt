@@ -6,6 +6,7 @@ use Rattle.std.proofs.lemmas.List.{length-take, length-take-le, take_all, drop_a
 use Rattle.shelf_core.specs.Feeding.{Feeding}
 use Rattle.beat_core.specs.list_laws.Bytes.{IsBytes}
 use Rattle.beat_core.proofs.list_laws_laws.ByteLaws.{IsBytes-append}
+use Rattle.pcap_core.proofs.ContentLaws.{none_at_end}
 use Rattle.pcap_core.specs.declared.order.Order.{Order}
 use Rattle.pcap_core.specs.declared.head.RecHead.{RecHead}
 use Rattle.pcap_core.specs.declared.error.PcapError.{PcapError}
@@ -44,11 +45,6 @@ passed_more content given at need place is here bytes passed =
     ]
 
 -- ---- the end
--- where nothing is left, nothing comes
-none_at_end : (order : Order) (index at : ℕ) → records_at order index at [] ≡ ([], None)
-unfolding records_at records_within record_at
-none_at_end order index at = refl
-
 pub none_from : (order : Order) (index : ℕ) (content : List ℕ) (f : Feeding) → length content ≤ f.at → coming_from order index content f ≡ ([], None)
 none_from order index content f all = ap (records_at order index f.at) (drop_all f.at content all) ∙ none_at_end order index f.at
 

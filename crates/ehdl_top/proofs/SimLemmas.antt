@@ -32,6 +32,7 @@ use Rattle.capture_run.specs.declared.records.CaptureError.TheVariants as captur
 use Rattle.capture_run.specs.declared.error.RunError.{RunError}
 use Rattle.capture_run.specs.declared.error.RunError.TheVariants as runs
 use Rattle.capture_run.proofs.StateLaws.{changes_none, changes_then, changes_within}
+use Rattle.capture_run.proofs.PacketWriteLaws.{done_still}
 use Rattle.capture_run.proofs.WriteLaws.{AreOf, done_from, failed_from, failed_before, failed_after, done_both, done_changes, failed_changes, failed_rose}
 use Rattle.ehdl_top.specs.declared.status.Status.{Status}
 use Rattle.ehdl_top.specs.declared.status.Status.TheVariants as status
@@ -53,9 +54,6 @@ by_err (Err e) P x is for = for e is
 -- no write after them
 done_last : (ws : List Write) (a b c : ShelfState) → AreDone ws a b → Changes [] b c → AreDone (ws ++ []) a c
 done_last ws a b c done same = done_both ws [] a b c done same
-
-done_still : (ws : List Write) (a b c : ShelfState) → AreDone ws a b → Changes [] b c → AreDone ws a c
-done_still ws a b c done same = subst (λ (us : List Write). AreDone us a c) (append-nil ws) (done_last ws a b c done same)
 
 -- ---- a command that is over
 -- memory ran out before anything was written

@@ -42,6 +42,11 @@ records_at-step order index at rest =
     let shorter = length-later rest later p (record_at-after order index at rest p later read) in
     records-fuel (length rest) (suc (length later)) order (index + 1) (at + 16 + length p.bytes) later (omega arith) (omega arith))
 
+-- where nothing is left, nothing comes
+pub none_at_end : (order : Order) (index at : ℕ) → records_at order index at [] ≡ ([], None)
+unfolding record_at
+none_at_end order index at = records_at-step order index at []
+
 -- ---- what is read is spelled
 
 -- what was read from a place on is spelled there

@@ -63,10 +63,6 @@ pub opens_not : (header bytes : List ℕ) (fault : PcapError) → Err fault ≡ 
 unfolding content_of
 opens_not header bytes fault is front = ap (λ o. with_header o bytes) (sym (is ∙ ap header_of front ∙ header_of-take bytes))
 
-pub none_at_end : (order : Order) (index at : ℕ) → records_at order index at [] ≡ ([], None)
-unfolding record_at
-none_at_end order index at = records_at-step order index at []
-
 -- ---- the numbers of a record
 head_at-take : (order : Order) (index at : ℕ) (rest : List ℕ) → head_at order index at (take 16 rest) ≡ head_at order index at rest
 unfolding head_at

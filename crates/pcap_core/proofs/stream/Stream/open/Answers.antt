@@ -1,6 +1,7 @@
 use Rattle.std.proofs.Common.{sym, arith}
 use Rattle.pcap_core.proofs.Heads.{header_of-tested}
-use Rattle.pcap_core.proofs.StreamLemmas.{opens, opens_not, none_at_end}
+use Rattle.pcap_core.proofs.ContentLaws.{none_at_end}
+use Rattle.pcap_core.proofs.StreamLemmas.{opens, opens_not}
 use Rattle.pcap_core.proofs.stream.Stream.open.Goals as goal
 
 pub u32_at-requires : goal.u32_at-requires
