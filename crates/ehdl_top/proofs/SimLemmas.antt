@@ -1,5 +1,5 @@
 -- What the command `sim` writes, and how it ends, by what its steps did.
-use Rattle.std.proofs.Common.{◌≡◌, ℕ, List, [], ◌++◌, length, Option, Some, None, Result, Ok, Err, IsErrAnd, refl, sym, ◌∙◌, ap, subst, inl, inr, append-nil, flat_map}
+use Rattle.std.proofs.Common.{◌≡◌, ℕ, List, [], ◌++◌, length, Option, Some, None, Result, Ok, Err, IsErrAnd, refl, sym, ◌∙◌, ap, subst, inl, inr, flat_map}
 use Rattle.std.proofs.lemmas.List.{length-map}
 use Rattle.shelf_core.specs.Shelf.{Counts, Rose}
 use Rattle.beat_core.specs.declared.answer.Answer.{Answer}
