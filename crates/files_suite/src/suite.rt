@@ -121,7 +121,12 @@ impl Suite {
                 fs::remove_file(rt, *name)?;
                 ended(self.alloc, Ok(()))
             }
-            _ => call(self.alloc, &mut DirShelf::new(self.alloc, rt), &self.known, words),
+            _ => call(
+                self.alloc,
+                &mut DirShelf::new(self.alloc, rt),
+                &self.known,
+                words,
+            ),
         }
     }
 
