@@ -2,7 +2,7 @@
  *
  * The program's own allocations are counted from 1. At each from number REFUSE_FROM on and below REFUSE_TO the process is copied: the copy is
  * refused this one alone and goes on to its end, in a new folder of that number, in which it finds what the files of the current folder hold, `printed`
- * as its standard output among them. The process waits for it, writes number and status to file descriptor REFUSE_NOTES, and goes on with its
+ * as its standard output among them, and those that are open are open there, at the same place. The process waits for it, writes number and status to file descriptor REFUSE_NOTES, and goes on with its
  * allocation. At its end it writes 0 and how many allocations there were.
  */
 #define _GNU_SOURCE
@@ -13,6 +13,7 @@
 #include <stdint.h>
 #include <stdio.h>
 #include <stdlib.h>
+#include <string.h>
 #include <sys/stat.h>
 #include <sys/wait.h>
 #include <unistd.h>
@@ -64,11 +65,30 @@ static void copy_file(const char *name, int into) {
         _exit(99);
 }
 
+/* Where a descriptor is of a file of this folder, it becomes one of the file of that name in the other folder, at the same place. */
+static void follow(int file, const char *here, int into) {
+    char link[32], path[4096];
+    size_t length = strlen(here);
+    snprintf(link, sizeof link, "/proc/self/fd/%d", file);
+    ssize_t taken = readlink(link, path, sizeof path - 1);
+    if (taken <= (ssize_t)length)
+        return;
+    path[taken] = 0;
+    const char *name = path + length + 1;
+    if (strncmp(path, here, length) || path[length] != '/' || !*name || strchr(name, '/'))
+        return;
+    int other = openat(into, name, fcntl(file, F_GETFL) & (O_ACCMODE | O_APPEND));
+    if (other < 0 || lseek(other, lseek(file, 0, SEEK_CUR), SEEK_SET) < 0 || dup2(other, file) < 0 || close(other))
+        _exit(99);
+}
+
 /* Goes into the folder of this number, with the files of this one. */
 static void go_aside(unsigned long number) {
-    char name[32];
+    char name[32], folder[4096];
     struct dirent *entry;
     DIR *here = opendir(".");
+    if (!getcwd(folder, sizeof folder))
+        _exit(99);
     snprintf(name, sizeof name, "%lu", number);
     if (!here || mkdir(name, 0755))
         _exit(99);
@@ -76,6 +96,9 @@ static void go_aside(unsigned long number) {
     while ((entry = readdir(here)))
         if (entry->d_type == DT_REG)
             copy_file(entry->d_name, into);
+    for (int file = 3; file < 64; file++)
+        if (file != into && file != dirfd(here))
+            follow(file, folder, into);
     int printed = openat(into, "printed", O_WRONLY | O_APPEND);
     if (into < 0 || fchdir(into) || printed < 0 || dup2(printed, 1) < 0)
         _exit(99);
