@@ -4,8 +4,8 @@ use Rattle.register_rules.specs.NarrowRegisters.Narrow.{Each}
 use Rattle.register_rules.proofs.EqualRegisters.SettingLaws.{set_repeats, own_repeats}
 use Rattle.register_rules.proofs.equal_registers.repeating.repeats.Goals as goal
 
-pub returns-then-eq : goal.returns-then-eq
-returns-then-eq c e always are = own_repeats c.args.words.now c.args.registers.now c.args.wires.now always c.args.k (sym c.first-j.ensures ∙ c.if-j-k.true)
+pub returns-then-j-k : goal.returns-then-j-k
+returns-then-j-k c e always are = own_repeats c.args.words.now c.args.registers.now c.args.wires.now always c.args.k (sym c.first-j.ensures ∙ c.if-j-k.true)
 
 pub returns : goal.returns
 returns c e always are =

@@ -1,4 +1,7 @@
-use Rattle.std.proofs.Common.{◌≡◌, [], ◌∷◌, sym, ap, subst, length, length-append, arith}
+use Rattle.std.proofs.Common.{◌≡◌, List, [], ◌∷◌, sym, ap, subst, length, length-append, arith}
+use Rattle.std.specs.declared.alloc.Global.{Global}
+use Rattle.std.specs.declared.vec.Vec.{Vec}
+use Rattle.register_rules.specs.declared.equal_registers.settings.Setting.{Setting}
 use Rattle.register_rules.specs.EqualRegisters.Settings.{list_at}
 use Rattle.register_rules.proofs.EqualRegisters.ListLaws.{none_more}
 use Rattle.register_rules.proofs.equal_registers.settings.no_lists.Goals as goal
@@ -9,7 +12,7 @@ filling-preserved c =
     let is = c.in_ok-push.ensures.items in
     record {
       few = omega (arith, ap length is, length-append l.lists.items (c.new.result ∷ []));
-      none = λ k. subst (λ xs. list_at xs k ≡ []) (sym is) (none_more l.lists.items c.new.result k c.new.ensures.items l.invariant.none);
+      none = λ k. subst (λ xs. list_at xs k ≡ []) (sym {A = List (Vec Setting Global)} is) (none_more l.lists.items c.new.result k c.new.ensures.items l.invariant.none);
     }
 
 pub returns : goal.returns
