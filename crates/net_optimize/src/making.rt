@@ -70,6 +70,7 @@ pub(crate) fn block_of(
 ) -> Result<Stmt<Net>, AllocError>
     ensures { (v : Env Net) (s t : Stored) → IfOk all (λ xs. edge v (map statement_of xs.items) s ≡ t) → IfOk result (λ r. done v (statement_of r) s ≡ t) }
 {
-    let all = statements(alloc, all?)?;
-    block(alloc, all)
+    let prefix = all?;
+    let more = statements(alloc, prefix)?;
+    block(alloc, more)
 }
