@@ -1,5 +1,5 @@
 -- A design of which expressions have become wires shows what it showed.
-use Rattle.std.specs.Prelude.{◌≡◌, ℕ, zero, suc, ◌<◌, ◌≤◌, List, [], ◌∷◌, length, map as map_list}
+use Rattle.std.specs.Prelude.{◌≡◌, ℕ, zero, suc, ◌<◌, ◌≤◌, None, List, [], ◌∷◌, length, map as map_list}
 use Rattle.std.proofs.Common.{get_or, refl, sym, ap, ◌∙◌, arith}
 use Rattle.std.proofs.lemmas.List.{length-map}
 use Rattle.net_core.specs.declared.tree.Word.{Word}

@@ -1,6 +1,7 @@
 use Rattle.std.proofs.Common.{◌∙◌, refl, sym, ap, List, map}
 use Rattle.net_core.specs.declared.tree.Net.{Net}
 use Rattle.net_core.specs.declared.tree.Stmt.{Stmt}
+use Rattle.net_core.specs.Nets.{SEnd}
 use Rattle.net_core.specs.View.{statement_of, statements_of}
 use Rattle.net_core.specs.Clock.{all_done, edge}
 use Rattle.net_optimize.proofs.SimpleLogic.ListLemmas.{edge_push}
@@ -8,7 +9,7 @@ use Rattle.net_optimize.proofs.SimpleLogic.LostLemmas.{none_overwritten}
 use Rattle.net_optimize.proofs.simple_logic.lost_sets.without_lost.Goals as goal
 
 pub loop-last-init : goal.loop-last-init
-loop-last-init c = record { done = λ v s. refl; overwritten = none_overwritten _ _ c.new-registers.ensures.empty }
+loop-last-init c = record { done = λ v s. refl; overwritten = none_overwritten SEnd _ c.new-registers.ensures.empty }
 
 pub loop-last-preserved : goal.loop-last-preserved
 loop-last-preserved c =
