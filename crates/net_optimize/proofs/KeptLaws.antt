@@ -1,7 +1,7 @@
--- A design of which wires and registers are dropped shows what it showed with them, where it is well formed: it then reads none that is dropped.
+-- A design of which wires and registers are dropped shows what it showed with them, where it reads what is there: it then reads none that is dropped.
 use Rattle.std.specs.Prelude.{◌≡◌, ℕ, suc, ◌+◌, ◌<◌, ◌≤◌, if◌then◌else◌, Bool, true, false, Option, Some, None, List, [], ◌∷◌, length, map}
 use Rattle.std.proofs.Common.{get_or, refl, sym, ap, ◌∙◌, subst, arith, zero-add}
-use Rattle.std.proofs.lemmas.Bool.{and_parts, ltb-true}
+use Rattle.std.proofs.lemmas.Bool.{ltb-true}
 use Rattle.std.proofs.lemmas.List.{length-map}
 use Rattle.net_core.specs.declared.tree.Word.{Word}
 use Rattle.net_core.specs.declared.tree.Net.{Net}
@@ -11,11 +11,10 @@ use Rattle.net_core.specs.Value.{nothing, Env, right_value, stops}
 use Rattle.net_core.specs.Clock.{Stored, edge, memory_word_value, env, stopped_at, rights, assigned}
 use Rattle.design_rules.specs.FormedSyntax.{trees_pass}
 use Rattle.design_rules.specs.FormedScope.{Sorts, reads_known, right_known, is_value, sorts, registers_of}
-use Rattle.design_rules.specs.Formed.{IsWellFormed, targets_known}
-use Rattle.design_rules.proofs.FormedItemLaws.{wire_kept, assign_kept, block_kept}
 use Rattle.block_core.specs.Rename.{rename_right}
 use Rattle.register_rules.specs.EqualRegisters.Equal.{AreEqual}
 use Rattle.net_optimize.specs.Folding.{SectionTrees}
+use Rattle.net_optimize.specs.Reading.{ReadsWhatIsThere}
 use Rattle.net_optimize.specs.Renumber.{dropped, numbers, kept, kept_stored, NewNumbers, renumber, renumber_wire, renumber_assign}
 use Rattle.net_optimize.specs.Short.{new_numbers, IsShort}
 use Rattle.design_rules.specs.SolvedWires.Solving.{Solves}
@@ -63,7 +62,7 @@ module _ (ns : NewNumbers) (v2 v : Env Net) where
       rw z (stopped_from ks xs (suc at) (suc to) same.2 g.1)
   stopped_from (false ∷ ks) (x ∷ xs) at to same h = stopped_from ks xs (suc at) to same (not_stopped (stops v x.right) at (stopped_at v (suc at) (rights xs)) h).1
 
-module _ (a b : Netlist) (short : SectionTrees) (firsts : List ℕ) (k : IsShort a short firsts b) (formed : IsWellFormed b)
+module _ (a b : Netlist) (short : SectionTrees) (firsts : List ℕ) (k : IsShort a short firsts b) (formed : ReadsWhatIsThere b)
     (ins : List Word) (s : Stored) (equal : AreEqual a firsts s) (ws : List Word) (fit : length ws ≡ length short.wires) where
   abbrev ks : List Bool
   ks = k.wires_kept
@@ -122,7 +121,7 @@ module _ (a b : Netlist) (short : SectionTrees) (firsts : List ℕ) (k : IsShort
   kept_same =
       let P : List WireTree → Type 0 = λ xs. (i : ℕ) (w : WireTree) → i < length xs → w ≡ get_or xs i w → right_known (sorts b (0 + i)) w.right ≡ true in
       all_same (kept ks short.wires) 0 (omega (arith, ap length k.wires, length-map (kept ks short.wires) (renumber_wire ns)))
-      (subst P k.wires (λ i w l e. ap (λ n. right_known (sorts b n) w.right) (zero-add i) ∙ (wire_kept b formed i w l e).known))
+      (subst P k.wires (λ i w l e. ap (λ n. right_known (sorts b n) w.right) (zero-add i) ∙ formed.wires i w l e))
 
   pub solves-kept : Solves (env ins s ws) 0 short.wires → Solves (env ins (kept_stored k.registers_kept s) (kept k.wires_kept ws)) 0 b.wires
   solves-kept h = subst (Solves v2 0) (sym k.wires)
@@ -145,11 +144,11 @@ module _ (a b : Netlist) (short : SectionTrees) (firsts : List ℕ) (k : IsShort
   pub assigned-kept : (port : ℕ) → assigned (env ins (kept_stored k.registers_kept s) (kept k.wires_kept ws)) b.assigns port ≡ assigned (env ins s ws) short.assigns port
   assigned-kept port =
       let P : List AssignTree → Type 0 = λ xs. (i : ℕ) (x : AssignTree) → i < length xs → x ≡ get_or xs i x → reads_known all x.value ≡ true in
-      ap (λ xs. assigned v2 xs port) k.assigns ∙ assigned_from short.assigns (subst P k.assigns (λ i x l e. (assign_kept b formed i x l e).known)) port
+      ap (λ xs. assigned v2 xs port) k.assigns ∙ assigned_from short.assigns (subst P k.assigns (λ i x l e. formed.assigns i x l e)) port
 
   pub edge-kept : edge (env ins (kept_stored k.registers_kept s) (kept k.wires_kept ws)) b.always (kept_stored k.registers_kept s) ≡ kept_stored k.registers_kept (edge (env ins s ws) short.always s)
   edge-kept =
       let P : List (StatementTree Net) → Type 0 = λ xs. (i : ℕ) (x : StatementTree Net) → i < length xs → x ≡ get_or xs i x → trees_pass (reads_known all) x ≡ true in
       ap (λ xs. edge v2 xs (kept_stored rs s)) k.always
       ∙ edge_same ks rs firsts k.few_registers all v2 v (nets (length b.wires) (omega arith)) words short.always s
-      (subst P k.always (λ i x l e. (and_parts (targets_known b x) _ (block_kept b formed i x l e).known).1))
+      (subst P k.always (λ i x l e. formed.always i x l e))

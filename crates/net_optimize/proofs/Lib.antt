@@ -12,3 +12,4 @@ pub mod FlagLemmas
 pub mod NegationLemmas
 pub mod SharedExpressions
 pub mod SimpleLogic
+pub mod ReadingLemmas

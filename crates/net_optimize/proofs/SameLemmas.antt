@@ -6,7 +6,6 @@ use Rattle.net_core.specs.declared.tree.Net.{Net}
 use Rattle.net_core.specs.Nets.{WireTree, AssignTree, Netlist}
 use Rattle.net_core.specs.Value.{Env}
 use Rattle.net_core.specs.Clock.{Stored, env, with_wires, edge, assigned, rights, stopped_at, stopping, shown, after}
-use Rattle.design_rules.specs.Formed.{IsWellFormed}
 use Rattle.net_core.specs.SameClocks.Same.{ShowTheSame, Follows}
 use Rattle.net_core.proofs.SameClocks.SameLaws.{followers_show_the_same}
 use Rattle.register_rules.specs.EqualRegisters.Equal.{AreEqual, StayEqual}
@@ -14,11 +13,13 @@ use Rattle.design_rules.specs.SolvedWires.Solving.{Solves}
 use Rattle.net_optimize.specs.Folding.{AreSameWires, AreSameAssigns, SectionTrees, AreSameSections, netlist_sections}
 use Rattle.net_optimize.specs.Renumber.{kept, kept_stored}
 use Rattle.net_optimize.specs.Short.{IsShort}
+use Rattle.net_optimize.specs.Reading.{ReadsWhatIsThere}
+use Rattle.net_optimize.proofs.ReadingLemmas.{known_rights}
 use Rattle.net_optimize.proofs.ListLemmas.{assigned_same, solves_same, stops_same}
-use Rattle.design_rules.proofs.SolvedWires.SolvingLaws.{rights_known, solved, unique, wires_counted}
+use Rattle.design_rules.proofs.SolvedWires.SolvingLaws.{solved, unique, wires_counted}
 use Rattle.net_optimize.proofs.KeptLaws.{length-kept, solves-kept, stopped_at-kept, assigned-kept, edge-kept}
 
-module _ (a b : Netlist) (short : SectionTrees) (firsts : List ℕ) (formed : IsWellFormed a) (formed_too : IsWellFormed b) (k : IsShort a short firsts b) (count : length short.wires ≡ length a.wires)
+module _ (a b : Netlist) (short : SectionTrees) (firsts : List ℕ) (formed : ReadsWhatIsThere a) (formed_too : ReadsWhatIsThere b) (k : IsShort a short firsts b) (count : length short.wires ≡ length a.wires)
     (same : (v : Env Net) → Solves v 0 a.wires → AreSameSections v (netlist_sections a) short) where
   abbrev shorter : Stored → Stored
   shorter s = kept_stored k.registers_kept s
@@ -31,14 +32,14 @@ module _ (a b : Netlist) (short : SectionTrees) (firsts : List ℕ) (formed : Is
     len = wires_counted a ins s a.wires ∙ sym count
 
     old : Solves (env ins s ws) 0 a.wires
-    old = solved a ins s 0 [] a.wires refl (rights_known a formed)
+    old = solved a ins s 0 [] a.wires refl (known_rights a formed)
 
     sections : AreSameSections (env ins s ws) (netlist_sections a) short
     sections = same (env ins s ws) old
 
     -- the values of the wires that are kept
     are_kept : with_wires ins (shorter s) [] b.wires ≡ kept k.wires_kept ws
-    are_kept = unique b ins (shorter s) 0 [] (kept k.wires_kept ws) b.wires refl (rights_known b formed_too)
+    are_kept = unique b ins (shorter s) 0 [] (kept k.wires_kept ws) b.wires refl (known_rights b formed_too)
         (solves-kept a b short firsts k formed_too ins s equal ws len (solves_same (env ins s ws) 0 a.wires short.wires old sections.wires))
         (sym (length-kept a b short firsts k formed_too ins s equal ws len))
 

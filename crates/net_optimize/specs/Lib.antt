@@ -1,4 +1,5 @@
 pub mod Renumber
+pub mod Reading
 pub mod Folding
 pub mod Short
 pub mod Flags

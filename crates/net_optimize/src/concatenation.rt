@@ -2,6 +2,7 @@
 
 ghost use Rattle.std.specs.Prelude.{◌≡◌, IfOk, IfSome, map};
 ghost use Rattle.net_core.specs.declared.tree.Net.{Net};
+ghost use Rattle.net_core.specs.declared.tree.Word as words;
 ghost use Rattle.net_core.specs.View.{tree_of, trees_of};
 ghost use Rattle.net_core.specs.Value.{Env, value, part_select, concatenated, concatenated_parts};
 ghost use Rattle.net_optimize.specs.Lists.{all_parts};
@@ -141,11 +142,8 @@ pub(crate) fn with_parts(
     }
 }
 
-/// A concatenation of parts, or the only one.
-pub(crate) fn concatenation(
-    alloc: Global,
-    mut list: Vec<Expr<Net>>,
-) -> Result<Expr<Net>, AllocError>
+// A concatenation of parts, or the only one.
+fn concatenation(alloc: Global, mut list: Vec<Expr<Net>>) -> Result<Expr<Net>, AllocError>
     ensures { IfOk result (λ r. (v : Env Net) → value v (tree_of r) ≡ all_parts v (map tree_of list.items)) }
 {
     let Some(last) = list.pop() else {
@@ -156,4 +154,15 @@ pub(crate) fn concatenation(
     }
     let all = parts(alloc, list, last)?;
     Ok(Expr::Concatenation(Box::new(alloc, all)?))
+}
+
+/// The same, where making the parts may have failed.
+pub(crate) fn whole_of(
+    alloc: Global,
+    list: Result<Vec<Expr<Net>>, AllocError>,
+) -> Result<Expr<Net>, AllocError>
+    ensures { (v : Env Net) (x : words.Word) → IfOk list (λ xs. all_parts v (map tree_of xs.items) ≡ x) → IfOk result (λ r. value v (tree_of r) ≡ x) }
+{
+    let list = list?;
+    concatenation(alloc, list)
 }

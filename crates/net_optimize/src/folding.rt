@@ -8,13 +8,13 @@ ghost use Rattle.net_core.specs.Clock.{Stored, done, all_done};
 ghost use Rattle.net_optimize.specs.Folding.{AreKnown, IsSameRight};
 ghost use Rattle.net_optimize.specs.Lists.{all_parts, joined_done};
 
-use crate::concatenation::{concatenation, with_parts};
-use crate::joining::{Joined, closed, none, one, under, with_guarded, with_statement};
-use crate::negation::{prefixed, vanishes};
-use crate::simple::{chosen, is_prefixed, joined, read, select};
-use net_core::build::{memory_word, when_else};
-use net_core::net_trees::copying::copied;
+use crate::concatenation::{whole_of, with_parts};
+use crate::joining::{Joined, closed_of, none, under_of, with_guarded_of, with_statement_of};
+use crate::making::{block_of, set_of, store_of, when_else_of};
+use crate::negation::prefixed_of;
+use crate::simple::{chosen_of, joined_of, read, select};
 use net_core::tree::{Expr, Net, Parts, Right, Stmt, Stmts};
+use net_rules::building::memory_word_of;
 use std::alloc::{AllocError, Global};
 
 /// An expression of the same value.
@@ -24,44 +24,25 @@ pub(crate) fn folded(
     known: &[Option<Expr<Net>>],
     e: &Expr<Net>,
 ) -> Result<Expr<Net>, AllocError>
-    ensures { IfOk result (λ r. (v : Env Net) → AreKnown v known.now → value v (tree_of r) ≡ value v (tree_of e.now)) }
+    ensures { (v : Env Net) → AreKnown v known.now → IfOk result (λ r. value v (tree_of r) ≡ value v (tree_of e.now)) }
 {
     match e {
         Expr::Const(word) => Ok(Expr::Const(*word)),
         Expr::Read(n) => read(alloc, known, *n),
         Expr::Bit(n, bit) => Ok(select(known, *n, *bit, *bit)),
         Expr::PartSelect(n, high, low) => Ok(select(known, *n, *high, *low)),
-        Expr::MemoryWord(m, i) => {
-            let index = folded(alloc, known, i)?;
-            memory_word(alloc, *m, index)
-        }
-        Expr::Unary(op, a) => {
-            let operand = folded(alloc, known, a)?;
-            // No prefix operator stands before another one.
-            let operand = if is_prefixed(&operand) && !vanishes(*op, &operand) {
-                copied(alloc, a)?
-            } else {
-                operand
-            };
-            let whole = prefixed(alloc, *op, operand)?;
-            Ok(whole)
-        }
+        Expr::MemoryWord(m, i) => memory_word_of(alloc, *m, folded(alloc, known, i)),
+        Expr::Unary(op, a) => prefixed_of(alloc, *op, folded(alloc, known, a), a),
         Expr::Binary(op, a, b) => {
-            let a = folded(alloc, known, a)?;
-            let b = folded(alloc, known, b)?;
-            joined(alloc, *op, a, b)
+            let a = folded(alloc, known, a);
+            joined_of(alloc, *op, a, folded(alloc, known, b))
         }
         Expr::Conditional(c, a, b) => {
-            let c = folded(alloc, known, c)?;
-            let a = folded(alloc, known, a)?;
-            let b = folded(alloc, known, b)?;
-            chosen(alloc, c, a, b)
+            let c = folded(alloc, known, c);
+            let a = folded(alloc, known, a);
+            chosen_of(alloc, c, a, folded(alloc, known, b))
         }
-        Expr::Concatenation(parts) => {
-            let parts = folded_parts(alloc, known, parts)?;
-            let whole = concatenation(alloc, parts)?;
-            Ok(whole)
-        }
+        Expr::Concatenation(parts) => whole_of(alloc, folded_parts(alloc, known, parts)),
     }
 }
 
@@ -72,7 +53,7 @@ fn folded_parts(
     known: &[Option<Expr<Net>>],
     parts: &Parts<Net>,
 ) -> Result<Vec<Expr<Net>>, AllocError>
-    ensures { IfOk result (λ r. (v : Env Net) → AreKnown v known.now → all_parts v (map tree_of r.items) ≡ concatenated_parts v (trees_of parts.now)) }
+    ensures { (v : Env Net) → AreKnown v known.now → IfOk result (λ r. all_parts v (map tree_of r.items) ≡ concatenated_parts v (trees_of parts.now)) }
 {
     let mut all = Vec::new(alloc);
     let mut left = parts;
@@ -97,7 +78,7 @@ pub(crate) fn folded_right(
     known: &[Option<Expr<Net>>],
     right: &Right<Net>,
 ) -> Result<Right<Net>, AllocError>
-    ensures { IfOk result (λ r. (v : Env Net) → AreKnown v known.now → IsSameRight v (right_of right.now) (right_of r)) }
+    ensures { (v : Env Net) → AreKnown v known.now → IfOk result (λ r. IsSameRight v (right_of right.now) (right_of r)) }
 {
     match right {
         Right::Plain(e) => Ok(Right::Plain(folded(alloc, known, e)?)),
@@ -113,33 +94,27 @@ pub(crate) fn folded_stmt(
     known: &[Option<Expr<Net>>],
     stmt: &Stmt<Net>,
 ) -> Result<Stmt<Net>, AllocError>
-    ensures { IfOk result (λ r. (v : Env Net) (s : Stored) → AreKnown v known.now → done v (statement_of r) s ≡ done v (statement_of stmt.now) s) }
+    ensures { (v : Env Net) (s : Stored) → AreKnown v known.now → IfOk result (λ r. done v (statement_of r) s ≡ done v (statement_of stmt.now) s) }
 {
     match stmt {
         Stmt::Block(more) => {
-            let all = with_all(alloc, known, none(alloc), more)?;
-            let all = closed(alloc, all)?;
-            let whole = one(alloc, all)?;
-            Ok(whole)
+            let all = with_all(alloc, known, none(alloc), more);
+            block_of(alloc, closed_of(alloc, all))
         }
         Stmt::If(c, a) => {
-            let c = folded(alloc, known, c)?;
-            let body = with_folded(alloc, known, none(alloc), a)?;
-            let body = closed(alloc, body)?;
-            let whole = under(alloc, c, body)?;
-            Ok(whole)
+            let c = folded(alloc, known, c);
+            let body = with_folded(alloc, known, none(alloc), a);
+            under_of(alloc, c, closed_of(alloc, body))
         }
         Stmt::IfElse(c, a, b) => {
-            let c = folded(alloc, known, c)?;
-            let a = folded_stmt(alloc, known, a)?;
-            let b = folded_stmt(alloc, known, b)?;
-            when_else(alloc, c, a, b)
+            let c = folded(alloc, known, c);
+            let a = folded_stmt(alloc, known, a);
+            when_else_of(alloc, c, a, folded_stmt(alloc, known, b))
         }
-        Stmt::Set(k, e) => Ok(Stmt::Set(*k, folded(alloc, known, e)?)),
-        Stmt::Store(k, i, e) => {
-            let i = folded(alloc, known, i)?;
-            let e = folded(alloc, known, e)?;
-            Ok(Stmt::Store(*k, i, e))
+        Stmt::Set(k, e) => set_of(*k, folded(alloc, known, e)),
+        Stmt::Store(m, i, e) => {
+            let i = folded(alloc, known, i);
+            store_of(*m, i, folded(alloc, known, e))
         }
     }
 }
@@ -152,22 +127,16 @@ pub(crate) fn with_folded(
     list: Joined,
     stmt: &Stmt<Net>,
 ) -> Result<Joined, AllocError>
-    ensures { IfOk result (λ r. (v : Env Net) (s : Stored) → AreKnown v known.now → joined_done v r s ≡ done v (statement_of stmt.now) (joined_done v list s)) }
+    ensures { (v : Env Net) (s : Stored) → AreKnown v known.now → IfOk result (λ r. joined_done v r s ≡ done v (statement_of stmt.now) (joined_done v list s)) }
 {
     match stmt {
         Stmt::Block(more) => with_all(alloc, known, list, more),
         Stmt::If(c, a) => {
-            let c = folded(alloc, known, c)?;
-            let body = with_folded(alloc, known, none(alloc), a)?;
-            let body = closed(alloc, body)?;
-            let whole = with_guarded(alloc, list, c, body)?;
-            Ok(whole)
+            let c = folded(alloc, known, c);
+            let body = with_folded(alloc, known, none(alloc), a);
+            with_guarded_of(alloc, list, c, closed_of(alloc, body))
         }
-        _ => {
-            let same = folded_stmt(alloc, known, stmt)?;
-            let whole = with_statement(alloc, list, same)?;
-            Ok(whole)
-        }
+        _ => with_statement_of(alloc, list, folded_stmt(alloc, known, stmt)),
     }
 }
 
@@ -179,7 +148,7 @@ fn with_all(
     list: Joined,
     stmts: &Stmts<Net>,
 ) -> Result<Joined, AllocError>
-    ensures { IfOk result (λ r. (v : Env Net) (s : Stored) → AreKnown v known.now → joined_done v r s ≡ all_done v (statements_of stmts.now) (joined_done v list s)) }
+    ensures { (v : Env Net) (s : Stored) → AreKnown v known.now → IfOk result (λ r. joined_done v r s ≡ all_done v (statements_of stmts.now) (joined_done v list s)) }
 {
     let mut all = list;
     let mut left = stmts;

@@ -1,9 +1,10 @@
 //! Statements, one after another, of which neighbours under one condition are one.
 
-ghost use Rattle.std.specs.Prelude.{◌≡◌, IfOk, map};
+ghost use Rattle.std.specs.Prelude.{◌≡◌, ◌==◌, if◌then◌else◌, IfOk, map};
 ghost use Rattle.net_core.specs.declared.tree.Net.{Net};
+ghost use Rattle.net_core.specs.declared.tree.Word.{Word};
 ghost use Rattle.net_core.specs.View.{tree_of, statement_of};
-ghost use Rattle.net_core.specs.Value.{Env};
+ghost use Rattle.net_core.specs.Value.{Env, value};
 ghost use Rattle.net_core.specs.Clock.{Stored, done, edge};
 ghost use Rattle.net_optimize.specs.Lists.{guarded, joined_done};
 
@@ -36,8 +37,8 @@ pub(crate) fn none(alloc: Global) -> Joined
     }
 }
 
-/// These statements as one.
-pub(crate) fn one(alloc: Global, body: Vec<Stmt<Net>>) -> Result<Stmt<Net>, AllocError>
+// These statements as one.
+fn one(alloc: Global, body: Vec<Stmt<Net>>) -> Result<Stmt<Net>, AllocError>
     ensures { IfOk result (λ r. (v : Env Net) (s : Stored) → done v (statement_of r) s ≡ edge v (map statement_of body.items) s) }
 {
     let all = statements(alloc, body)?;
@@ -45,8 +46,8 @@ pub(crate) fn one(alloc: Global, body: Vec<Stmt<Net>>) -> Result<Stmt<Net>, Allo
     Ok(whole)
 }
 
-/// These statements under a condition. A single one needs no block.
-pub(crate) fn under(
+// These statements under a condition. A single one needs no block.
+fn under(
     alloc: Global,
     condition: Expr<Net>,
     mut body: Vec<Stmt<Net>>,
@@ -91,8 +92,8 @@ pub(crate) fn with_statement(
     Ok(Joined { first, last: None })
 }
 
-/// More statements under a condition.
-pub(crate) fn with_guarded(
+// More statements under a condition.
+fn with_guarded(
     alloc: Global,
     list: Joined,
     condition: Expr<Net>,
@@ -128,4 +129,56 @@ pub(crate) fn with_guarded(
         first,
         last: Some(last),
     })
+}
+
+// ---- the same, where making a part may have failed
+
+/// Statements under a condition.
+pub(crate) fn under_of(
+    alloc: Global,
+    condition: Result<Expr<Net>, AllocError>,
+    body: Result<Vec<Stmt<Net>>, AllocError>,
+) -> Result<Stmt<Net>, AllocError>
+    ensures { (v : Env Net) (x : Word) (s t : Stored) → IfOk condition (λ e. value v (tree_of e) ≡ x) → IfOk body (λ xs. edge v (map statement_of xs.items) s ≡ t) → IfOk result (λ r. done v (statement_of r) s ≡ (if x.value == 0 then s else t)) }
+{
+    let condition = condition?;
+    let body = body?;
+    under(alloc, condition, body)
+}
+
+/// All of the statements.
+pub(crate) fn closed_of(
+    alloc: Global,
+    list: Result<Joined, AllocError>,
+) -> Result<Vec<Stmt<Net>>, AllocError>
+    ensures { (v : Env Net) (s t : Stored) → IfOk list (λ j. joined_done v j s ≡ t) → IfOk result (λ r. edge v (map statement_of r.items) s ≡ t) }
+{
+    let list = list?;
+    closed(alloc, list)
+}
+
+/// One more statement.
+pub(crate) fn with_statement_of(
+    alloc: Global,
+    list: Joined,
+    stmt: Result<Stmt<Net>, AllocError>,
+) -> Result<Joined, AllocError>
+    ensures { (v : Env Net) (s t : Stored) → IfOk stmt (λ a. done v (statement_of a) (joined_done v list s) ≡ t) → IfOk result (λ r. joined_done v r s ≡ t) }
+{
+    let stmt = stmt?;
+    with_statement(alloc, list, stmt)
+}
+
+/// More statements under a condition.
+pub(crate) fn with_guarded_of(
+    alloc: Global,
+    list: Joined,
+    condition: Result<Expr<Net>, AllocError>,
+    body: Result<Vec<Stmt<Net>>, AllocError>,
+) -> Result<Joined, AllocError>
+    ensures { (v : Env Net) (x : Word) (s t : Stored) → IfOk condition (λ e. value v (tree_of e) ≡ x) → IfOk body (λ xs. edge v (map statement_of xs.items) (joined_done v list s) ≡ t) → IfOk result (λ r. joined_done v r s ≡ (if x.value == 0 then joined_done v list s else t)) }
+{
+    let condition = condition?;
+    let body = body?;
+    with_guarded(alloc, list, condition, body)
 }

@@ -1,226 +1,189 @@
 //! Wires and registers on which outputs, memories and stops depend.
 
 use crate::sections::Sections;
+use crate::sources::{Sources, sources_of};
 use net_core::design::Wire;
-use net_core::tree::{Expr, Net, Parts, Right, Stmt, Stmts};
+use net_core::tree::{Expr, Net, Parts, Right};
 use std::alloc::{AllocError, Global};
 
-// More rounds than a design needs. After them all is kept.
-const ROUNDS: u32 = 300;
+// The number of no net.
+const NONE: u32 = u32::MAX;
+
+// Which nets are read. Those whose sources are yet to be looked at are linked, the last one first.
+#[derive(Drop)]
+struct Reached {
+    are_read: Vec<bool>,
+    last: u32,
+    // Behind each net that is linked the next one.
+    behind: Vec<u32>,
+}
+
+impl Reached {
+    fn none(alloc: Global, count: usize) -> Result<Reached, AllocError> {
+        Ok(Reached {
+            are_read: vec![in alloc; false; count]?,
+            last: NONE,
+            behind: vec![in alloc; NONE; count]?,
+        })
+    }
+
+    fn has(&self, k: usize) -> bool {
+        self.are_read.get(k).copied().unwrap_or(false)
+    }
+
+    fn add(&mut self, k: u32) {
+        let at = k as usize;
+        match self.are_read.get_mut(at) {
+            Some(is_read) if !*is_read => *is_read = true,
+            _ => return,
+        }
+        let last = self.last;
+        if let Some(behind) = self.behind.get_mut(at) {
+            *behind = last;
+        }
+        self.last = k;
+    }
+
+    // The last net that is linked, and is so no more.
+    fn take(&mut self) -> usize {
+        let at = self.last as usize;
+        self.last = self.behind.get(at).copied().unwrap_or(NONE);
+        at
+    }
+}
 
 /// Which wires and registers are read by what has to stay. A register is read as the first of those that hold the same.
 #[derive(Drop)]
 pub(crate) struct Live {
-    wires: Vec<bool>,
-    registers: Vec<bool>,
+    wires: Reached,
+    registers: Reached,
     firsts: Vec<u32>,
-    // Wires that are read, whose right sides are not yet looked at.
-    left: Vec<u32>,
-    has_grown: bool,
-    is_whole: bool,
-}
-
-fn none_of(alloc: Global, count: usize) -> Result<Vec<bool>, AllocError> {
-    let mut all = Vec::new(alloc);
-    for _ in 0..count {
-        all.push(false)?;
-    }
-    Ok(all)
 }
 
 impl Live {
     /// Whether a wire has to stay.
     pub(crate) fn has_wire(&self, wire: usize) -> bool {
-        self.is_whole || self.wires.get(wire).copied().unwrap_or(false)
+        self.wires.has(wire)
     }
 
     /// Whether a register has to stay.
     pub(crate) fn has_register(&self, register: usize) -> bool {
-        self.is_whole || self.registers.get(register).copied().unwrap_or(false)
+        self.registers.has(register)
     }
 
-    fn read_wire(&mut self, i: u32) -> Result<(), AllocError> {
-        if let Some(is_read) = self.wires.get_mut(i as usize)
-            && !*is_read
-        {
-            *is_read = true;
-            self.left.push(i)?;
-        }
-        Ok(())
-    }
-
-    fn read_register(&mut self, i: u32) {
-        let first = self.firsts.get(i as usize).copied().unwrap_or(i);
-        if let Some(is_read) = self.registers.get_mut(first as usize)
-            && !*is_read
-        {
-            *is_read = true;
-            self.has_grown = true;
-        }
-    }
-
-    fn read(&mut self, n: Net) -> Result<(), AllocError> {
+    fn read(&mut self, n: Net) {
         match n {
-            Net::Wire(i) => self.read_wire(i),
+            Net::Wire(i) => self.wires.add(i),
             Net::Register(i) => {
-                self.read_register(i);
-                Ok(())
+                let first = self.firsts.get(i as usize).copied().unwrap_or(i);
+                self.registers.add(first);
             }
-            Net::Port(_) | Net::Memory(_) => Ok(()),
+            Net::Port(_) | Net::Memory(_) => {}
         }
     }
 
     #[cycle(expressions)]
-    fn read_expr(&mut self, e: &Expr<Net>) -> Result<(), AllocError> {
+    fn read_expr(&mut self, e: &Expr<Net>) {
         match e {
-            Expr::Const(_) => Ok(()),
+            Expr::Const(_) => {}
             Expr::Read(n) | Expr::Bit(n, _) | Expr::PartSelect(n, _, _) => self.read(*n),
             Expr::MemoryWord(_, a) | Expr::Unary(_, a) => self.read_expr(a),
             Expr::Binary(_, a, b) => {
-                self.read_expr(a)?;
-                self.read_expr(b)
+                self.read_expr(a);
+                self.read_expr(b);
             }
             Expr::Conditional(c, a, b) => {
-                self.read_expr(c)?;
-                self.read_expr(a)?;
-                self.read_expr(b)
+                self.read_expr(c);
+                self.read_expr(a);
+                self.read_expr(b);
             }
             Expr::Concatenation(parts) => self.read_parts(parts),
         }
     }
 
     #[cycle(expressions)]
-    fn read_parts(&mut self, parts: &Parts<Net>) -> Result<(), AllocError> {
+    fn read_parts(&mut self, parts: &Parts<Net>) {
         let mut left = parts;
         loop {
             match left {
-                Parts::Last(a) => return self.read_expr(a),
+                Parts::Last(a) => {
+                    self.read_expr(a);
+                    return;
+                }
                 Parts::More(a, more) => {
-                    self.read_expr(a)?;
+                    self.read_expr(a);
                     left = more;
                 }
             }
         }
     }
 
-    fn read_right(&mut self, right: &Right<Net>) -> Result<(), AllocError> {
+    fn read_right(&mut self, right: &Right<Net>) {
         match right {
             Right::Plain(e) => self.read_expr(e),
             Right::Quotient(a, b) | Right::Remainder(a, b) => {
-                self.read(*a)?;
-                self.read(*b)
+                self.read(*a);
+                self.read(*b);
             }
         }
-    }
-
-    // What a statement reads to store into a memory or to set a register that is read. Gives whether it does one of these.
-    #[cycle(statements)]
-    fn read_stmt(&mut self, stmt: &Stmt<Net>) -> Result<bool, AllocError> {
-        match stmt {
-            Stmt::Block(more) => self.read_stmts(more),
-            Stmt::If(c, a) => {
-                let counts = self.read_stmt(a)?;
-                self.read_condition(c, counts)
-            }
-            Stmt::IfElse(c, a, b) => {
-                let first = self.read_stmt(a)?;
-                let second = self.read_stmt(b)?;
-                self.read_condition(c, first || second)
-            }
-            Stmt::Set(k, e) => {
-                let counts = self.has_register(*k as usize);
-                self.read_condition(e, counts)
-            }
-            Stmt::Store(_, i, e) => {
-                self.read_expr(i)?;
-                self.read_condition(e, true)
-            }
-        }
-    }
-
-    // An expression is read if what stands under it counts.
-    fn read_condition(&mut self, e: &Expr<Net>, counts: bool) -> Result<bool, AllocError> {
-        if counts {
-            self.read_expr(e)?;
-        }
-        Ok(counts)
-    }
-
-    #[cycle(statements)]
-    fn read_stmts(&mut self, stmts: &Stmts<Net>) -> Result<bool, AllocError> {
-        let mut counts = false;
-        let mut left = stmts;
-        while let Stmts::Then(a, more) = left {
-            let here = self.read_stmt(a)?;
-            counts = counts || here;
-            left = more;
-        }
-        Ok(counts)
     }
 
     // Each wire is looked at once.
-    fn read_wires(&mut self, wires: &[Wire]) -> Result<(), AllocError> {
+    fn read_wires(&mut self, wires: &[Wire]) {
         for _ in 0..wires.len() {
-            let Some(i) = self.left.pop() else {
-                return Ok(());
+            let Some(wire) = wires.get(self.wires.take()) else {
+                return;
             };
-            if let Some(wire) = wires.get(i as usize) {
-                self.read_right(&wire.right)?;
-            }
+            self.read_right(&wire.right);
         }
-        Ok(())
     }
 
-    // What outputs show, and what may stop the clock.
-    fn begin(&mut self, sections: &Sections) -> Result<(), AllocError> {
+    // What outputs show, what memories hold, and what may stop the clock.
+    fn begin(&mut self, sections: &Sections, memories: &[&Expr<Net>]) {
         let mut at = 0;
         for wire in &sections.wires {
             if !matches!(wire.right, Right::Plain(_)) {
-                self.read_wire(at)?;
+                self.wires.add(at);
             }
             at = at.saturating_add(1);
         }
         for assign in &sections.assigns {
-            self.read_expr(&assign.value)?;
+            self.read_expr(&assign.value);
         }
-        self.read_wires(&sections.wires)
+        for e in memories {
+            self.read_expr(*e);
+        }
     }
 
-    // The last blocks first: what a stage of a pipeline reads is set in blocks before it.
-    fn read_always(&mut self, sections: &Sections) -> Result<(), AllocError> {
-        let mut left = sections.always.len();
-        while left > 0 {
-            left -= 1;
-            self.read_stmt(&sections.always[left])?;
-            self.read_wires(&sections.wires)?;
+    // Each register is looked at once, when the wires that are read are looked at.
+    fn read_sources(&mut self, wires: &[Wire], sources: &Sources) {
+        for _ in 0..sources.registers.len() {
+            self.read_wires(wires);
+            let Some(all) = sources.registers.get(self.registers.take()) else {
+                return;
+            };
+            for e in all {
+                self.read_expr(*e);
+            }
         }
-        Ok(())
+        self.read_wires(wires);
     }
 }
 
-/// What has to stay of the wires and registers of these sections.
+/// What has to stay of the wires and registers of these sections, in time of their length.
 pub(crate) fn live_nets(
     alloc: Global,
     sections: &Sections,
     registers: usize,
     firsts: &[u32],
 ) -> Result<Live, AllocError> {
+    let sources = sources_of(alloc, &sections.always, registers)?;
     let mut live = Live {
-        wires: none_of(alloc, sections.wires.len())?,
-        registers: none_of(alloc, registers)?,
+        wires: Reached::none(alloc, sections.wires.len())?,
+        registers: Reached::none(alloc, registers)?,
         firsts: Vec::from_slice(alloc, firsts)?,
-        left: Vec::new(alloc),
-        has_grown: false,
-        is_whole: false,
     };
-    live.begin(sections)?;
-    for _ in 0..ROUNDS {
-        live.has_grown = false;
-        live.read_always(sections)?;
-        if !live.has_grown {
-            return Ok(live);
-        }
-    }
-    live.is_whole = true;
+    live.begin(sections, &sources.memories);
+    live.read_sources(&sections.wires, &sources);
     Ok(live)
 }

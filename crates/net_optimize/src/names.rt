@@ -1,7 +1,26 @@
-//! The names of a design of which some wires and registers are dropped.
+//! The names of designs, also of one of which some wires and registers are dropped.
 
 use net_core::design::{Declared, Design};
 use std::alloc::{AllocError, Global};
+
+/// One name more.
+pub(crate) fn push_name(
+    alloc: Global,
+    all: &mut Vec<String>,
+    name: &str,
+) -> Result<(), AllocError> {
+    let name = String::from_str(alloc, name)?;
+    Ok(all.push(name)?)
+}
+
+/// The same names.
+pub(crate) fn copied_names(alloc: Global, names: &[String]) -> Result<Vec<String>, AllocError> {
+    let mut all = Vec::new(alloc);
+    for name in names {
+        push_name(alloc, &mut all, name)?;
+    }
+    Ok(all)
+}
 
 /// The names of ports, of what stays of what is declared, and of so many wires. Registers that are dropped lose theirs, and so do the last
 /// wires.
@@ -25,7 +44,7 @@ pub(crate) fn kept_names(
             register = register.saturating_add(1);
         }
         if stays {
-            all.push(String::from_str(alloc, name)?)?;
+            push_name(alloc, &mut all, name)?;
         }
         at = at.saturating_add(1);
     }

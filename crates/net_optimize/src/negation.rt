@@ -1,35 +1,21 @@
 //! Operators before one operand.
 
-ghost use Rattle.std.specs.Prelude.{◌≡◌, IfOk, IfSome};
+ghost use Rattle.std.specs.Prelude.{◌≡◌, IfOk};
 ghost use Rattle.net_core.specs.declared.tree.Net.{Net};
-ghost use Rattle.net_core.specs.declared.tree.Word.{Word};
 ghost use Rattle.net_core.specs.declared.tree.UnaryOp.TheVariants as prefix;
 ghost use Rattle.net_core.specs.View.{tree_of};
-ghost use Rattle.net_core.specs.Value.{Env, value, apply, apply_unary};
+ghost use Rattle.net_core.specs.Value.{Env, value, apply_unary};
 
 use crate::comparing::shortest;
 use crate::flags::is_flag;
 use net_core::build::unary;
-use net_core::tree::{Expr, Net, Op, UnaryOp};
+use net_core::net_trees::copying::copied;
+use net_core::tree::{Expr, Net, UnaryOp};
+use net_rules::logic_rules::opposite;
 use std::alloc::{AllocError, Global};
 
-// The comparison that holds where another one does not.
-fn opposite(op: Op) -> Option<Op>
-    ensures { IfSome result (λ other. (a b : Word) → apply other a b ≡ apply_unary prefix.Not (apply op a b)) }
-{
-    match op {
-        Op::Equal => Some(Op::NotEqual),
-        Op::NotEqual => Some(Op::Equal),
-        Op::Less => Some(Op::GreaterEqual),
-        Op::LessEqual => Some(Op::Greater),
-        Op::Greater => Some(Op::LessEqual),
-        Op::GreaterEqual => Some(Op::Less),
-        _ => None,
-    }
-}
-
-/// Whether an operator before an operand that has one itself needs no place.
-pub(crate) fn vanishes(op: UnaryOp, a: &Expr<Net>) -> bool {
+// Whether an operator before an operand that has one itself needs no place.
+fn vanishes(op: UnaryOp, a: &Expr<Net>) -> bool {
     match op {
         UnaryOp::ReduceOr => is_flag(a),
         UnaryOp::Not => match a {
@@ -97,12 +83,29 @@ fn turned_twice(alloc: Global, a: Expr<Net>) -> Result<Expr<Net>, AllocError>
     }
 }
 
-/// An operator before an operand.
-pub(crate) fn prefixed(alloc: Global, op: UnaryOp, a: Expr<Net>) -> Result<Expr<Net>, AllocError>
+// An operator before an operand.
+fn prefixed(alloc: Global, op: UnaryOp, a: Expr<Net>) -> Result<Expr<Net>, AllocError>
     ensures { IfOk result (λ r. (v : Env Net) → value v (tree_of r) ≡ apply_unary op (value v (tree_of a))) }
 {
     match op {
         UnaryOp::ReduceOr => reduced(alloc, a),
         UnaryOp::Not => turned(alloc, a),
     }
+}
+
+/// An operator before an operand, or before the former one, which has the same value, where this one begins with a prefix operator: none
+/// stands before another one.
+pub(crate) fn prefixed_of(
+    alloc: Global,
+    op: UnaryOp,
+    a: Result<Expr<Net>, AllocError>,
+    former: &Expr<Net>,
+) -> Result<Expr<Net>, AllocError>
+    ensures { (v : Env Net) → IfOk a (λ e. value v (tree_of e) ≡ value v (tree_of former.now)) → IfOk result (λ r. value v (tree_of r) ≡ apply_unary op (value v (tree_of former.now))) }
+{
+    let a = a?;
+    if matches!(a, Expr::Unary(..)) && !vanishes(op, &a) {
+        return prefixed(alloc, op, copied(alloc, former)?);
+    }
+    prefixed(alloc, op, a)
 }

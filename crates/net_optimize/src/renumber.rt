@@ -3,12 +3,14 @@
 ghost use Rattle.std.specs.Prelude.{◌≡◌, ◌<◌, ◌++◌, IfOk, length, map};
 ghost use Rattle.std.proofs.Common.{get_or};
 ghost use Rattle.net_core.specs.View.{tree_of, trees_of, right_of, statement_of, statements_of};
-ghost use Rattle.net_core.specs.Nets.{SBlock, SEnd, SSet};
+ghost use Rattle.net_core.specs.Nets.{Tree, StatementTree, StatementTrees, SBlock, SEnd};
 ghost use Rattle.block_core.specs.Rename.{rename, rename_parts, rename_right};
-ghost use Rattle.net_optimize.specs.Renumber.{numbers as new_numbers, numbers_of, renumber, renumber_statement, renumber_statements, is_idle, busy, dropped};
+ghost use Rattle.net_optimize.specs.Renumber.{numbers as new_numbers, numbers_of, renumber, renumber_statement, renumber_statements, is_idle, busy, dropped, set_kept, when, when_else};
 
-use net_core::build::{self, binary, block, conditional, memory_word, unary, when, when_else};
+use crate::making::store_of;
+use net_core::build::{self, block, when, when_else};
 use net_core::tree::{Expr, Net, Parts, Right, Stmt, Stmts};
+use net_rules::building::{binary_of, concatenation_of, conditional_of, memory_word_of, unary_of};
 use std::alloc::{AllocError, Global};
 
 // The number of what is dropped: no design has a wire or a register of this number.
@@ -77,27 +79,21 @@ pub(crate) fn renumbered_expr(
             Ok(Expr::PartSelect(renumbered_net(*n, numbers), *high, *low))
         }
         Expr::MemoryWord(m, i) => {
-            let index = renumbered_expr(alloc, i, numbers)?;
-            memory_word(alloc, renumbered_net(*m, numbers), index)
+            let m = renumbered_net(*m, numbers);
+            memory_word_of(alloc, m, renumbered_expr(alloc, i, numbers))
         }
-        Expr::Unary(op, a) => {
-            let a = renumbered_expr(alloc, a, numbers)?;
-            unary(alloc, *op, a)
-        }
+        Expr::Unary(op, a) => unary_of(alloc, *op, renumbered_expr(alloc, a, numbers)),
         Expr::Binary(op, a, b) => {
-            let a = renumbered_expr(alloc, a, numbers)?;
-            let b = renumbered_expr(alloc, b, numbers)?;
-            binary(alloc, *op, a, b)
+            let a = renumbered_expr(alloc, a, numbers);
+            binary_of(alloc, *op, a, renumbered_expr(alloc, b, numbers))
         }
         Expr::Conditional(c, a, b) => {
-            let c = renumbered_expr(alloc, c, numbers)?;
-            let a = renumbered_expr(alloc, a, numbers)?;
-            let b = renumbered_expr(alloc, b, numbers)?;
-            conditional(alloc, c, a, b)
+            let c = renumbered_expr(alloc, c, numbers);
+            let a = renumbered_expr(alloc, a, numbers);
+            conditional_of(alloc, c, a, renumbered_expr(alloc, b, numbers))
         }
         Expr::Concatenation(parts) => {
-            let parts = renumbered_parts(alloc, parts, numbers)?;
-            Ok(Expr::Concatenation(Box::new(alloc, parts)?))
+            concatenation_of(alloc, renumbered_parts(alloc, parts, numbers))
         }
     }
 }
@@ -175,19 +171,60 @@ pub(crate) fn push_busy(all: &mut Vec<Stmt<Net>>, stmt: Stmt<Net>) -> Result<(),
 }
 
 // A register is set by its new number, if it is kept.
-fn renumbered_set(
+fn set_kept_of(
     alloc: Global,
-    register: u32,
-    e: &Expr<Net>,
-    numbers: &Numbering,
+    number: u32,
+    e: Result<Expr<Net>, AllocError>,
 ) -> Result<Stmt<Net>, AllocError>
-    ensures { IfOk result (λ r. statement_of r ≡ renumber_statement (numbers_of numbers.now) (SSet register (tree_of e.now))) }
+    ensures { (x : Tree Net) → IfOk e (λ a. tree_of a ≡ x) → IfOk result (λ r. statement_of r ≡ set_kept number x) }
 {
-    let number = new_number(&numbers.registers, register);
+    let e = e?;
     if number == DROPPED {
         return idle(alloc);
     }
-    Ok(Stmt::Set(number, renumbered_expr(alloc, e, numbers)?))
+    Ok(Stmt::Set(number, e))
+}
+
+// A statement under a condition, if it does something.
+fn when_of(
+    alloc: Global,
+    c: Result<Expr<Net>, AllocError>,
+    a: Result<Stmt<Net>, AllocError>,
+) -> Result<Stmt<Net>, AllocError>
+    ensures { (x : Tree Net) (y : StatementTree Net) → IfOk c (λ e. tree_of e ≡ x) → IfOk a (λ b. statement_of b ≡ y) → IfOk result (λ r. statement_of r ≡ when x y) }
+{
+    let c = c?;
+    let a = a?;
+    if is_idle(&a) {
+        return Ok(a);
+    }
+    when(alloc, c, a)
+}
+
+// The first statement where the condition is 1, else the second, if one of these does something.
+fn when_else_of(
+    alloc: Global,
+    c: Result<Expr<Net>, AllocError>,
+    a: Result<Stmt<Net>, AllocError>,
+    b: Result<Stmt<Net>, AllocError>,
+) -> Result<Stmt<Net>, AllocError>
+    ensures { (x : Tree Net) (y z : StatementTree Net) → IfOk c (λ e. tree_of e ≡ x) → IfOk a (λ d. statement_of d ≡ y) → IfOk b (λ d. statement_of d ≡ z) → IfOk result (λ r. statement_of r ≡ when_else x y z) }
+{
+    let c = c?;
+    let a = a?;
+    let b = b?;
+    if is_idle(&a) && is_idle(&b) {
+        return Ok(a);
+    }
+    when_else(alloc, c, a, b)
+}
+
+// Statements as one.
+fn block_of(alloc: Global, more: Result<Stmts<Net>, AllocError>) -> Result<Stmt<Net>, AllocError>
+    ensures { (x : StatementTrees Net) → IfOk more (λ l. statements_of l ≡ x) → IfOk result (λ r. statement_of r ≡ SBlock x) }
+{
+    let more = more?;
+    block(alloc, more)
 }
 
 /// A statement by the new numbers, without what sets registers that are dropped.
@@ -200,32 +237,23 @@ pub(crate) fn renumbered_stmt(
     ensures { IfOk result (λ r. statement_of r ≡ renumber_statement (numbers_of numbers.now) (statement_of stmt.now)) }
 {
     match stmt {
-        Stmt::Block(more) => {
-            let more = renumbered_stmts(alloc, more, numbers)?;
-            block(alloc, more)
-        }
+        Stmt::Block(more) => block_of(alloc, renumbered_stmts(alloc, more, numbers)),
         Stmt::If(c, a) => {
-            let a = renumbered_stmt(alloc, a, numbers)?;
-            if is_idle(&a) {
-                return Ok(a);
-            }
-            let c = renumbered_expr(alloc, c, numbers)?;
-            when(alloc, c, a)
+            let c = renumbered_expr(alloc, c, numbers);
+            when_of(alloc, c, renumbered_stmt(alloc, a, numbers))
         }
         Stmt::IfElse(c, a, b) => {
-            let a = renumbered_stmt(alloc, a, numbers)?;
-            let b = renumbered_stmt(alloc, b, numbers)?;
-            if is_idle(&a) && is_idle(&b) {
-                return Ok(a);
-            }
-            let c = renumbered_expr(alloc, c, numbers)?;
-            when_else(alloc, c, a, b)
+            let c = renumbered_expr(alloc, c, numbers);
+            let a = renumbered_stmt(alloc, a, numbers);
+            when_else_of(alloc, c, a, renumbered_stmt(alloc, b, numbers))
         }
-        Stmt::Set(k, e) => renumbered_set(alloc, *k, e, numbers),
-        Stmt::Store(k, i, e) => {
-            let i = renumbered_expr(alloc, i, numbers)?;
-            let e = renumbered_expr(alloc, e, numbers)?;
-            Ok(Stmt::Store(*k, i, e))
+        Stmt::Set(k, e) => {
+            let number = new_number(&numbers.registers, *k);
+            set_kept_of(alloc, number, renumbered_expr(alloc, e, numbers))
+        }
+        Stmt::Store(m, i, e) => {
+            let i = renumbered_expr(alloc, i, numbers);
+            store_of(*m, i, renumbered_expr(alloc, e, numbers))
         }
     }
 }

@@ -10,7 +10,7 @@ ghost use Rattle.net_optimize.specs.Folding.{AreKnown, AreSameAssigns, AreSameSe
 ghost use Rattle.net_optimize.specs.Lists.{joined_done};
 
 use crate::folding::{folded, folded_stmt, with_folded};
-use crate::joining::{Joined, closed, none, with_statement};
+use crate::joining::{Joined, closed, none, with_statement_of};
 use crate::reads::live_reads;
 use crate::wires::folded_wires;
 use net_core::design::{Assign, Wire};
@@ -61,12 +61,10 @@ fn with_block(
     list: Joined,
     stmt: &Stmt<Net>,
 ) -> Result<Joined, AllocError>
-    ensures { IfOk result (λ r. (v : Env Net) (s : Stored) → AreKnown v known.now → joined_done v r s ≡ done v (statement_of stmt.now) (joined_done v list s)) }
+    ensures { (v : Env Net) (s : Stored) → AreKnown v known.now → IfOk result (λ r. joined_done v r s ≡ done v (statement_of stmt.now) (joined_done v list s)) }
 {
     if let Stmt::Block(_) = stmt {
-        let same = folded_stmt(alloc, known, stmt)?;
-        let whole = with_statement(alloc, list, same)?;
-        return Ok(whole);
+        return with_statement_of(alloc, list, folded_stmt(alloc, known, stmt));
     }
     with_folded(alloc, known, list, stmt)
 }

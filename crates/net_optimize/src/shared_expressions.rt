@@ -7,4 +7,4 @@ mod sharing;
 mod statements;
 mod table;
 
-pub use sharing::shared;
+pub(crate) use sharing::shared;

@@ -1,6 +1,6 @@
 //! Expressions from their parts, where what is known of these makes them shorter.
 
-ghost use Rattle.std.specs.Prelude.{◌≡◌, true, IfOk};
+ghost use Rattle.std.specs.Prelude.{◌≡◌, true, IfOk, IfSome};
 ghost use Rattle.net_core.specs.declared.tree.Net.{Net};
 ghost use Rattle.net_core.specs.declared.tree.Word.{Word};
 ghost use Rattle.net_core.specs.Nets.{TConst};
@@ -23,7 +23,7 @@ pub(crate) fn read(
     known: &[Option<Expr<Net>>],
     n: Net,
 ) -> Result<Expr<Net>, AllocError>
-    ensures { IfOk result (λ r. (v : Env Net) → AreKnown v known.now → value v (tree_of r) ≡ v.net n) }
+    ensures { (v : Env Net) → AreKnown v known.now → IfOk result (λ r. value v (tree_of r) ≡ v.net n) }
 {
     if let Net::Wire(i) = n
         && let Some(Some(e)) = known.get(i as usize)
@@ -56,18 +56,8 @@ pub(crate) fn select(known: &[Option<Expr<Net>>], n: Net, high: u8, low: u8) -> 
     Expr::PartSelect(n, high, low)
 }
 
-/// Whether an expression begins with a prefix operator.
-pub(crate) fn is_prefixed(e: &Expr<Net>) -> bool {
-    matches!(e, Expr::Unary(..))
-}
-
-/// An operator between two operands.
-pub(crate) fn joined(
-    alloc: Global,
-    op: Op,
-    a: Expr<Net>,
-    b: Expr<Net>,
-) -> Result<Expr<Net>, AllocError>
+// An operator between two operands.
+fn joined(alloc: Global, op: Op, a: Expr<Net>, b: Expr<Net>) -> Result<Expr<Net>, AllocError>
     ensures { IfOk result (λ r. (v : Env Net) → value v (tree_of r) ≡ apply op (value v (tree_of a)) (value v (tree_of b))) }
 {
     if let (Op::Or, Expr::Const(word)) = (op, &b)
@@ -79,6 +69,20 @@ pub(crate) fn joined(
         return Ok(shorter);
     }
     binary(alloc, op, a, b)
+}
+
+/// The same, where making the operands may have failed.
+pub(crate) fn joined_of(
+    alloc: Global,
+    op: Op,
+    a: Result<Expr<Net>, AllocError>,
+    b: Result<Expr<Net>, AllocError>,
+) -> Result<Expr<Net>, AllocError>
+    ensures { (v : Env Net) (x y : Word) → IfOk a (λ e. value v (tree_of e) ≡ x) → IfOk b (λ e. value v (tree_of e) ≡ y) → IfOk result (λ r. value v (tree_of r) ≡ apply op x y) }
+{
+    let a = a?;
+    let b = b?;
+    joined(alloc, op, a, b)
 }
 
 // What an expression is where a condition holds.
@@ -121,25 +125,36 @@ fn is_bit(e: &Expr<Net>, bit: u64) -> bool
     }
 }
 
-/// The first of two expressions where the condition is 1, else the second.
-pub(crate) fn chosen(
-    alloc: Global,
-    condition: Expr<Net>,
-    a: Expr<Net>,
-    b: Expr<Net>,
-) -> Result<Expr<Net>, AllocError>
-    ensures { IfOk result (λ r. (v : Env Net) → value v (tree_of r) ≡ net.conditional (value v (tree_of condition)) (value v (tree_of a)) (value v (tree_of b))) }
+// Which of a condition and two expressions the choice between these is, if it is one.
+fn taken<'a>(c: &'a Expr<Net>, a: &'a Expr<Net>, b: &'a Expr<Net>) -> Option<&'a Expr<Net>>
+    ensures { IfSome result (λ r. (v : Env Net) → value v (tree_of r.now) ≡ net.conditional (value v (tree_of c.now)) (value v (tree_of a.now)) (value v (tree_of b.now))) }
 {
-    if let Expr::Const(word) = condition {
-        return Ok(if word.value == 0 { b } else { a });
+    if let Expr::Const(word) = c {
+        return Some(if word.value == 0 { b } else { a });
     }
-    let a = where_true(&condition, a);
-    let b = where_false(&condition, b);
-    if is_same(&a, &b) {
-        return Ok(a);
+    if is_same(a, b) {
+        return Some(a);
     }
-    if is_bit(&a, 1) && is_bit(&b, 0) && is_flag(&condition) {
-        return Ok(condition);
+    if is_bit(a, 1) && is_bit(b, 0) && is_flag(c) {
+        return Some(c);
     }
-    conditional(alloc, condition, a, b)
+    None
+}
+
+/// The first of two expressions where the condition is 1, else the second.
+pub(crate) fn chosen_of(
+    alloc: Global,
+    c: Result<Expr<Net>, AllocError>,
+    a: Result<Expr<Net>, AllocError>,
+    b: Result<Expr<Net>, AllocError>,
+) -> Result<Expr<Net>, AllocError>
+    ensures { (v : Env Net) (x y z : Word) → IfOk c (λ e. value v (tree_of e) ≡ x) → IfOk a (λ e. value v (tree_of e) ≡ y) → IfOk b (λ e. value v (tree_of e) ≡ z) → IfOk result (λ r. value v (tree_of r) ≡ net.conditional x y z) }
+{
+    let c = c?;
+    let a = where_true(&c, a?);
+    let b = where_false(&c, b?);
+    if let Some(whole) = taken(&c, &a, &b) {
+        return copied(alloc, whole);
+    }
+    conditional(alloc, c, a, b)
 }

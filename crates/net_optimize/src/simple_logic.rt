@@ -6,4 +6,4 @@ mod simplifying;
 mod statements;
 mod wires;
 
-pub use simplifying::simplified_design;
+pub(crate) use simplifying::simpler;

@@ -1,4 +1,5 @@
 pub mod CountLaws
 pub mod WireLemmas
 pub mod StayLemmas
-pub mod SpanLemmas
+pub mod SettingLaws
+pub mod ListLaws

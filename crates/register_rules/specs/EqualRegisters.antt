@@ -1,4 +1,3 @@
 pub mod Equal
 pub mod Alike
-pub mod Setting
-pub mod Spans
+pub mod Settings

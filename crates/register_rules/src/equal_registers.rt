@@ -4,9 +4,9 @@ mod alike;
 mod finding;
 mod guessing;
 mod mark;
+mod readers;
 mod repeating;
-mod setting;
-mod spans;
+mod settings;
 mod wires;
 
 pub use finding::equal_registers;

@@ -13,4 +13,4 @@ mod widening;
 mod words;
 mod zeros;
 
-pub use storing::narrowed;
+pub use storing::narrower;

@@ -1,5 +1,5 @@
 -- A design of which expressions have become wires shows what it showed.
-use Rattle.std.specs.Prelude.{◌≡◌, ℕ, zero, suc, ◌<◌, ◌≤◌, true, is_ok, Option, Some, None, List, [], ◌∷◌, length, map as map_list}
+use Rattle.std.specs.Prelude.{◌≡◌, ℕ, zero, suc, ◌<◌, ◌≤◌, None, List, [], ◌∷◌, length, map as map_list}
 use Rattle.std.proofs.Common.{get_or, refl, sym, ap, ◌∙◌, arith}
 use Rattle.std.proofs.lemmas.List.{length-map}
 use Rattle.net_core.specs.declared.tree.Word.{Word}
@@ -7,17 +7,13 @@ use Rattle.net_core.specs.declared.design.Declared.{Declared}
 use Rattle.net_core.specs.Nets.{Netlist}
 use Rattle.net_core.specs.Value.{nothing}
 use Rattle.net_core.specs.Clock.{Stored, env, with_wires, edge, assigned, first_words, first_memories, rights, stopped_at, stopping, shown, after}
-use Rattle.design_rules.specs.declared.formed.NetError.{NetError}
-use Rattle.design_rules.specs.Formed.{IsWellFormed, result_of}
 use Rattle.net_core.specs.SameClocks.Same.{ShowTheSame, Follows}
 use Rattle.net_core.proofs.SameClocks.SameLaws.{followers_show_the_same}
-use Rattle.design_rules.proofs.SolvedWires.SolvingLaws.{clocks_solve_wires, wires_have_one_solution}
+use Rattle.design_rules.proofs.SolvedWires.SolvingLaws.{solved, unique}
 use Rattle.net_optimize.specs.SharedExpressions.Standing.{Stand, IsShared}
+use Rattle.net_optimize.specs.Reading.{ReadsWhatIsThere}
+use Rattle.net_optimize.proofs.ReadingLemmas.{known_rights}
 use Rattle.net_optimize.proofs.SharedExpressions.ListLemmas.{assigned_shown, placed_counted, solves_placed, none_stops, none_stopped}
-
-pub no_fault : (fault : Option NetError) → is_ok (result_of fault) ≡ true → fault ≡ None
-no_fault None h = refl
-no_fault (Some f) h = absurd (cc)
 
 picked_at : (f : ℕ → Word) (ns : List ℕ) (i : ℕ) → i < length ns → f (get_or ns i 0) ≡ get_or (map_list f ns) i nothing
 picked_at f [] i l = absurd (omega arith)
@@ -32,7 +28,7 @@ past_end (w ∷ ws) (suc i) l = past_end ws i (omega (arith, l))
 abbrev firsts : List Declared → Stored
 firsts ds = record { registers = first_words ds; memories = first_memories ds }
 
-module _ (a b : Netlist) (formed : IsWellFormed a) (formed_too : IsWellFormed b) (k : IsShared a b) where
+module _ (a b : Netlist) (formed : ReadsWhatIsThere a) (formed_too : ReadsWhatIsThere b) (k : IsShared a b) where
   module _ (ins : List Word) (s : Stored) where
     abbrev ws : List Word
     ws = with_wires ins s [] b.wires
@@ -53,14 +49,15 @@ module _ (a b : Netlist) (formed : IsWellFormed a) (formed_too : IsWellFormed b)
       memories = λ i. refl;
       memories_before = λ i. refl;
       words = λ m i. refl;
-      solved = clocks_solve_wires b formed_too ins s;
+      solved = solved b ins s 0 [] b.wires refl (known_rights b formed_too);
     }
 
     are_old : with_wires ins s [] a.wires ≡ old
     are_old =
         let p = k.placed (env ins s ws) (env ins s old) stand in
-        wires_have_one_solution a formed ins s old (counted ∙ placed_counted (env ins s ws) (env ins s old) k.numbers a.wires p)
+        unique a ins s 0 [] old a.wires refl (known_rights a formed)
         (solves_placed (env ins s ws) (env ins s old) 0 k.numbers a.wires (λ i l. stand.placed i l ∙ ap (λ n. get_or old n nothing) (omega arith)) p)
+        (counted ∙ placed_counted (env ins s ws) (env ins s old) k.numbers a.wires p)
 
     shows : (port : ℕ) → shown b ins s port ≡ shown a ins s port
     shows port =

@@ -1,5 +1,5 @@
 -- A design of the same nets whose expressions have the same values shows the same.
-use Rattle.std.specs.Prelude.{◌≡◌, ℕ, true, is_ok, Option, Some, None, List, [], ◌∷◌}
+use Rattle.std.specs.Prelude.{◌≡◌, ℕ, List, [], ◌∷◌}
 use Rattle.std.proofs.Common.{refl, ap, ◌∙◌, arith}
 use Rattle.net_core.specs.declared.tree.Word.{Word}
 use Rattle.net_core.specs.declared.tree.Net.{Net}
@@ -11,23 +11,19 @@ use Rattle.net_core.specs.Value.{Env}
 use Rattle.net_core.specs.Clock.{Stored, first_stored, first_words, first_memories, env, with_wires, edge, assigned, rights, stopped_at, stopping, shown, after}
 use Rattle.net_core.specs.Ports.{words_of}
 use Rattle.net_core.specs.Trace.{stored_after}
-use Rattle.design_rules.specs.declared.formed.NetError.{NetError}
-use Rattle.design_rules.specs.Formed.{IsWellFormed, result_of}
 use Rattle.net_core.specs.SameClocks.Same.{reached, ShowTheSame}
-use Rattle.design_rules.proofs.SolvedWires.SolvingLaws.{clocks_solve_wires, wires_have_one_solution, wires_counted}
+use Rattle.design_rules.proofs.SolvedWires.SolvingLaws.{solved, unique, wires_counted}
 use Rattle.net_rules.specs.NetSizes.Fitting.{AreFitting}
 use Rattle.net_rules.specs.NetSizes.Staying.{HaveSizes, StaySized, PortsHaveSizes}
 use Rattle.net_optimize.specs.SimpleLogic.Simple.{registers_alone, IsSameWire, AreSized, IsSimplified}
+use Rattle.net_optimize.specs.Reading.{ReadsWhatIsThere}
+use Rattle.net_optimize.proofs.ReadingLemmas.{known_rights}
 use Rattle.net_optimize.proofs.SimpleLogic.ListLemmas.{each_counted, assigned_same, solves_same, stops_same}
-
-pub no_fault : (fault : Option NetError) → is_ok (result_of fault) ≡ true → fault ≡ None
-no_fault None h = refl
-no_fault (Some f) h = absurd (cc)
 
 abbrev firsts : List Declared → Stored
 firsts ds = record { registers = first_words ds; memories = first_memories ds }
 
-module _ (sizes : List ℕ) (a b : Netlist) (formed : IsWellFormed a) (formed_too : IsWellFormed b) (ports : PortsHaveSizes) (stay : StaySized a sizes) (k : IsSimplified sizes a b) where
+module _ (sizes : List ℕ) (a b : Netlist) (formed : ReadsWhatIsThere a) (formed_too : ReadsWhatIsThere b) (ports : PortsHaveSizes) (stay : StaySized a sizes) (k : IsSimplified sizes a b) where
   module _ (i : Inputs) (s : Stored) (have : HaveSizes sizes s) where
     abbrev ins : List Word
     ins = words_of i
@@ -45,13 +41,13 @@ module _ (sizes : List ℕ) (a b : Netlist) (formed : IsWellFormed a) (formed_to
     fit (Wire w) = λ z. absurd (omega arith)
 
     sized : AreSized a sizes v
-    sized = record { fit = fit; solve = clocks_solve_wires a formed ins s }
+    sized = record { fit = fit; solve = solved a ins s 0 [] a.wires refl (known_rights a formed) }
 
     -- its wires have the same values
     are_same : with_wires ins s [] b.wires ≡ ws
     are_same =
-        wires_have_one_solution b formed_too ins s ws (wires_counted a ins s a.wires ∙ each_counted (IsSameWire v) a.wires b.wires (k.wires v sized))
-        (solves_same v 0 a.wires b.wires sized.solve (k.wires v sized))
+        unique b ins s 0 [] ws b.wires refl (known_rights b formed_too) (solves_same v 0 a.wires b.wires sized.solve (k.wires v sized))
+        (wires_counted a ins s a.wires ∙ each_counted (IsSameWire v) a.wires b.wires (k.wires v sized))
 
     shows : (port : ℕ) → shown b ins s port ≡ shown a ins s port
     shows port = ap (λ xs. assigned (env ins s xs) b.assigns port) are_same ∙ assigned_same v a.assigns b.assigns (k.assigns v sized) port

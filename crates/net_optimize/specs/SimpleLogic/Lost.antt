@@ -1,5 +1,6 @@
 -- Statements that leave nothing of what a register held before them.
-use Rattle.std.specs.Prelude.{◌≡◌, ℕ, slice_set}
+use Rattle.std.specs.Prelude.{◌≡◌, ℕ, true, List, nat_eq, slice_set}
+use Rattle.std.specs.List.{list_any}
 use Rattle.net_core.specs.declared.tree.Word.{Word}
 use Rattle.net_core.specs.declared.tree.Net.{Net}
 use Rattle.net_core.specs.Nets.{StatementTrees}
@@ -14,3 +15,7 @@ pub record AgreeBut (k : ℕ) (s t : Stored) : Type 0 where
 -- after these statements all is the same whatever this register held
 abbrev pub Overwrites : StatementTrees Net → ℕ → Type 0
 Overwrites more k = (v : Env Net) (s t : Stored) → AgreeBut k s t → all_done v more s ≡ all_done v more t
+
+-- so it is with each of these registers
+abbrev pub AreOverwritten : StatementTrees Net → List ℕ → Type 0
+AreOverwritten more registers = (k : ℕ) → list_any (nat_eq k) registers ≡ true → Overwrites more k

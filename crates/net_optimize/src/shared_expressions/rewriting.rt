@@ -11,11 +11,12 @@ ghost use Rattle.net_optimize.specs.SharedExpressions.Standing.{Stand};
 
 use crate::shared_expressions::counting::is_operator;
 use crate::shared_expressions::table::Table;
-use net_core::build::{binary, conditional, memory_word, parts, unary};
+use net_core::build::parts;
 use net_core::design::Wire;
 use net_core::net_trees::equal::is_same;
 use net_core::net_trees::mark::mark;
 use net_core::tree::{Expr, Net, Parts, Right};
+use net_rules::building::{binary_of, concatenation_of, conditional_of, memory_word_of, unary_of};
 use std::alloc::{AllocError, Global};
 
 // A net by its new number.
@@ -67,7 +68,7 @@ pub(crate) fn inside(
     limit: usize,
     e: &Expr<Net>,
 ) -> Result<Expr<Net>, AllocError>
-    ensures { IfOk result (λ r. (v u : Env Net) → Stand table.now.numbers.items (map wire_of table.now.wires.items) v u → value v (tree_of r) ≡ value u (tree_of e.now)) }
+    ensures { (v u : Env Net) → Stand table.now.numbers.items (map wire_of table.now.wires.items) v u → IfOk result (λ r. value v (tree_of r) ≡ value u (tree_of e.now)) }
 {
     match e {
         Expr::Const(word) => Ok(Expr::Const(*word)),
@@ -77,28 +78,19 @@ pub(crate) fn inside(
             let net = renumbered(&table.numbers, *n);
             Ok(Expr::PartSelect(net, *high, *low))
         }
-        Expr::MemoryWord(m, i) => {
-            let index = rewritten(alloc, table, limit, i)?;
-            memory_word(alloc, *m, index)
-        }
-        Expr::Unary(op, a) => {
-            let a = rewritten(alloc, table, limit, a)?;
-            unary(alloc, *op, a)
-        }
+        Expr::MemoryWord(m, i) => memory_word_of(alloc, *m, rewritten(alloc, table, limit, i)),
+        Expr::Unary(op, a) => unary_of(alloc, *op, rewritten(alloc, table, limit, a)),
         Expr::Binary(op, a, b) => {
-            let a = rewritten(alloc, table, limit, a)?;
-            let b = rewritten(alloc, table, limit, b)?;
-            binary(alloc, *op, a, b)
+            let a = rewritten(alloc, table, limit, a);
+            binary_of(alloc, *op, a, rewritten(alloc, table, limit, b))
         }
         Expr::Conditional(c, a, b) => {
-            let c = rewritten(alloc, table, limit, c)?;
-            let a = rewritten(alloc, table, limit, a)?;
-            let b = rewritten(alloc, table, limit, b)?;
-            conditional(alloc, c, a, b)
+            let c = rewritten(alloc, table, limit, c);
+            let a = rewritten(alloc, table, limit, a);
+            conditional_of(alloc, c, a, rewritten(alloc, table, limit, b))
         }
         Expr::Concatenation(all) => {
-            let all = rewritten_parts(alloc, table, limit, all)?;
-            Ok(Expr::Concatenation(Box::new(alloc, all)?))
+            concatenation_of(alloc, rewritten_parts(alloc, table, limit, all))
         }
     }
 }
@@ -111,7 +103,7 @@ pub(crate) fn rewritten(
     limit: usize,
     e: &Expr<Net>,
 ) -> Result<Expr<Net>, AllocError>
-    ensures { IfOk result (λ r. (v u : Env Net) → Stand table.now.numbers.items (map wire_of table.now.wires.items) v u → value v (tree_of r) ≡ value u (tree_of e.now)) }
+    ensures { (v u : Env Net) → Stand table.now.numbers.items (map wire_of table.now.wires.items) v u → IfOk result (λ r. value v (tree_of r) ≡ value u (tree_of e.now)) }
 {
     let same = inside(alloc, table, limit, e)?;
     Ok(shared(table, limit, same))
@@ -125,7 +117,7 @@ fn rewritten_parts(
     limit: usize,
     all: &Parts<Net>,
 ) -> Result<Parts<Net>, AllocError>
-    ensures { IfOk result (λ r. (v u : Env Net) → Stand table.now.numbers.items (map wire_of table.now.wires.items) v u → concatenated_parts v (trees_of r) ≡ concatenated_parts u (trees_of all.now)) }
+    ensures { (v u : Env Net) → Stand table.now.numbers.items (map wire_of table.now.wires.items) v u → IfOk result (λ r. concatenated_parts v (trees_of r) ≡ concatenated_parts u (trees_of all.now)) }
 {
     let mut prefix = Vec::new(alloc);
     let mut left = all;
@@ -136,7 +128,8 @@ fn rewritten_parts(
     match left {
         Parts::Last(last) => {
             let last = rewritten(alloc, table, limit, last)?;
-            parts(alloc, prefix, last)
+            let whole = parts(alloc, prefix, last)?;
+            Ok(whole)
         }
         Parts::More(..) => unreachable!(),
     }

@@ -7,9 +7,9 @@ ghost use Rattle.net_core.specs.Value.{Env};
 ghost use Rattle.net_core.specs.Clock.{Stored, done, all_done, edge};
 ghost use Rattle.net_optimize.specs.SharedExpressions.Standing.{Stand, AreShown};
 
+use crate::making::{block_of, set_of, store_of, when_else_of, when_of};
 use crate::shared_expressions::rewriting::rewritten;
 use crate::shared_expressions::table::Table;
-use net_core::build::{block, statements, when, when_else};
 use net_core::design::Assign;
 use net_core::tree::{Net, Stmt, Stmts};
 use std::alloc::{AllocError, Global};
@@ -36,31 +36,24 @@ pub(crate) fn rewritten_assigns(
 // A statement that does the same.
 #[cycle(statements)]
 fn rewritten_stmt(alloc: Global, table: &Table, stmt: &Stmt<Net>) -> Result<Stmt<Net>, AllocError>
-    ensures { IfOk result (λ r. (v u : Env Net) (s : Stored) → Stand table.now.numbers.items (map wire_of table.now.wires.items) v u → done v (statement_of r) s ≡ done u (statement_of stmt.now) s) }
+    ensures { (v u : Env Net) (s : Stored) → Stand table.now.numbers.items (map wire_of table.now.wires.items) v u → IfOk result (λ r. done v (statement_of r) s ≡ done u (statement_of stmt.now) s) }
 {
+    let limit = table.wires.len();
     match stmt {
-        Stmt::Block(more) => {
-            let all = rewritten_stmts(alloc, table, more)?;
-            let all = statements(alloc, all)?;
-            let whole = block(alloc, all)?;
-            Ok(whole)
-        }
+        Stmt::Block(more) => block_of(alloc, rewritten_stmts(alloc, table, more)),
         Stmt::If(c, a) => {
-            let c = rewritten(alloc, table, table.wires.len(), c)?;
-            let a = rewritten_stmt(alloc, table, a)?;
-            when(alloc, c, a)
+            let c = rewritten(alloc, table, limit, c);
+            when_of(alloc, c, rewritten_stmt(alloc, table, a))
         }
         Stmt::IfElse(c, a, b) => {
-            let c = rewritten(alloc, table, table.wires.len(), c)?;
-            let a = rewritten_stmt(alloc, table, a)?;
-            let b = rewritten_stmt(alloc, table, b)?;
-            when_else(alloc, c, a, b)
+            let c = rewritten(alloc, table, limit, c);
+            let a = rewritten_stmt(alloc, table, a);
+            when_else_of(alloc, c, a, rewritten_stmt(alloc, table, b))
         }
-        Stmt::Set(k, e) => Ok(Stmt::Set(*k, rewritten(alloc, table, table.wires.len(), e)?)),
-        Stmt::Store(k, i, e) => {
-            let i = rewritten(alloc, table, table.wires.len(), i)?;
-            let e = rewritten(alloc, table, table.wires.len(), e)?;
-            Ok(Stmt::Store(*k, i, e))
+        Stmt::Set(k, e) => set_of(*k, rewritten(alloc, table, limit, e)),
+        Stmt::Store(m, i, e) => {
+            let i = rewritten(alloc, table, limit, i);
+            store_of(*m, i, rewritten(alloc, table, limit, e))
         }
     }
 }
@@ -72,7 +65,7 @@ fn rewritten_stmts(
     table: &Table,
     stmts: &Stmts<Net>,
 ) -> Result<Vec<Stmt<Net>>, AllocError>
-    ensures { IfOk result (λ r. (v u : Env Net) (s : Stored) → Stand table.now.numbers.items (map wire_of table.now.wires.items) v u → edge v (map statement_of r.items) s ≡ all_done u (statements_of stmts.now) s) }
+    ensures { (v u : Env Net) (s : Stored) → Stand table.now.numbers.items (map wire_of table.now.wires.items) v u → IfOk result (λ r. edge v (map statement_of r.items) s ≡ all_done u (statements_of stmts.now) s) }
 {
     let mut all = Vec::new(alloc);
     let mut left = stmts;

@@ -122,8 +122,8 @@ pub(crate) fn table_of(
         if let Right::Plain(e) = &wire.right {
             table.add_operands(alloc, design, counts, e)?;
         }
-        let right = rewritten_right(alloc, &table, table.wires.len(), &wire.right)?;
         table.numbers.push(number(table.wires.len()))?;
+        let right = rewritten_right(alloc, &table, table.wires.len(), &wire.right)?;
         table.push(wire.width, right)?;
     }
     for e in behind_wires(alloc, design)? {

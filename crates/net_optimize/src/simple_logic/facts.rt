@@ -4,14 +4,13 @@ ghost use Rattle.std.specs.Prelude.{◌≡◌, IfOk};
 ghost use Rattle.net_core.specs.declared.tree.Net.{Net};
 ghost use Rattle.net_core.specs.View.{tree_of, right_of};
 ghost use Rattle.net_core.specs.Value.{Env, value, right_value};
-ghost use Rattle.net_rules.specs.NetSizes.Fitting.{AreFitting, Fits, sizes_of};
 ghost use Rattle.net_rules.specs.LogicRules.Known.{IsValued};
 ghost use Rattle.net_optimize.specs.SimpleLogic.Simple.{Hold, IsSameRight};
 
 use net_core::net_trees::copying::copied;
 use net_core::tree::{Expr, Net, Right};
 use net_rules::logic_rules::simplified;
-use net_rules::net_sizes::{Sizes, expr_size};
+use net_rules::net_sizes::Sizes;
 use std::alloc::{AllocError, Global};
 
 /// How many bits nets have, and which expressions wires are.
@@ -23,9 +22,10 @@ pub(crate) struct Facts {
 
 /// An expression of the same value.
 pub(crate) fn simple(alloc: Global, facts: &Facts, e: &Expr<Net>) -> Result<Expr<Net>, AllocError>
-    ensures { IfOk result (λ r. (v : Env Net) → Hold facts.now v → value v (tree_of r) ≡ value v (tree_of e.now)) }
+    ensures { (v : Env Net) → Hold facts.now v → IfOk result (λ r. value v (tree_of r) ≡ value v (tree_of e.now)) }
 {
-    simplified(alloc, &facts.sizes, &facts.known, e)
+    let whole = simplified(alloc, &facts.sizes, &facts.known, e)?;
+    Ok(whole)
 }
 
 /// A right side of the same value.
@@ -40,16 +40,6 @@ pub(crate) fn simple_right(
         Right::Plain(e) => Ok(Right::Plain(simple(alloc, facts, e)?)),
         Right::Quotient(a, b) => Ok(Right::Quotient(*a, *b)),
         Right::Remainder(a, b) => Ok(Right::Remainder(*a, *b)),
-    }
-}
-
-/// How many bits a right side has, or 0 where it is not known.
-pub(crate) fn right_size(sizes: &Sizes, right: &Right<Net>) -> u8
-    ensures { (v : Env Net) → AreFitting (sizes_of sizes.now) v → Fits result (right_value v (right_of right.now)) }
-{
-    match right {
-        Right::Plain(e) => expr_size(sizes, e),
-        Right::Quotient(..) | Right::Remainder(..) => 0,
     }
 }
 

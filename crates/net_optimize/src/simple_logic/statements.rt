@@ -2,14 +2,16 @@
 
 ghost use Rattle.std.specs.Prelude.{◌≡◌, ◌==◌, if◌then◌else◌, IfOk, map};
 ghost use Rattle.net_core.specs.declared.tree.Net.{Net};
+ghost use Rattle.net_core.specs.declared.tree.Word.{Word};
 ghost use Rattle.net_core.specs.View.{assign_of, statement_of, statements_of, tree_of};
 ghost use Rattle.net_core.specs.Value.{Env, value};
 ghost use Rattle.net_core.specs.Clock.{Stored, done, all_done, edge};
 ghost use Rattle.net_optimize.specs.SimpleLogic.Simple.{Each, Hold, IsSameAssign};
 
+use crate::making::{set_of, store_of, when_else_of};
 use crate::simple_logic::facts::{Facts, simple};
 use crate::simple_logic::lost_sets::without_lost;
-use net_core::build::{block, when, when_else};
+use net_core::build::{block, when};
 use net_core::design::Assign;
 use net_core::tree::{Expr, Net, Stmt, Stmts};
 use std::alloc::{AllocError, Global};
@@ -34,9 +36,15 @@ pub(crate) fn simple_assigns(
 }
 
 // A statement under a condition. Under a constant it is the statement itself, or nothing.
-fn under(alloc: Global, condition: Expr<Net>, stmt: Stmt<Net>) -> Result<Stmt<Net>, AllocError>
-    ensures { IfOk result (λ r. (v : Env Net) (s : Stored) → done v (statement_of r) s ≡ (if (value v (tree_of condition)).value == 0 then s else done v (statement_of stmt) s)) }
+fn under(
+    alloc: Global,
+    condition: Result<Expr<Net>, AllocError>,
+    stmt: Result<Stmt<Net>, AllocError>,
+) -> Result<Stmt<Net>, AllocError>
+    ensures { (v : Env Net) (x : Word) (s t : Stored) → IfOk condition (λ e. value v (tree_of e) ≡ x) → IfOk stmt (λ a. done v (statement_of a) s ≡ t) → IfOk result (λ r. done v (statement_of r) s ≡ (if x.value == 0 then s else t)) }
 {
+    let condition = condition?;
+    let stmt = stmt?;
     if let Expr::Const(word) = condition {
         if word.value == 0 {
             return block(alloc, Stmts::End);
@@ -46,34 +54,34 @@ fn under(alloc: Global, condition: Expr<Net>, stmt: Stmt<Net>) -> Result<Stmt<Ne
     when(alloc, condition, stmt)
 }
 
+// Statements without those that are lost, as one.
+fn block_of(alloc: Global, all: Result<Vec<Stmt<Net>>, AllocError>) -> Result<Stmt<Net>, AllocError>
+    ensures { (v : Env Net) (s t : Stored) → IfOk all (λ xs. edge v (map statement_of xs.items) s ≡ t) → IfOk result (λ r. done v (statement_of r) s ≡ t) }
+{
+    let all = without_lost(alloc, all?)?;
+    block(alloc, all)
+}
+
 // A statement that does the same.
 #[cycle(statements)]
 fn simple_stmt(alloc: Global, facts: &Facts, stmt: &Stmt<Net>) -> Result<Stmt<Net>, AllocError>
-    ensures { IfOk result (λ r. (v : Env Net) (s : Stored) → Hold facts.now v → done v (statement_of r) s ≡ done v (statement_of stmt.now) s) }
+    ensures { (v : Env Net) (s : Stored) → Hold facts.now v → IfOk result (λ r. done v (statement_of r) s ≡ done v (statement_of stmt.now) s) }
 {
     match stmt {
-        Stmt::Block(more) => {
-            let all = simple_stmts(alloc, facts, more)?;
-            let all = without_lost(alloc, all)?;
-            let whole = block(alloc, all)?;
-            Ok(whole)
-        }
+        Stmt::Block(more) => block_of(alloc, simple_stmts(alloc, facts, more)),
         Stmt::If(c, a) => {
-            let c = simple(alloc, facts, c)?;
-            let a = simple_stmt(alloc, facts, a)?;
-            under(alloc, c, a)
+            let c = simple(alloc, facts, c);
+            under(alloc, c, simple_stmt(alloc, facts, a))
         }
         Stmt::IfElse(c, a, b) => {
-            let c = simple(alloc, facts, c)?;
-            let a = simple_stmt(alloc, facts, a)?;
-            let b = simple_stmt(alloc, facts, b)?;
-            when_else(alloc, c, a, b)
+            let c = simple(alloc, facts, c);
+            let a = simple_stmt(alloc, facts, a);
+            when_else_of(alloc, c, a, simple_stmt(alloc, facts, b))
         }
-        Stmt::Set(k, e) => Ok(Stmt::Set(*k, simple(alloc, facts, e)?)),
-        Stmt::Store(k, i, e) => {
-            let i = simple(alloc, facts, i)?;
-            let e = simple(alloc, facts, e)?;
-            Ok(Stmt::Store(*k, i, e))
+        Stmt::Set(k, e) => set_of(*k, simple(alloc, facts, e)),
+        Stmt::Store(m, i, e) => {
+            let i = simple(alloc, facts, i);
+            store_of(*m, i, simple(alloc, facts, e))
         }
     }
 }
@@ -85,7 +93,7 @@ fn simple_stmts(
     facts: &Facts,
     stmts: &Stmts<Net>,
 ) -> Result<Vec<Stmt<Net>>, AllocError>
-    ensures { IfOk result (λ r. (v : Env Net) (s : Stored) → Hold facts.now v → edge v (map statement_of r.items) s ≡ all_done v (statements_of stmts.now) s) }
+    ensures { (v : Env Net) (s : Stored) → Hold facts.now v → IfOk result (λ r. edge v (map statement_of r.items) s ≡ all_done v (statements_of stmts.now) s) }
 {
     let mut all = Vec::new(alloc);
     let mut left = stmts;

@@ -8,9 +8,9 @@ ghost use Rattle.net_rules.specs.NetSizes.Fitting.{AreFitting};
 ghost use Rattle.design_rules.specs.SolvedWires.Solving.{Solves};
 ghost use Rattle.net_optimize.specs.SimpleLogic.Simple.{Each, Hold, IsSameWire, registers_alone};
 
-use crate::simple_logic::facts::{Facts, right_size, seen_through, simple_right};
+use crate::simple_logic::facts::{Facts, seen_through, simple_right};
 use net_core::design::Wire;
-use net_rules::net_sizes::Sizes;
+use net_rules::net_sizes::{Sizes, right_size};
 use std::alloc::{AllocError, Global};
 
 /// Wires, and what is known of all nets.

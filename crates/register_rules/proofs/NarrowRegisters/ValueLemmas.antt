@@ -2,7 +2,7 @@
 use Rattle.std.specs.Prelude.{◌≡◌, ℕ, ◌+◌, ◌*◌, ◌^◌}
 use Rattle.std.proofs.Common.{ap, ◌∙◌, arith, zero-add}
 use Rattle.net_core.specs.declared.tree.Word.{Word}
-use Rattle.net_core.specs.Value.{word, value, concatenated}
+use Rattle.net_core.specs.Value.{word, concatenated}
 use Rattle.register_rules.specs.NarrowRegisters.Narrow.{widened}
 
 pub widened_by_none : (w : Word) → widened 0 w ≡ w

@@ -6,7 +6,7 @@ ghost use Rattle.register_rules.specs.EqualRegisters.Equal.{StayEqual};
 
 use crate::equal_registers::guessing::guessed;
 use crate::equal_registers::repeating::{declared_words, unlike};
-use crate::equal_registers::spans::spans;
+use crate::equal_registers::settings::listed;
 use crate::equal_registers::wires::equal_wires;
 use net_core::design::Design;
 use std::alloc::{AllocError, Global};
@@ -31,18 +31,12 @@ pub fn equal_registers(alloc: Global, design: &Design) -> Result<Vec<u32>, Alloc
     if words.len() >= u32::MAX as usize || design.wires.len() >= u32::MAX as usize {
         return Ok(Vec::new(alloc));
     }
-    let spans = spans(alloc, &design.always)?;
-    let mut guess = guessed(alloc, design, &words)?;
+    let count = words.len();
+    let lists = listed(alloc, &design.always, count)?;
+    let mut guess = guessed(alloc, design, &words, &lists)?;
     for _ in 0..ROUNDS {
         let wires = equal_wires(alloc, &design.wires, &guess.registers, &guess.wires)?;
-        let others = unlike(
-            alloc,
-            &words,
-            &guess.registers,
-            &wires,
-            &design.always,
-            &spans,
-        )?;
+        let others = unlike(alloc, &words, &guess.registers, &wires, &lists)?;
         if others.is_empty() {
             return Ok(guess.registers);
         }

@@ -1,7 +1,8 @@
 //! Numbers by which what registers are set to is told apart: those of equal values are equal, as far as is known which registers are equal.
 
 use crate::equal_registers::alike::first;
-use net_core::tree::{Expr, Net, Parts, Right, Stmt, Stmts};
+use crate::equal_registers::settings::Setting;
+use net_core::tree::{Expr, Net, Parts, Right};
 
 /// The class of each register, and the marks of wires.
 #[derive(Clone, Copy)]
@@ -75,61 +76,12 @@ pub(crate) fn right_mark(known: Known, right: &Right<Net>) -> u64 {
     }
 }
 
-/// What statements set registers to.
-#[derive(Drop)]
-pub(crate) struct Sets<'a> {
-    /// How many statements with parts have begun or ended.
-    pub(crate) place: u64,
-    /// The mark of all that each register is set to.
-    pub(crate) marks: &'a mut [u64],
-}
-
-impl Sets<'_> {
-    /// Keeps the statements after this place apart from those before it: what stands on both sides is not tested together.
-    pub(crate) fn part(&mut self) {
-        self.place = self.place.wrapping_add(1);
+/// The mark of a class, and of what one of its registers is set to and where.
+pub(crate) fn set_mark(known: Known, class: u32, list: &[Setting]) -> u64 {
+    let mut all = u64::from(class);
+    for setting in list {
+        let place = mixed(16, setting.place as u64);
+        all = mixed(all, mixed(place, mark(known, setting.value)));
     }
-
-    fn set(&mut self, r: u32, value: u64) {
-        let place = self.place;
-        if let Some(all) = self.marks.get_mut(r as usize) {
-            *all = mixed(*all, mixed(mixed(16, place), value));
-        }
-    }
-
-    /// Adds what a statement sets.
-    #[cycle(sets)]
-    pub(crate) fn add(&mut self, known: Known, stmt: &Stmt<Net>) {
-        match stmt {
-            Stmt::Block(more) => {
-                self.part();
-                self.add_all(known, more);
-                self.part();
-            }
-            Stmt::If(_, a) => {
-                self.part();
-                self.add(known, a);
-                self.part();
-            }
-            Stmt::IfElse(_, a, b) => {
-                self.part();
-                self.add(known, a);
-                self.part();
-                self.add(known, b);
-                self.part();
-            }
-            Stmt::Set(r, e) => self.set(*r, mark(known, e)),
-            Stmt::Store(..) => {}
-        }
-    }
-
-    // Without a recursion over the statements: there may be any number.
-    #[cycle(sets)]
-    fn add_all(&mut self, known: Known, stmts: &Stmts<Net>) {
-        let mut left = stmts;
-        while let Stmts::Then(stmt, more) = left {
-            self.add(known, stmt);
-            left = more;
-        }
-    }
+    all
 }

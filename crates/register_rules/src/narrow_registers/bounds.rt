@@ -1,6 +1,5 @@
 //! How many low bits of registers and wires have to stay, since they are read apart, and how often each is read.
 
-use crate::narrow_registers::zeros::Zeros;
 use net_core::design::{Declared, Design};
 use net_core::tree::{Expr, Net, Parts, Right, Stmt, Stmts};
 use std::alloc::{AllocError, Global};
@@ -8,51 +7,95 @@ use std::alloc::{AllocError, Global};
 /// How often a net of fewer bits is read whole at most: each time it is read after zeros.
 const MOST_READS: u8 = 8;
 
-/// Of each register and each wire how many low bits have to stay, and how often it is read whole and in part.
-#[derive(Drop)]
-pub(crate) struct Needs {
-    pub(crate) kept: Zeros,
-    reads: Zeros,
-    selects: Zeros,
+/// Of a net how many low bits have to stay, and how often it is read whole and in part.
+#[derive(Clone, Copy)]
+struct Need {
+    kept: u8,
+    reads: u8,
+    selects: u8,
 }
 
-// One more.
-fn count(counts: &mut Zeros, n: Net) {
-    if let Some(count) = counts.of_mut(n) {
-        *count = count.saturating_add(1);
-    }
+const NOTHING: Need = Need {
+    kept: 0,
+    reads: 0,
+    selects: 0,
+};
+
+/// What each register and each wire needs.
+#[derive(Drop)]
+pub(crate) struct Needs {
+    registers: Vec<Need>,
+    wires: Vec<Need>,
 }
 
 impl Needs {
+    fn of(&self, n: Net) -> Need {
+        let found = match n {
+            Net::Register(k) => self.registers.get(k as usize),
+            Net::Wire(k) => self.wires.get(k as usize),
+            Net::Port(_) | Net::Memory(_) => None,
+        };
+        found.copied().unwrap_or(NOTHING)
+    }
+
+    fn of_mut(&mut self, n: Net) -> Option<&mut Need> {
+        match n {
+            Net::Register(k) => self.registers.get_mut(k as usize),
+            Net::Wire(k) => self.wires.get_mut(k as usize),
+            Net::Port(_) | Net::Memory(_) => None,
+        }
+    }
+
     // At least so many bits of a net stay.
     fn keep(&mut self, n: Net, bits: u8) {
-        if let Some(kept) = self.kept.of_mut(n) {
-            *kept = (*kept).max(bits);
+        if let Some(need) = self.of_mut(n) {
+            need.kept = need.kept.max(bits);
         }
+    }
+
+    // A net is read whole once more.
+    fn read(&mut self, n: Net) {
+        if let Some(need) = self.of_mut(n) {
+            need.reads = need.reads.saturating_add(1);
+        }
+    }
+
+    // A net is read in part once more.
+    fn select(&mut self, n: Net) {
+        if let Some(need) = self.of_mut(n) {
+            need.selects = need.selects.saturating_add(1);
+        }
+    }
+
+    /// How many low bits of a net are read apart.
+    pub(crate) fn kept(&self, n: Net) -> u8 {
+        self.of(n).kept
     }
 
     /// How many low bits of a net stay: all, where it is read too often.
     pub(crate) fn bits(&self, n: Net) -> u8 {
-        if self.reads.of(n) > MOST_READS {
+        let need = self.of(n);
+        if need.reads > MOST_READS {
             return u8::MAX;
         }
-        self.kept.of(n)
+        need.kept
     }
 
     /// How often a net is read.
     pub(crate) fn all_reads(&self, n: Net) -> u8 {
-        self.reads.of(n).saturating_add(self.selects.of(n))
+        let need = self.of(n);
+        need.reads.saturating_add(need.selects)
     }
 
     #[cycle(bound_expressions)]
     fn bound_expr(&mut self, e: &Expr<Net>) {
         match e {
             Expr::Const(_) => {}
-            Expr::Read(n) => count(&mut self.reads, *n),
+            Expr::Read(n) => self.read(*n),
             // A net of one bit has no selects.
             Expr::Bit(n, high) | Expr::PartSelect(n, high, _) => {
                 self.keep(*n, high.saturating_add(1).max(2));
-                count(&mut self.selects, *n);
+                self.select(*n);
             }
             Expr::MemoryWord(_, a) | Expr::Unary(_, a) => self.bound_expr(a),
             Expr::Binary(_, a, b) => {
@@ -129,31 +172,29 @@ impl Needs {
     }
 }
 
-// A number for each register and each wire: 0.
-fn nothing(alloc: Global, design: &Design) -> Result<Zeros, AllocError> {
-    let mut registers = Vec::new(alloc);
-    for declared in &design.declared {
-        if let Declared::Register(_) = declared {
-            registers.push(0)?;
+fn registers_of(declared: &[Declared]) -> usize {
+    let mut all: usize = 0;
+    for item in declared {
+        if let Declared::Register(_) = item {
+            all = all.saturating_add(1);
         }
     }
-    let mut wires = Vec::new(alloc);
-    for _ in &design.wires {
-        wires.push(0)?;
+    all
+}
+
+fn nothing(alloc: Global, count: usize) -> Result<Vec<Need>, AllocError> {
+    let mut all = Vec::new(alloc);
+    for _ in 0..count {
+        all.push(NOTHING)?;
     }
-    Ok(Zeros { registers, wires })
+    Ok(all)
 }
 
 /// What the reads of a design need.
 pub(crate) fn bounds(alloc: Global, design: &Design) -> Result<Needs, AllocError> {
-    let kept = nothing(alloc, design)?;
-    let reads = nothing(alloc, design)?;
-    let selects = nothing(alloc, design)?;
-    let mut all = Needs {
-        kept,
-        reads,
-        selects,
-    };
+    let registers = nothing(alloc, registers_of(&design.declared))?;
+    let wires = nothing(alloc, design.wires.len())?;
+    let mut all = Needs { registers, wires };
     for wire in &design.wires {
         all.bound_right(&wire.right);
     }

@@ -144,7 +144,7 @@ fn first_held(alloc: Global, design: &Design, needs: &Needs) -> Result<Held, All
     let mut at = 0;
     for declared in &design.declared {
         if let Declared::Register(word) = declared {
-            let is_free = needs.kept.of(Net::Register(at)) < MOST_BITS;
+            let is_free = needs.kept(Net::Register(at)) < MOST_BITS;
             codes.push(if is_free {
                 Code::Choice(*word, *word)
             } else {
@@ -156,13 +156,13 @@ fn first_held(alloc: Global, design: &Design, needs: &Needs) -> Result<Held, All
     Ok(Held { codes })
 }
 
-/// Codes of zeros alone.
-pub(crate) fn zero_codes(alloc: Global, zeros: &[u8]) -> Result<Vec<Code>, AllocError> {
+// Codes of zeros alone.
+fn zero_codes(alloc: Global, zeros: &[u8]) -> Result<Vec<Code>, AllocError> {
     zeros.iter().map(|z| Code::Zeros(*z)).collect(alloc)
 }
 
-/// A code for each register of a design: of one or two words where it always holds one of these, else of its zeros.
-pub(crate) fn choices(
+// A code for each register of a design: of one or two words where it always holds one of these, else of its zeros.
+fn choices(
     alloc: Global,
     design: &Design,
     needs: &Needs,
@@ -184,4 +184,18 @@ pub(crate) fn choices(
         })?;
     }
     Ok(codes)
+}
+
+/// A code for each register of a design: of its zeros, or of one or two words where it always holds one of these and that is asked for.
+pub(crate) fn chosen_codes(
+    alloc: Global,
+    design: &Design,
+    needs: &Needs,
+    zeros: &[u8],
+    to_bits: bool,
+) -> Result<Vec<Code>, AllocError> {
+    if to_bits {
+        return choices(alloc, design, needs, zeros);
+    }
+    zero_codes(alloc, zeros)
 }

@@ -1,16 +1,14 @@
 //! A design of narrower registers.
 
-ghost use Rattle.std.specs.Prelude.{◌≡◌, [], IfOk, IfSome, IsTrue, map};
+ghost use Rattle.std.specs.Prelude.{◌≡◌, [], IfOk, IfSome, map};
 ghost use Rattle.net_core.specs.View.{netlist_of, wire_of, assign_of, statement_of};
 ghost use Rattle.net_core.specs.Clock.{first_words, first_memories};
-ghost use Rattle.design_rules.specs.Formed.{IsWellFormed};
-ghost use Rattle.net_core.specs.ProductRules.Products.{no_product_chains};
 ghost use Rattle.net_core.specs.SameClocks.Same.{ShowTheSame};
 ghost use Rattle.register_rules.specs.NarrowRegisters.Narrow.{AreNarrowedWords, IsNarrowedItem, Each, AreNarrowedWires, IsSameAssign, IsSameStatement, coding_of};
 
 use crate::narrow_registers::assigning::narrow_stmt;
 use crate::narrow_registers::bounds::bounds;
-use crate::narrow_registers::choices::{choices, zero_codes};
+use crate::narrow_registers::choices::chosen_codes;
 use crate::narrow_registers::choosing::high_zeros;
 use crate::narrow_registers::codes::{Code, Codes, code_at};
 use crate::narrow_registers::encoding::encoded_word;
@@ -18,9 +16,7 @@ use crate::narrow_registers::narrowing::narrow_right;
 use crate::narrow_registers::stop::Stop;
 use crate::narrow_registers::widening::wide;
 use crate::narrow_registers::zeros::number_at;
-use design_rules::formed::well_formed;
 use net_core::design::{Assign, Declared, Design, Wire};
-use net_core::product_rules::has_no_product_chains;
 use net_core::tree::{Net, Stmt};
 use std::alloc::{AllocError, Global};
 
@@ -130,12 +126,7 @@ fn copied_names(alloc: Global, names: &[String]) -> Result<Vec<String>, AllocErr
 }
 
 // A design that shows the same, in which registers have these codes and wires lose so many high bits.
-fn narrower(
-    alloc: Global,
-    design: &Design,
-    registers: Vec<Code>,
-    lost: &[u8],
-) -> Result<Design, Stop>
+fn stored(alloc: Global, design: &Design, registers: Vec<Code>, lost: &[u8]) -> Result<Design, Stop>
     ensures { IfOk result (λ d. ShowTheSame (netlist_of design.now) (netlist_of d)) }
 {
     let names = copied_names(alloc, &design.names)?;
@@ -154,49 +145,18 @@ fn narrower(
     })
 }
 
-// The same, if it breaks no rule.
-fn formed(
-    alloc: Global,
-    design: &Design,
-    registers: Vec<Code>,
-    lost: &[u8],
-) -> Result<Option<Design>, AllocError>
-    ensures same { IfOk result (λ n. IfSome n (λ d. ShowTheSame (netlist_of design.now) (netlist_of d))) }
-    ensures formed { IfOk result (λ n. IfSome n (λ d. IsWellFormed (netlist_of d))) }
-    ensures apart { IfOk result (λ n. IfSome n (λ d. IsTrue (no_product_chains (netlist_of d)))) }
+/// A design that shows the same, with narrower registers and wires, if these fit: one whose high bits are always 0 is declared without
+/// them, and read after as many zeros. If `to_bits` holds, a register that always holds one of two words is declared as one bit, and one
+/// that always holds one word is not read. Registers and wires keep their numbers and names. Whether it keeps all rules is not tested.
+pub fn narrower(alloc: Global, design: &Design, to_bits: bool) -> Result<Option<Design>, AllocError>
+    ensures { IfOk result (λ n. IfSome n (λ d. ShowTheSame (netlist_of design.now) (netlist_of d))) }
 {
-    match narrower(alloc, design, registers, lost) {
-        Ok(next) => {
-            if well_formed(&next).is_ok() && has_no_product_chains(alloc, &next)? {
-                return Ok(Some(next));
-            }
-            Ok(None)
-        }
+    let needs = bounds(alloc, design)?;
+    let zeros = high_zeros(alloc, design, &needs)?;
+    let codes = chosen_codes(alloc, design, &needs, &zeros.registers, to_bits)?;
+    match stored(alloc, design, codes, &zeros.wires) {
+        Ok(next) => Ok(Some(next)),
         Err(Stop::Wide) => Ok(None),
         Err(Stop::NoMemory) => Err(AllocError),
     }
-}
-
-/// A design that shows the same, with narrower registers and wires: one whose high bits are always 0 is declared without them, and read
-/// after as many zeros. A register that always holds one of two words is declared as one bit, and one that always holds one word is not
-/// read. Registers and wires keep their numbers and names. Where this were to break a rule, registers lose zeros alone; where that, too,
-/// were to break one, the design stays as it is.
-pub fn narrowed(alloc: Global, design: Design) -> Result<Design, AllocError>
-    requires formed { IsWellFormed (netlist_of design) }
-    requires apart { IsTrue (no_product_chains (netlist_of design)) }
-    ensures same { IfOk result (λ d. ShowTheSame (netlist_of design) (netlist_of d)) }
-    ensures formed { IfOk result (λ d. IsWellFormed (netlist_of d)) }
-    ensures apart { IfOk result (λ d. IsTrue (no_product_chains (netlist_of d))) }
-{
-    let needs = bounds(alloc, &design)?;
-    let zeros = high_zeros(alloc, &design, &needs)?;
-    let codes = choices(alloc, &design, &needs, &zeros.registers)?;
-    if let Some(next) = formed(alloc, &design, codes, &zeros.wires)? {
-        return Ok(next);
-    }
-    let codes = zero_codes(alloc, &zeros.registers)?;
-    if let Some(next) = formed(alloc, &design, codes, &zeros.wires)? {
-        return Ok(next);
-    }
-    Ok(design)
 }

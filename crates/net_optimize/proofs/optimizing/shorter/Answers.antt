@@ -10,5 +10,5 @@ returns c formed formed_too =
     let short = c.in_ok-short.short in
     let one = length-map short.wires.items wire_of in
     let other = length-map c.args.design.now.wires.items wire_of in
-    show_the_same (netlist_of c.args.design.now) _ (sections_of short) c.in_ok-firsts.firsts.items formed formed_too c.in_ok-shorter.ensures
+    show_the_same (netlist_of c.args.design.now) _ (sections_of short) c.in_ok-firsts.firsts.items formed formed_too c.in_ok-next.ensures
     (one ∙ c.in_ok-short.ensures.count ∙ sym other) c.in_ok-short.ensures.same c.in_ok-firsts.ensures

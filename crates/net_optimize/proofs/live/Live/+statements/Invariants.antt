@@ -1,7 +1,0 @@
-use Rattle.std.proofs.Common.{◌≤◌}
-use Rattle.net_core.specs.declared.tree.Net.{Net}
-use Rattle.net_core.specs.declared.tree.Stmts.{size-Stmts}
-use Rattle.net_optimize.proofs.live.Live.+statements.Given as goal
-
-abbrev pub invariant-read_stmts-loop-left : goal.invariant-read_stmts-loop-left
-invariant-read_stmts-loop-left l = size-Stmts Net l.left ≤ size-Stmts Net l.fn.stmts

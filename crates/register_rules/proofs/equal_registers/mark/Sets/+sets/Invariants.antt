@@ -1,7 +1,0 @@
-use Rattle.std.proofs.Common.{◌≤◌}
-use Rattle.net_core.specs.declared.tree.Net.{Net}
-use Rattle.net_core.specs.declared.tree.Stmts.{size-Stmts}
-use Rattle.register_rules.proofs.equal_registers.mark.Sets.+sets.Given as goal
-
-abbrev pub invariant-add_all-loop-left : goal.invariant-add_all-loop-left
-invariant-add_all-loop-left l = size-Stmts Net l.left ≤ size-Stmts Net l.fn.stmts
