@@ -17,15 +17,11 @@ use Rattle.net_rules.specs.NetSizes.Fitting.{Fits, AreFitting}
 use Rattle.net_rules.specs.LogicRules.Known.{IsValued, AreKnown}
 use Rattle.design_rules.specs.SolvedWires.Solving.{Solves}
 use Rattle.design_rules.proofs.SolvedWires.SolvingLaws.{solved_at}
-use Rattle.net_optimize.specs.SimpleLogic.Simple.{IsSameWire, IsSameAssign, Each}
+use Rattle.register_rules.specs.NarrowRegisters.Narrow.{Each}
+use Rattle.register_rules.proofs.NarrowRegisters.EachLaws.{each_append}
+use Rattle.net_optimize.specs.SimpleLogic.Simple.{IsSameWire, IsSameAssign}
 
 -- ---- two lists, one longer
-each_append : {A : Type 0} (R : A → A → Type 0) (xs ys : List A) (x y : A) → Each R xs ys → R x y → Each R (xs ++ x ∷ []) (ys ++ y ∷ [])
-each_append R [] [] x y h e = (e, tt)
-each_append R [] (b ∷ bs) x y h e = absurd h
-each_append R (a ∷ rest) [] x y h e = absurd h
-each_append R (a ∷ rest) (b ∷ bs) x y h e = (h.0, each_append R rest bs x y h.1 e)
-
 -- what is pushed stands for the next one
 pub each_pushed : {A B : Type 0} (R : B → B → Type 0) (f : A → B) (before : List B) (old new : List A) (x : B) (y : A) (whole : List B) → whole ≡ before ++ x ∷ [] → new ≡ old ++ y ∷ [] → Each R before (map_list f old) → R x (f y)
     → Each R whole (map_list f new)

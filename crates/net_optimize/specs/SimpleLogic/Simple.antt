@@ -8,6 +8,7 @@ use Rattle.net_rules.specs.NetSizes.Fitting.{NetSizes, AreFitting, sizes_of}
 use Rattle.net_rules.specs.LogicRules.Known.{AreKnown}
 use Rattle.design_rules.specs.SolvedWires.Solving.{Solves}
 use Rattle.net_optimize.specs.declared.simple_logic.facts.Facts.{Facts}
+use Rattle.register_rules.specs.NarrowRegisters.Narrow.{Each}
 
 -- the sizes of registers, where nothing is known of wires
 abbrev pub registers_alone : List ℕ → NetSizes
@@ -29,13 +30,6 @@ IsSameWire v a b = IsSameRight v a.right b.right
 -- an output is shown the same
 abbrev pub IsSameAssign : Env Net → AssignTree → AssignTree → Type 0
 IsSameAssign v a b = (b.port ≡ a.port) × (value v b.value ≡ value v a.value)
-
--- of two lists, one by one
-abbrev pub Each : {A : Type 0} → (A → A → Type 0) → List A → List A → Type 0
-Each R [] [] = Unit {0}
-Each R [] (b ∷ more) = ⊥
-Each R (a ∷ rest) [] = ⊥
-Each R (a ∷ rest) (b ∷ more) = R a b × Each R rest more
 
 -- these values solve the wires of a design, whose registers and ports have their sizes
 pub record AreSized (d : Netlist) (sizes : List ℕ) (v : Env Net) : Type 0 where

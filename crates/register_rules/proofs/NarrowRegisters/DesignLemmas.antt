@@ -13,15 +13,10 @@ use Rattle.net_core.specs.SameClocks.Same.{ShowTheSame}
 use Rattle.net_core.proofs.SameClocks.SameLaws.{followers_show_the_same}
 use Rattle.register_rules.specs.declared.narrow_registers.codes.Code.{Code}
 use Rattle.register_rules.specs.NarrowRegisters.Narrow.{widened, decoded, Coding, code_of, AreNarrowed, IsNarrowed, IsNarrowedRight, AreNarrowedWires, IsSameAssign, IsSameStatement, Each}
+use Rattle.register_rules.proofs.NarrowRegisters.EachLaws.{each_append}
 use Rattle.register_rules.proofs.NarrowRegisters.ValueLemmas.{widened_by_none}
 
 -- ---- lists, one longer
-pub each_append : {A : Type 0} (R : A → A → Type 0) (xs ys : List A) (x y : A) → Each R xs ys → R x y → Each R (xs ++ x ∷ []) (ys ++ y ∷ [])
-each_append R [] [] x y h e = (e, tt)
-each_append R [] (b ∷ bs) x y h e = absurd h
-each_append R (a ∷ rest) [] x y h e = absurd h
-each_append R (a ∷ rest) (b ∷ bs) x y h e = (h.0, each_append R rest bs x y h.1 e)
-
 -- what is pushed stands for the next one
 pub each_pushed : {A B : Type 0} (R : B → B → Type 0) (f : A → B) (xs old new : List A) (x y : A) (whole : List B) → whole ≡ map_list f xs ++ f x ∷ [] → new ≡ old ++ y ∷ [] → Each R (map_list f xs) (map_list f old) → R (f x) (f y)
     → Each R whole (map_list f new)

@@ -4,7 +4,8 @@ use Rattle.net_core.specs.View.{wire_of}
 use Rattle.net_core.specs.Value.{Env}
 use Rattle.net_rules.specs.NetSizes.Fitting.{AreFitting}
 use Rattle.design_rules.specs.SolvedWires.Solving.{Solves}
-use Rattle.net_optimize.specs.SimpleLogic.Simple.{Each, Hold, IsSameWire, registers_alone}
+use Rattle.register_rules.specs.NarrowRegisters.Narrow.{Each}
+use Rattle.net_optimize.specs.SimpleLogic.Simple.{Hold, IsSameWire, registers_alone}
 use Rattle.net_optimize.proofs.simple_logic.wires.simple_wires.Given as goal
 
 abbrev pub invariant-loop-wire : goal.invariant-loop-wire

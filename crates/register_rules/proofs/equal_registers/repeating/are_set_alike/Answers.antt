@@ -2,7 +2,7 @@ use Rattle.std.proofs.Common.{◌∙◌, sym, ap, subst, map, take, ◌+◌, ari
 use Rattle.std.proofs.lemmas.List.{map_more, take_all}
 use Rattle.register_rules.specs.EqualRegisters.Settings.{setting_of, IsSetAlike}
 use Rattle.register_rules.specs.NarrowRegisters.Narrow.{Each}
-use Rattle.register_rules.proofs.NarrowRegisters.DesignLemmas.{each_append}
+use Rattle.register_rules.proofs.NarrowRegisters.EachLaws.{each_append}
 use Rattle.register_rules.proofs.equal_registers.repeating.are_set_alike.Goals as goal
 
 pub loop-i-preserved : goal.loop-i-preserved
