@@ -6,7 +6,8 @@ ghost use Rattle.net_core.specs.declared.tree.Word.{Word};
 ghost use Rattle.net_core.specs.View.{assign_of, statement_of, statements_of, tree_of};
 ghost use Rattle.net_core.specs.Value.{Env, value};
 ghost use Rattle.net_core.specs.Clock.{Stored, done, all_done, edge};
-ghost use Rattle.net_optimize.specs.SimpleLogic.Simple.{Each, Hold, IsSameAssign};
+ghost use Rattle.register_rules.specs.NarrowRegisters.Narrow.{Each};
+ghost use Rattle.net_optimize.specs.SimpleLogic.Simple.{Hold, IsSameAssign};
 
 use crate::making::{set_of, store_of, when_else_of};
 use crate::simple_logic::facts::{Facts, simple};

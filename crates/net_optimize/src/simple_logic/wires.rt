@@ -6,7 +6,8 @@ ghost use Rattle.net_core.specs.View.{wire_of};
 ghost use Rattle.net_core.specs.Value.{Env};
 ghost use Rattle.net_rules.specs.NetSizes.Fitting.{AreFitting};
 ghost use Rattle.design_rules.specs.SolvedWires.Solving.{Solves};
-ghost use Rattle.net_optimize.specs.SimpleLogic.Simple.{Each, Hold, IsSameWire, registers_alone};
+ghost use Rattle.register_rules.specs.NarrowRegisters.Narrow.{Each};
+ghost use Rattle.net_optimize.specs.SimpleLogic.Simple.{Hold, IsSameWire, registers_alone};
 
 use crate::simple_logic::facts::{Facts, seen_through, simple_right};
 use net_core::design::Wire;
