@@ -56,7 +56,7 @@ pub fn pending(map: u32) -> Span
     one(Location::PendingWrites(map))
 }
 
-/// The slots or the bytes of so many bytes from a pointer on; none of other kinds.
+/// The slots or the bytes of so many bytes from a pointer on, all that they may be from a place that is not known; none of other kinds.
 pub fn region(base: Kind, offset: i16, count: u32) -> Span
     ensures { result ≡ region base offset count }
 {
@@ -73,6 +73,14 @@ pub fn region(base: Kind, offset: i16, count: u32) -> Span
             Span {
                 from: FIRST_BYTE + at,
                 end: FIRST_BYTE + at + count as usize,
+            }
+        }
+        Kind::Var(base, f) => {
+            let low = i32::from(base.bounds.low) + i32::from(f) + i32::from(offset);
+            let high = i32::from(base.bounds.high) + i32::from(f) + i32::from(offset);
+            Span {
+                from: FIRST_BYTE + low.unsigned_abs() as usize,
+                end: FIRST_BYTE + high.unsigned_abs() as usize + count as usize,
             }
         }
         _ => NONE,
