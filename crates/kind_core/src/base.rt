@@ -1,6 +1,6 @@
 //! Places in the packet that are not known: a base, which the sum at a node gave, and a distance from it.
 
-ghost use Rattle.std.specs.Prelude.{◌≡◌, ◌+ℤ◌, ◌≤ℤ◌, pos, negsuc};
+ghost use Rattle.std.specs.Prelude.{◌≡◌, ◌+ℤ◌, ◌≤ℤ◌, int_le, pos, negsuc};
 ghost use Rattle.kind_core.specs.Bases.{in_window, bounds_in, base_from, base_sum, new_base, raised_base, same_base, joined_base};
 ghost use Rattle.kind_core.specs.Conditions.{base_test};
 ghost use Rattle.kind_core.specs.Places.{past_base};
@@ -52,6 +52,13 @@ fn bounds_in(low: i128, high: i128) -> Option<Bounds>
     }
 }
 
+// A place behind one at a distance from a bound of a base.
+fn place_behind(bound: u16, f: i16, n: u64) -> i128
+    ensures { result ≡ (pos bound +ℤ f) +ℤ pos n }
+{
+    i128::from(bound) + i128::from(f) + i128::from(n)
+}
+
 // Where a pointer into the packet and a number that is not known lead.
 fn base_from(kind: Kind, n: Number) -> Option<Bounds>
     ensures { result ≡ base_from kind n }
@@ -62,9 +69,9 @@ fn base_from(kind: Kind, n: Number) -> Option<Bounds>
             bounds_in(start + i128::from(lo), start + i128::from(hi))
         }
         (Kind::Var(base, f), Number::Between(lo, hi)) => {
-            let low = i128::from(base.bounds.low) + i128::from(f);
-            let high = i128::from(base.bounds.high) + i128::from(f);
-            bounds_in(low + i128::from(lo), high + i128::from(hi))
+            let low = place_behind(base.bounds.low, f, lo);
+            let high = place_behind(base.bounds.high, f, hi);
+            bounds_in(low, high)
         }
         _ => None,
     }
@@ -103,15 +110,33 @@ pub(crate) fn var_at(base: Base, z: i128) -> Result<Kind, Why>
     }
 }
 
+// A place at a distance from a bound of a base.
+fn place_at(bound: u16, z: i128) -> i128
+    requires least { negsuc 65535 ≤ℤ z }
+    requires most { z ≤ℤ pos 65536 }
+    ensures { result ≡ pos bound +ℤ z }
+{
+    i128::from(bound) + z
+}
+
+// Whether bytes at a distance from a base are checked.
+fn is_checked(base: Base, z: i128, n: usize) -> bool
+    requires least { negsuc 65535 ≤ℤ z }
+    requires most { z ≤ℤ pos 65536 }
+    ensures { result ≡ int_le (z +ℤ pos n) base.checked }
+{
+    z + n as i128 <= i128::from(base.checked)
+}
+
 /// Bytes at a distance from a base.
 pub(crate) fn past_base(base: Base, z: i128, n: usize) -> Result<Place, Why>
     requires least { negsuc 65535 ≤ℤ z }
     requires most { z ≤ℤ pos 65536 }
     ensures { result ≡ past_base base z n }
 {
-    within(i128::from(base.bounds.low) + z, 0, WINDOW)?;
-    within(i128::from(base.bounds.high) + z, n, WINDOW)?;
-    if z + n as i128 <= i128::from(base.checked) {
+    within(place_at(base.bounds.low, z), 0, WINDOW)?;
+    within(place_at(base.bounds.high, z), n, WINDOW)?;
+    if is_checked(base, z, n) {
         Ok(Place::InPacket)
     } else {
         Err(Why::Unchecked)

@@ -1,6 +1,6 @@
 // Arithmetic on kinds, pointers among them.
 
-ghost use Rattle.std.specs.Prelude.{◌≡◌, ◌^◌, ◌≤ℤ◌, ◌≤◌, pos, negsuc, IfOk, unsigned_abs};
+ghost use Rattle.std.specs.Prelude.{◌≡◌, ◌^◌, ◌+ℤ◌, ◌≤ℤ◌, ◌≤◌, pos, negsuc, IfOk, unsigned_abs};
 ghost use Rattle.kind_core.specs.Pointers.{distance, stack_at, moved, sum, less_number, less_packet, less_end, difference, copied, computed, combined};
 
 use crate::base::var_at;
@@ -38,6 +38,15 @@ fn stack_at(z: i128) -> Result<Kind, Why>
     }
 }
 
+// A distance from an end or a base, moved on or back.
+fn further(o: i16, z: i128) -> i128
+    requires least { negsuc (2 ^ 64) ≤ℤ z }
+    requires most { z ≤ℤ pos (2 ^ 64) }
+    ensures { result ≡ o +ℤ z }
+{
+    i128::from(o) + z
+}
+
 /// A pointer moved by a number, on or back.
 fn moved(decls: &[MapDecl], back: bool, kind: Kind, n: Number) -> Result<Kind, Why>
     ensures { result ≡ moved decls.now back kind n }
@@ -50,11 +59,11 @@ fn moved(decls: &[MapDecl], back: bool, kind: Kind, n: Number) -> Result<Kind, W
         }
         Kind::Var(base, f) => {
             let z = distance(back, n)?;
-            var_at(base, i128::from(f) + z)
+            var_at(base, further(f, z))
         }
         Kind::Stack(o) => {
             let z = distance(back, n)?;
-            stack_at(i128::from(o) + z)
+            stack_at(further(o, z))
         }
         Kind::Entry(q, o) => {
             let z = distance(back, n)?;
