@@ -2,6 +2,7 @@
 
 ghost use Rattle.std.specs.Prelude.{◌≡◌, ◌<◌, ◌≤◌, ◌+◌, ◌-◌, ◌^◌, ◌⊎◌, length, ℕ, pos, List, Some, Ok, IfOk, unsigned_abs};
 ghost use Rattle.std.specs.Ordering.{int_eq};
+ghost use Rattle.cell_core.specs.bpf_isa.declared.operation.Src.{Src};
 ghost use Rattle.cell_core.specs.xdp_maps.declared.decl.MapDecl.{MapDecl};
 ghost use Rattle.cell_core.specs.xdp_machine.Arithmetic.{low};
 ghost use Rattle.cell_core.specs.xdp_machine.Pointers as machine;
@@ -119,7 +120,7 @@ fn copied(
     ensures points { IfOk (kind.copied width count b) (λ x. IfOk result (λ c. MovesPointer b q x c)) }
 {
     match b {
-        Kind::Num(Number::Unknown) if width == Width::Bits64 && count == 0 => {
+        Kind::Num(Number::Between(_, _)) if width == Width::Bits64 && count == 0 => {
             let c = copy(cells, q)?;
             Ok(c)
         }
@@ -145,8 +146,8 @@ fn computed(
     requires formed { AreFormed (seen cells.old.items) }
     requires left { HasNumber (length (seen cells.old.items)) a p }
     requires right { HasNumber (length (seen cells.old.items)) b q }
-    ensures yields { (decls : List MapDecl) (ps : List PointerView) → IfOk (kind.computed width code signed a b) (λ x. IfOk result (λ c. Yields decls ps a p b q (seen cells.old.items) (seen cells.new.items) x c (λ s t. machine.computed width code signed s t))) }
-    ensures rows { (ps : List PointerView) → IfOk (kind.computed width code signed a b) (λ x. IfOk result (λ c. ValueTo (seen cells.old.items) (seen cells.new.items) ps x c (λ row. worked_row code b x (value_row row ps a p) (value_row row ps b q)))) }
+    ensures yields { (s : Src) (decls : List MapDecl) (ps : List PointerView) → IfOk (kind.computed width code signed s a b) (λ x. IfOk result (λ c. Yields decls ps a p b q (seen cells.old.items) (seen cells.new.items) x c (λ u t. machine.computed width code signed u t))) }
+    ensures rows { (s : Src) (ps : List PointerView) → IfOk (kind.computed width code signed s a b) (λ x. IfOk result (λ c. ValueTo (seen cells.old.items) (seen cells.new.items) ps x c (λ row. worked_row code b x (value_row row ps a p) (value_row row ps b q)))) }
 {
     match a {
         Kind::Num(x) => match b {
@@ -182,9 +183,9 @@ pub fn combined(
     requires left { HasNumber (length (seen cells.old.items)) a p }
     requires right { HasNumber (length (seen cells.old.items)) b q }
     requires offset { unsigned_abs offset ≤ 32 }
-    ensures yields { (decls : List MapDecl) (ps : List PointerView) → Counts decls (length (seen cells.old.items)) ps a p → Counts decls (length (seen cells.old.items)) ps b q → IfOk (kind.combined decls width code offset a b) (λ x. IfOk result (λ c. Yields decls ps a p b q (seen cells.old.items) (seen cells.new.items) x c (λ s t. machine.combined width code offset s t))) }
-    ensures rows { (decls : List MapDecl) (ps : List PointerView) → IfOk (kind.combined decls width code offset a b) (λ x. IfOk result (λ c. ValueTo (seen cells.old.items) (seen cells.new.items) ps x c (λ row. combined_row code b x (value_row row ps a p) (value_row row ps b q)))) }
-    ensures points { (decls : List MapDecl) → IfOk (kind.combined decls width code offset a b) (λ x. IfOk result (λ c. MovesEither a p b q x c)) }
+    ensures yields { (s : Src) (decls : List MapDecl) (ps : List PointerView) → Counts decls (length (seen cells.old.items)) ps a p → Counts decls (length (seen cells.old.items)) ps b q → IfOk (kind.combined decls width code offset s a b) (λ x. IfOk result (λ c. Yields decls ps a p b q (seen cells.old.items) (seen cells.new.items) x c (λ u t. machine.combined width code offset u t))) }
+    ensures rows { (s : Src) (decls : List MapDecl) (ps : List PointerView) → IfOk (kind.combined decls width code offset s a b) (λ x. IfOk result (λ c. ValueTo (seen cells.old.items) (seen cells.new.items) ps x c (λ row. combined_row code b x (value_row row ps a p) (value_row row ps b q)))) }
+    ensures points { (s : Src) (decls : List MapDecl) → IfOk (kind.combined decls width code offset s a b) (λ x. IfOk result (λ c. MovesEither a p b q x c)) }
 {
     let signed = is_signed(offset);
     match code {
