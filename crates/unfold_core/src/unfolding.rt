@@ -94,9 +94,10 @@ fn unfold_parts(alloc: Global, program: &Program, offsets: Offsets) -> Result<Un
     }
 }
 
-/// Unfolds a program, with offsets into the packet that may vary or not. Without want of memory a refusal comes exactly where the program is refused, and is the first one: the first place
-/// that its loops or its size refuse, else the first node, in unfolded order, that is refused: node 16,384, counted from 0, by `Size`
-/// before any test of its own, and each other one by the first test that it fails.
+/// Unfolds a program, with offsets into the packet that may vary or not. Without want of memory a refusal comes exactly where the
+/// program is refused, and is the first one: the first place that its loops or its size refuse, else the first node, in unfolded
+/// order, that is refused: node 16,384, counted from 0, by `Size` before any test of its own, and each other one by the first test
+/// that it fails.
 pub fn unfold(alloc: Global, program: &Program, offsets: Offsets) -> Result<Unfolded, BuildError>
     ensures unfolds { Unfolds offsets program.now result }
     ensures refused { (r : Refusal) → IsFirstRefusal offsets program.now r → IsErrOf result (BuildError.Refused r) ⊎ IsErrOf result BuildError.NoMemory }
