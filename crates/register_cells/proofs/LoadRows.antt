@@ -211,16 +211,17 @@ signed_to decls ps k old mid new base offset size p c last plain found signed =
     signed_found decls k base offset size _ plain (λ n e. from_one_to size n (subst (λ r. IfOk r (λ x. ValueTo old mid ps x p last)) e found) (signed n e))
 
 -- what holds of the number in a slot holds of a part of it
-of_part : (P : Number → Type 0) (size : Size) (at : ℕ) (i n : Number) → ((a b : ℕ) → P (Known a) → P (Known b)) → number_part size at i ≡ n → P i → P n
-of_part P size at (Known a) n known e h = subst P e (known a _ h)
-of_part P size at (Between lo hi) n known e h = subst P e h
+part_to : {mid new : List CellView} {ps : List PointerView} {c : ℕ} (p : ℕ) (size : Size) (at : ℕ) (i : Number) → ValueTo mid new ps (Num (number_extended Bits64 (8 * bytes_in size) i)) c (λ row. number_row row i p)
+    → ValueTo mid new ps (Num (number_extended Bits64 (8 * bytes_in size) (number_part size at i))) c (λ row. number_row row (number_part size at i) p)
+part_to p size at (Known a) v = record { grows = v.grows; value = v.value }
+part_to p size at (Between lo hi) v = record { grows = v.grows; value = v.value }
 
-of_slot : (P : Number → Type 0) (size : Size) (at : ℕ) (x : Kind) (n : Number) → ((a b : ℕ) → P (Known a) → P (Known b)) → kind.from_slot size at x ≡ Ok (Num n) → ((i : Number) → x ≡ Num i → P i) → P n
-of_slot P Dw at x n known e h = let f : x ≡ Num n = cc in h n f
-of_slot P B at (Num i) n known e h = let f : number_part B at i ≡ n = cc in of_part P B at i n known f (h i refl)
-of_slot P H at (Num i) n known e h = let f : number_part H at i ≡ n = cc in of_part P H at i n known f (h i refl)
-of_slot P W at (Num i) n known e h = let f : number_part W at i ≡ n = cc in of_part P W at i n known f (h i refl)
-of_slot P size at x n known e h = absurd cc
+of_slot : (P : Number → Type 0) (size : Size) (at : ℕ) (x : Kind) (n : Number) → ((i : Number) → P i → P (number_part size at i)) → kind.from_slot size at x ≡ Ok (Num n) → ((i : Number) → x ≡ Num i → P i) → P n
+of_slot P Dw at x n part e h = let f : x ≡ Num n = cc in h n f
+of_slot P B at (Num i) n part e h = let f : number_part B at i ≡ n = cc in subst P f (part i (h i refl))
+of_slot P H at (Num i) n part e h = let f : number_part H at i ≡ n = cc in subst P f (part i (h i refl))
+of_slot P W at (Num i) n part e h = let f : number_part W at i ≡ n = cc in subst P f (part i (h i refl))
+of_slot P size at x n part e h = absurd cc
 
 pub slot_signed : (decls : List MapDecl) (ps : List PointerView) (k : Kinds) (mid new : List CellView) (o offset : ℤ) (size : Size) (at p c : ℕ) → machine.in_stack (o +ℤ offset) (bytes_in size) ≡ Some at
     → ((i : Number) → get_or k.slots (at / 8) Unset ≡ Num i → ValueTo mid new ps (Num (number_extended Bits64 (8 * bytes_in size) i)) c (λ row. number_row row i p))
@@ -228,4 +229,4 @@ pub slot_signed : (decls : List MapDecl) (ps : List PointerView) (k : Kinds) (mi
 slot_signed decls ps k mid new o offset size at p c place signed n e =
     let x : Kind = get_or k.slots (at / 8) Unset in
     let b = bind_passed (tests.readable x) (λ u. kind.from_slot size (at % 8) x) (Num n) (sym (stack_is decls k o offset size at place) ∙ e) in
-    of_slot (λ i. ValueTo mid new ps (Num (number_extended Bits64 (8 * bytes_in size) i)) c (λ row. number_row row i p)) size (at % 8) x n (λ a b v. record { grows = v.grows; value = v.value }) b.2 signed
+    of_slot (λ i. ValueTo mid new ps (Num (number_extended Bits64 (8 * bytes_in size) i)) c (λ row. number_row row i p)) size (at % 8) x n (λ i v. part_to p size (at % 8) i v) b.2 signed

@@ -112,7 +112,7 @@ Extends mid new size p c n = Finds mid new (number_extended Bits64 (8 * bytes_in
 
 part_found : (mid new : List CellView) (size : Size) (at p c : ℕ) (i n : Number) → number_part size at i ≡ n → Extends mid new size p c i → Extends mid new size p c n
 part_found mid new size at p c (Known a) n e found = subst (Extends mid new size p c) e (record { grows = found.grows; there = tt; value = λ packet v run. refl })
-part_found mid new size at p c (Between lo hi) n e found = subst (Extends mid new size p c) e found
+part_found mid new size at p c (Between lo hi) n e found = subst (Extends mid new size p c) e (record { grows = found.grows; there = found.there; value = found.value })
 
 slot_found : (mid new : List CellView) (size : Size) (at p c : ℕ) (x : Kind) (n : Number) → kind.from_slot size at x ≡ Ok (Num n) → ((i : Number) → x ≡ Num i → Extends mid new size p c i) → Extends mid new size p c n
 slot_found mid new Dw at p c x n e found = let f : x ≡ Num n = cc in found n f
