@@ -19,6 +19,7 @@ use Rattle.cell_core.specs.Cells.{CellView}
 use Rattle.operator_cells.specs.Rising.{Rises}
 use Rattle.operator_cells.specs.HeldCells.RegisterCells.{PointerView}
 use Rattle.operator_cells.specs.HeldCells.Rows.{number_row, value_row}
+use Rattle.register_cells.specs.Reading.{are_known}
 use Rattle.register_cells.specs.Combining.{worked_row, combined_row}
 use Rattle.register_cells.specs.Rows.{ValueTo}
 use Rattle.register_cells.proofs.Growing.{ok_map}
@@ -83,10 +84,10 @@ extended_to {old} {new} ps w count y q c e v = rw e (by w count v)
     by w count v = v
 
 -- a distance in the packet
-pub distance_to : {old new : List CellView} (decls : List MapDecl) (ps : List PointerView) (a : Kind) (p : ℕ) (b : Kind) (q c : ℕ) → ((o u : ℕ) → a ≡ Packet o → b ≡ Packet u → ⊥) → ((y : Number) → b ≢ Num y) → Rises old new c (λ row. 1)
+pub distance_to : {old new : List CellView} (decls : List MapDecl) (ps : List PointerView) (a : Kind) (p : ℕ) (b : Kind) (q c : ℕ) → are_known a b ≡ false → ((y : Number) → b ≢ Num y) → Rises old new c (λ row. 1)
     → IfOk (difference decls a b) (λ z. ValueTo old new ps z c (λ row. worked_row Sub b z (value_row row ps a p) (value_row row ps b q)))
 distance_to decls ps a p (Num y) q c two other r = absurd (other y refl)
-distance_to decls ps (Packet o) p (Packet u) q c two other r = absurd (two o u refl refl)
+distance_to decls ps (Packet o) p (Packet u) q c two other r = absurd cc
 distance_to decls ps End p (Packet u) q c two other r = value_risen ps r (λ row. one_more (max (value_row row ps End p) (value_row row ps (Packet u) q)))
 distance_to decls ps (Packet o) p End q c two other r = value_risen ps r (λ row. one_more (max (value_row row ps (Packet o) p) (value_row row ps End q)))
 distance_to decls ps (Var x f) p (Packet u) q c two other r = value_risen ps r (λ row. one_more (max (value_row row ps (Var x f) p) (value_row row ps (Packet u) q)))

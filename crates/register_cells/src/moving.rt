@@ -15,7 +15,7 @@ ghost use Rattle.operator_cells.specs.Making.{seen, Makes};
 ghost use Rattle.operator_cells.specs.Rising.{Rises};
 ghost use Rattle.operator_cells.specs.HeldCells.RegisterCells.{PointerView, Counts};
 ghost use Rattle.operator_cells.specs.HeldCells.Rows.{value_row};
-ghost use Rattle.register_cells.specs.Reading.{HasNumber, Yields, place_of};
+ghost use Rattle.register_cells.specs.Reading.{HasNumber, Yields, place_of, IsShort, are_known};
 ghost use Rattle.register_cells.specs.Combining.{worked_row, combined_row};
 ghost use Rattle.register_cells.specs.Rows.{ValueTo};
 ghost use Rattle.register_cells.specs.Pointing.{MovesPointer, MovesEither};
@@ -35,6 +35,7 @@ use std::alloc::AllocError;
 fn place(cells: &mut Vec<Cell>, kind: Kind) -> Result<u32, AllocError>
     ensures makes { IfOk result (λ c. Makes (seen cells.old.items) (seen cells.new.items) c (λ packet v. low 64 (place_of packet kind))) }
     ensures rises { IfOk result (λ c. Rises (seen cells.old.items) (seen cells.new.items) c (λ row. 0)) }
+    ensures small { IfOk result (λ c. IsShort kind) }
 {
     match kind {
         Kind::Packet(o) => {
@@ -53,6 +54,7 @@ fn distance(cells: &mut Vec<Cell>, a: Kind, b: Kind) -> Result<u32, AllocError>
     requires formed { AreFormed (seen cells.old.items) }
     ensures makes { IfOk result (λ c. Makes (seen cells.old.items) (seen cells.new.items) c (λ packet v. low 64 (low 64 (place_of packet a) + (2 ^ 64 - low 64 (place_of packet b))))) }
     ensures rises { IfOk result (λ c. Rises (seen cells.old.items) (seen cells.new.items) c (λ row. 1)) }
+    ensures small { IfOk result (λ c. IsShort a × IsShort b) }
 {
     let to = place(cells, a)?;
     let from = place(cells, b)?;
@@ -81,6 +83,13 @@ fn sum(cells: &mut Vec<Cell>, a: Kind, p: u32, b: Kind, q: u32) -> Result<u32, A
     }
 }
 
+// Whether both are places in the packet that are known.
+fn are_known(a: Kind, b: Kind) -> bool
+    ensures { result ≡ are_known a b }
+{
+    matches!((a, b), (Kind::Packet(_), Kind::Packet(_)))
+}
+
 // SUB of 64 bits: the distance of two places that are known has no cell.
 fn difference(cells: &mut Vec<Cell>, a: Kind, p: u32, b: Kind, q: u32) -> Result<u32, AllocError>
     requires formed { AreFormed (seen cells.old.items) }
@@ -90,13 +99,15 @@ fn difference(cells: &mut Vec<Cell>, a: Kind, p: u32, b: Kind, q: u32) -> Result
     ensures rows { (decls : List MapDecl) (ps : List PointerView) → IfOk (kind.difference decls a b) (λ x. IfOk result (λ c. ValueTo (seen cells.old.items) (seen cells.new.items) ps x c (λ row. worked_row alu.Sub b x (value_row row ps a p) (value_row row ps b q)))) }
     ensures points { (decls : List MapDecl) → IfOk (kind.difference decls a b) (λ x. IfOk result (λ c. MovesPointer a p x c)) }
 {
-    match (a, b) {
-        (Kind::Num(x), Kind::Num(y)) => {
-            let c = compute(cells, AluCode::Sub, false, Width::Bits64, x, p, y, q)?;
-            Ok(c)
-        }
-        (_, Kind::Num(_)) => Ok(p),
-        (Kind::Packet(_), Kind::Packet(_)) => Ok(0),
+    match b {
+        Kind::Num(y) => match a {
+            Kind::Num(x) => {
+                let c = compute(cells, AluCode::Sub, false, Width::Bits64, x, p, y, q)?;
+                Ok(c)
+            }
+            _ => Ok(p),
+        },
+        _ if are_known(a, b) => Ok(0),
         _ => {
             let c = distance(cells, a, b)?;
             Ok(c)
