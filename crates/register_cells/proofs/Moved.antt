@@ -1,5 +1,5 @@
 -- What sums and differences yield: of numbers, of pointers that are moved, and distances in the packet.
-use Rattle.std.proofs.Common.{◌≡◌, ◌≢◌, ℕ, ◌+◌, ◌-◌, ◌^◌, ◌<◌, ◌≤◌, ℤ, pos, negsuc, ◌+ℤ◌, ◌-ℤ◌, neg_ℤ, nat_le, Bool, true, false, cond, Option, Some, None, Result, Ok, Err, IfOk, List, length, refl, sym, ◌∙◌, ap, ap₂, subst, arith}
+use Rattle.std.proofs.Common.{◌≡◌, ◌≢◌, ℕ, ◌+◌, ◌-◌, ◌^◌, ◌<◌, ℤ, pos, negsuc, ◌+ℤ◌, ◌-ℤ◌, neg_ℤ, nat_le, Bool, true, false, cond, Option, Some, None, Ok, Err, IfOk, List, length, refl, sym, ◌∙◌, ap, ap₂, arith}
 use Rattle.std.proofs.lemmas.Int.{ints}
 use Rattle.std.specs.Int.{w64, cast_unsigned}
 use Rattle.cell_core.specs.bpf_isa.declared.operation.Src.TheVariants.{K}
@@ -16,7 +16,6 @@ use Rattle.xdp_state.specs.declared.refusal.Why.{Why}
 use Rattle.xdp_state.specs.declared.refusal.Why.TheVariants as why
 use Rattle.kind_core.specs.declared.number.Number.{Number}
 use Rattle.kind_core.specs.declared.number.Number.TheVariants.{Known, Between}
-use Rattle.kind_core.specs.declared.base.Base.{Base}
 use Rattle.kind_core.specs.declared.kind.Kind.{Kind}
 use Rattle.kind_core.specs.declared.kind.Kind.TheVariants.{Num, Packet, Var, End, Stack, Entry}
 use Rattle.kind_core.specs.Numbers.{number_arithmetic, number_sum, number_difference}
