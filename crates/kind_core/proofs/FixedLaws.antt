@@ -1,5 +1,5 @@
 -- Where offsets do not vary, no place is not known.
-use Rattle.std.proofs.Common.{◌≡◌, ℕ, zero, suc, ◌+◌, ◌/◌, ◌%◌, ◌==◌, ◌&&◌, int_le, ℤ, pos, negsuc, ◌+ℤ◌, Bool, true, false, cond, refl, sym, subst, Option, Some, None, Result, Ok, Err, IfOk, List, [], ◌∷◌, map, drop, set, get_or, replicate}
+use Rattle.std.proofs.Common.{◌≡◌, ℕ, zero, suc, ◌/◌, ◌%◌, ◌==◌, ◌&&◌, int_le, ℤ, pos, negsuc, ◌+ℤ◌, Bool, true, false, cond, refl, sym, subst, Option, Some, None, Result, Ok, Err, IfOk, List, [], ◌∷◌, map, drop, set, get_or, replicate}
 use Rattle.std.specs.Prelude.{unsigned_abs}
 use Rattle.std.specs.Ordering.{int_eq}
 use Rattle.std.specs.Int.{w64, cast_unsigned}

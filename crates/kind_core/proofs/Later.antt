@@ -1,5 +1,5 @@
 -- Later nodes of a run.
-use Rattle.std.proofs.Common.{◌≡◌, ◌+◌, ◌==◌, ℤ, pos, ◌+ℤ◌, true, false, cond, refl, sym, ap, ◌∙◌, subst, arith, get_or}
+use Rattle.std.proofs.Common.{◌≡◌, ◌+◌, ◌==◌, pos, ◌+ℤ◌, true, false, cond, refl, sym, ap, ◌∙◌, subst, arith, get_or}
 use Rattle.std.specs.Prelude.{◌≤ℤ◌}
 use Rattle.std.proofs.lemmas.Bool.Decides.{nat_tests}
 use Rattle.xdp_machine.specs.xdp_maps.State.{MapState}

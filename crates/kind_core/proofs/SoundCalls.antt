@@ -26,7 +26,7 @@ use Rattle.kind_core.specs.NumberBounds.{any_number}
 use Rattle.kind_core.specs.declared.kind.Kind.{Kind}
 use Rattle.kind_core.specs.declared.kind.Kind.TheVariants.{Unset, Num, Packet, Stack, MapRef, Maybe, Entry, Stale}
 use Rattle.kind_core.specs.declared.kind.Kinds.{Kinds}
-use Rattle.kind_core.specs.declared.helpers.Argument.TheVariants.{Map, Key, Value as ValueBytes}
+use Rattle.kind_core.specs.declared.helpers.Argument.TheVariants.{Key, Value as ValueBytes}
 use Rattle.kind_core.specs.declared.effects.Effect.{Effect}
 use Rattle.kind_core.specs.declared.effects.Effect.TheVariants.{Lookup, Answered, Changed}
 use Rattle.kind_core.specs.declared.refinements.Refinement.TheVariants.{IsStale}

@@ -1,5 +1,5 @@
 -- What is known of numbers. A number that is computed is known where all are that it is computed from; of others bounds are known.
-use Rattle.std.specs.Prelude.{ℕ, zero, suc, ◌*◌, ◌-◌, ◌==◌, min, max, Bool, false, if◌then◌else◌, Option, Some, None}
+use Rattle.std.specs.Prelude.{ℕ, zero, suc, ◌*◌, ◌==◌, min, max, Bool, false, if◌then◌else◌, Option, Some, None}
 use Rattle.byteorder.specs.Endian.{little_number, little_bytes}
 use Rattle.xdp_machine.specs.bpf_isa.declared.operation.Src.{Src}
 use Rattle.xdp_machine.specs.bpf_isa.declared.operation.Size.{Size}

@@ -280,4 +280,4 @@ module _ (offsets : Offsets) (p : XdpProgram) (ls : List Loop) (g : List Point) 
   }
 
 pub nodes_have_links : NodesHaveLinks
-nodes_have_links offsets p ls g k d loops graph below = links_here p ls g k d loops graph below
+nodes_have_links offsets p ls g k d loops graph below = links_here offsets p ls g k d loops graph below
