@@ -213,7 +213,7 @@ tests_places ps w code (Packet o) p b q old new c n first second none nil other 
 tests_places ps w code End p b q old new c n first second none nil other needed made = tests_from_end ps w code p b q old new c n second nil needed made
 tests_places ps w code (Var k f) p b q old new c n first second none nil other needed made = absurd first
 tests_places ps w code (Num x) p b q old new c n first second none nil other needed made = absurd (cc)
-tests_places ps w code (Maybe r n) p b q old new c n first second none nil other needed made = absurd (cc)
+tests_places ps w code (Maybe r m) p b q old new c n first second none nil other needed made = absurd (cc)
 tests_places ps Bits32 code a p b q old new c n first second none nil other needed made = absurd (cc)
 tests_places ps Bits64 code a p b q old new c n first second none nil other needed made = absurd (cc)
 

@@ -51,13 +51,13 @@ entry_result : (before : ℕ → ℕ) (k : Kinds) (i : Insn) (size : Size) (q o 
 entry_result before k i size q o base = ap (λ (x : Kind). spans_row before (one i.src ∷ region x i.offset (bytes_in size) ∷ pending_of x ∷ no_place ∷ []) + bit (is_entry x || is_var x)) base
 
 -- what is read is answered, and then a number is made of it
-loaded_rows : {lo hi : ℕ} (decls : List MapDecl) (i : Insn) (here : Here) (k after : Kinds) (h : RegisterCells) (old mid new : List CellView) (ps : List PointerView) (sites sites2 : List SiteView) (size : Size) (q o a answer c width : ℕ) (p : PointerView)
+loaded_rows : (lo hi : ℕ) (decls : List MapDecl) (i : Insn) (here : Here) (k after : Kinds) (h : RegisterCells) (old mid new : List CellView) (ps : List PointerView) (sites sites2 : List SiteView) (size : Size) (q o a answer c width : ℕ) (p : PointerView)
     → map_used k i i.op ≡ Some q → writes_as k i i.op ≡ one i.dst ∷ no_place ∷ []
     → ((before : ℕ → ℕ) → result_row before decls k after i ≡ spans_row before (one i.src ∷ no_place ∷ pending q ∷ no_place ∷ []) + 1)
     → i.src ≤ 10 → i.dst ≤ 10 → register k i.src ≡ Entry q o → IsInPlace decls q (pos o +ℤ i.offset) size → after ≡ with_register k i.dst (Num (Between lo hi))
     → length k.registers ≡ 11 → length h.registers ≡ 11 → p ≡ pointer_at ps (slice_index h.registers i.src) → Accesses old mid sites sites2 here q (act.Load a size) p [] answer width → Grows mid new → Rises mid new c (λ row. row answer)
     → OperatesTo decls i here.pending k h after (record h { registers = slice_set h.registers i.dst c }) old new ps ps sites sites2
-loaded_rows {lo} {hi} decls i here k after h old mid new ps sites sites2 size q o a answer c width p used writes result src dst base placed becomes ks hs p_is reads grows rises =
+loaded_rows lo hi decls i here k after h old mid new ps sites sites2 size q o a answer c width p used writes result src dst base placed becomes ks hs p_is reads grows rises =
     let before : (ℕ → ℕ) → ℕ → ℕ = λ row. row_before row ps h k (map_used k i i.op) here.pending in
     let last : (ℕ → ℕ) → ℕ = λ row. result_row (before row) decls k after i in
     let low : (row : ℕ → ℕ) → greatest row (p.key ++ ([] ++ p.found ∷ []) ++ here.pending ∷ []) + 1 ≤ last row = λ row.
@@ -79,7 +79,7 @@ pub load_rows : (decls : List MapDecl) (i : Insn) (here : Here) (is_ref : Bool) 
 load_rows decls i here is_ref k h old new ps sites sites2 size q o a c width p op src dst base allowed ks hs p_is reads =
     let f = load_allowed decls k i size q o op base allowed in
     let after : Kinds = transferred decls k i here.node is_ref false in
-    loaded_rows decls i here k after h old new new ps sites sites2 size q o a c c width p (ap (map_used k i) op ∙ ap map_of base) (ap (writes_as k i) op)
+    loaded_rows _ _ decls i here k after h old new new ps sites sites2 size q o a c c width p (ap (map_used k i) op ∙ ap map_of base) (ap (writes_as k i) op)
     (λ before. ap (result_as before decls k after i) op ∙ entry_result before k i size q o base) src dst base f.0 (f.1 here.node is_ref false) ks hs p_is reads grown_none (rises_none c (λ row. row c) (λ row. omega arith))
 
 pub signed_rows : (decls : List MapDecl) (i : Insn) (here : Here) (is_ref : Bool) (k : Kinds) (h : RegisterCells) (old mid new : List CellView) (ps : List PointerView) (sites sites2 : List SiteView) (size : Size) (q o a answer c width : ℕ) (p : PointerView)
@@ -89,7 +89,7 @@ pub signed_rows : (decls : List MapDecl) (i : Insn) (here : Here) (is_ref : Bool
 signed_rows decls i here is_ref k h old mid new ps sites sites2 size q o a answer c width p op src dst base allowed ks hs p_is reads grows rises =
     let f = signed_allowed decls k i size q o op base allowed in
     let after : Kinds = transferred decls k i here.node is_ref false in
-    loaded_rows decls i here k after h old mid new ps sites sites2 size q o a answer c width p (ap (map_used k i) op ∙ ap map_of base) (ap (writes_as k i) op)
+    loaded_rows _ _ decls i here k after h old mid new ps sites sites2 size q o a answer c width p (ap (map_used k i) op ∙ ap map_of base) (ap (writes_as k i) op)
     (λ before. ap (result_as before decls k after i) op ∙ entry_result before k i size q o base) src dst base f.0 (f.1 here.node is_ref false) ks hs p_is reads grows rises
 
 -- ---- stores

@@ -72,14 +72,14 @@ abbrev Loaded : Insn → ℕ → ℕ → Size → (ℕ → ℕ) → Type 0
 Loaded i q o size f = (refs : List ℕ) (m n : Machine) (key : List ℕ) → register m.registers i.src ≡ is.Entry q key (pos o) → effect refs m i i.op ≡ Some n
     → (y : Value) × (machine.loaded m (is.Entry q key (pos o)) i.offset size ≡ Some y) × ((x : ℕ) → y ≡ is.Number x → n ≡ record m { registers = slice_set m.registers i.dst (is.Number (f x)) })
 
-load_operates : {lo hi : ℕ} (decls : List MapDecl) (i : Insn) (here : Here) (is_ref taken : Bool) (k : Kinds) (h : RegisterCells) (old mid new : List CellView) (ps : List PointerView) (sites sites2 : List SiteView) (size : Size) (q o a answer c : ℕ) (f : ℕ → ℕ)
+load_operates : (lo hi : ℕ) (decls : List MapDecl) (i : Insn) (here : Here) (is_ref taken : Bool) (k : Kinds) (h : RegisterCells) (old mid new : List CellView) (ps : List PointerView) (sites sites2 : List SiteView) (size : Size) (q o a answer c : ℕ) (f : ℕ → ℕ)
     → Loaded i q o size f → ((m : Machine) → touched.operation_as m i i.op ≡ touched.accesses m.maps (register m.registers i.src) i.offset size (λ key b. map.Load key))
     → i.src ≤ 10 → i.dst ≤ 10 → kinds.register k i.src ≡ Entry q o → here.guard < length old → IsInPlace decls q (pos o +ℤ i.offset) size → transferred decls k i here.node is_ref taken ≡ with_register k i.dst (Num (Between lo hi))
     → length k.registers ≡ 11 → length h.registers ≡ 11 → AreInside decls (length old) ps h k
     → ((b : ℕ) → aligned (pos o +ℤ i.offset) (bytes_in size) (value_bytes decls q) ≡ Some b → a ≡ b)
     → Accesses old mid sites sites2 here q (act.Load a size) (pointer_at ps (slice_index h.registers i.src)) [] answer (8 * bytes_in size) → Makes mid new c (λ packet v. f (v answer))
     → Operates decls i here.node here.guard is_ref taken k h (record h { registers = slice_set h.registers i.dst c }) old new ps ps sites sites2
-load_operates {lo} {hi} decls i here is_ref taken k h old mid new ps sites sites2 size q o a answer c f given operates src dst base guard_there placed becomes ks hs inside at made makes =
+load_operates lo hi decls i here is_ref taken k h old mid new ps sites sites2 size q o a answer c f given operates src dst base guard_there placed becomes ks hs inside at made makes =
     let p : PointerView = pointer_at ps (slice_index h.registers i.src) in
     let site : SiteView = access_site here q (act.Load a size) p [] in
     let none : ps ≡ ps ++ [] = sym (append-nil ps) in
@@ -146,7 +146,7 @@ pub load_made : (decls : List MapDecl) (i : Insn) (here : Here) (is_ref taken : 
     → Operates decls i here.node here.guard is_ref taken k h (record h { registers = slice_set h.registers i.dst c }) old new ps ps sites sites2
 load_made decls i here is_ref taken k h old new ps sites sites2 size q o a c width p z op src dst base guard_there allowed ks hs inside offset at p_is width_is made =
     let f = load_allowed decls k i size q o op base allowed in
-    load_operates decls i here is_ref taken k h old new new ps sites sites2 size q o a c c (λ x. x) (plain_loaded i q o size op) (λ m. ap (touched.operation_as m i) op) src dst base guard_there f.0 (f.1 here.node is_ref taken) ks hs inside
+    load_operates _ _ decls i here is_ref taken k h old new new ps sites sites2 size q o a c c (λ x. x) (plain_loaded i q o size op) (λ m. ap (touched.operation_as m i) op) src dst base guard_there f.0 (f.1 here.node is_ref taken) ks hs inside
     (λ b e. at b (ap (λ (y : ℤ). aligned (pos o +ℤ y) (bytes_in size) (value_bytes decls q)) offset ∙ e))
     (subst (λ (x : PointerView). Accesses old new sites sites2 here q (act.Load a size) x [] c (8 * bytes_in size)) p_is (subst (λ (j : ℕ). Accesses old new sites sites2 here q (act.Load a size) p [] c j) width_is made))
     (record { grows = grown_none; there = made.reads.there; value = λ packet v run. refl })
@@ -158,7 +158,7 @@ pub signed_made : (decls : List MapDecl) (i : Insn) (here : Here) (is_ref taken 
     → Operates decls i here.node here.guard is_ref taken k h (record h { registers = slice_set h.registers i.dst c }) old new ps ps sites sites2
 signed_made decls i here is_ref taken k h old mid new ps sites sites2 size q o a answer c width p z op src dst base guard_there allowed ks hs inside offset at p_is width_is made makes =
     let f = signed_allowed decls k i size q o op base allowed in
-    load_operates decls i here is_ref taken k h old mid new ps sites sites2 size q o a answer c (extended 64 (8 * bytes_in size)) (signed_loaded i q o size op) (λ m. ap (touched.operation_as m i) op) src dst base
+    load_operates _ _ decls i here is_ref taken k h old mid new ps sites sites2 size q o a answer c (extended 64 (8 * bytes_in size)) (signed_loaded i q o size op) (λ m. ap (touched.operation_as m i) op) src dst base
     guard_there f.0 (f.1 here.node is_ref taken) ks hs inside (λ b e. at b (ap (λ (y : ℤ). aligned (pos o +ℤ y) (bytes_in size) (value_bytes decls q)) offset ∙ e))
     (subst (λ (x : PointerView). Accesses old mid sites sites2 here q (act.Load a size) x [] answer (8 * bytes_in size)) p_is (subst (λ (j : ℕ). Accesses old mid sites sites2 here q (act.Load a size) p [] answer j) width_is made))
     (subst (λ (j : ℕ). Makes mid new c (λ packet v. extended 64 j (v answer))) width_is makes)

@@ -81,8 +81,8 @@ pub entry_used : (k : Kinds) (i : Insn) (o : Op) (r q n : ℕ) → i.op ≡ o �
 entry_used k i o r q n op at base = ap (λ (x : Op). map_used k i x) op ∙ at ∙ ap map_of base
 
 -- ---- accesses
-pub read_keeps : {lo hi : ℕ} (k after : Kinds) (h : RegisterCells) (r c : ℕ) → after ≡ with_register k r (Num (Between lo hi)) → r ≤ 10 → length k.registers ≡ 11 → length h.registers ≡ 11 → KeepPointers k h after (put_register h r c)
-read_keeps {lo} {hi} k after h r c becomes small ks hs = subst (λ (x : Kinds). KeepPointers k h x (put_register h r c)) (sym becomes) (keep_points k (with_register k r (Num (Between lo hi))) h r c (written_sheds k r (Num (Between lo hi)) small ks) small hs)
+pub read_keeps : (lo hi : ℕ) (k after : Kinds) (h : RegisterCells) (r c : ℕ) → after ≡ with_register k r (Num (Between lo hi)) → r ≤ 10 → length k.registers ≡ 11 → length h.registers ≡ 11 → KeepPointers k h after (put_register h r c)
+read_keeps lo hi k after h r c becomes small ks hs = subst (λ (x : Kinds). KeepPointers k h x (put_register h r c)) (sym becomes) (keep_points k (with_register k r (Num (Between lo hi))) h r c (written_sheds k r (Num (Between lo hi)) small ks) small hs)
 
 pub nothing_keeps : (k after : Kinds) (h : RegisterCells) → after ≡ k → KeepPointers k h after h
 nothing_keeps k after h becomes = subst (λ (x : Kinds). KeepPointers k h x h) (sym becomes) (λ y held. held)
