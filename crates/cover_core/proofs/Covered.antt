@@ -254,7 +254,7 @@ keeps a b u origin c (goes_on {w = w} {v = v} {m = m} {n = n} {e = e} {taken = t
 nothing_told : (b : XdpProgram) (u : Unfolded) (w : World) (m : Machine) → w.node ≡ 0 → IsAsTold b u w m
 nothing_told b u w m first i told = let behind = told.behind in absurd (omega (arith, behind, first))
 
--- no lookup has been made
+-- no lookup and no base has been made
 nothing_yet : ℕ → Value
 nothing_yet n = is.Unset
 
