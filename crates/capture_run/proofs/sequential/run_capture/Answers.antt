@@ -19,7 +19,7 @@ loop-index-init g c =
       kept = changes_within (result_names (names_of c.args.files.now)) state state (changes_none state);
       told = λ tells packets holds count stands. (
         so_far_none (names_of c.args.files.now) c.args.plan.now c.args.ifindex c.args.survey.now.stream.magic packets c.args.maps.now state c.requires.ends
-            (packets_come c.args.ifindex c.args.survey.now.stream (state.held c.args.files.now.capture.now) packets c.ranges.ifindex.fits holds) c.decls.ensures.sound (changes_none state),
+            (packets_come c.args.ifindex c.args.survey.now.stream (state.held c.args.files.now.capture.now) packets c.ranges.ifindex.fits holds) c.decls-decls.ensures.sound (changes_none state),
         stands,
       );
     }

@@ -58,5 +58,5 @@ pub answer_packet-requires-clause-ends : goal.answer_packet-requires-clause-ends
 answer_packet-requires-clause-ends g c =
     let packet : PacketIn = record { frame = c.copy_from_slice.new.self; ifindex = c.args.ifindex; time = c.time.result } in
     let bytes : IsBytes packet.frame = subst IsBytes (sym c.copy_from_slice.ensures.after) c.count_of.ensures.bytes in
-    let end = c.requires.ends packet c.args.maps.now refl (packet_comes packet bytes (search rules) c.ranges.ifindex.fits (search rules) c.args.maps.now c.decls.ensures.sound) in
+    let end = c.requires.ends packet c.args.maps.now refl (packet_comes packet bytes (search rules) c.ranges.ifindex.fits (search rules) c.args.maps.now c.decls-decls.ensures.sound) in
     (end.0, end.1)

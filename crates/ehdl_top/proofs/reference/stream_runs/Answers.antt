@@ -21,7 +21,7 @@ returns-in_err-begin-clause-told g c = λ told program is packets holds count.
     let opened = c.args.survey.now.stream in
     let old = state_of g.S.Shelf c.args.shelf.now in
     let new = state_of g.S.Shelf c.begin.new.shelf in
-    let all = runs_exist c.args.plan.now c.args.maps.now c.args.maps.now (map (packet_in c.args.ifindex opened.magic) packets) c.requires.ends (packets_come c.args.ifindex opened (old.held names.capture) packets c.ranges.ifindex.fits holds) c.decls.ensures.sound refl in
+    let all = runs_exist c.args.plan.now c.args.maps.now c.args.maps.now (map (packet_in c.args.ifindex opened.magic) packets) c.requires.ends (packets_come c.args.ifindex opened (old.held names.capture) packets c.ranges.ifindex.fits holds) c.decls-held.ensures.sound refl in
     let ws = streamed_writes names opened.magic packets (answers_left all.0) in
     record {
       answers = answers_left all.0;
@@ -38,7 +38,7 @@ returns-in_err-begin_results-clause-told g c = λ told program is packets holds 
     let old = state_of g.S.Shelf c.args.shelf.now in
     let mid = state_of g.S.Shelf c.begin.new.shelf in
     let new = state_of g.S.Shelf c.begin_results.new.shelf in
-    let all = runs_exist c.args.plan.now c.args.maps.now c.args.maps.now (map (packet_in c.args.ifindex opened.magic) packets) c.requires.ends (packets_come c.args.ifindex opened (old.held names.capture) packets c.ranges.ifindex.fits holds) c.decls.ensures.sound refl in
+    let all = runs_exist c.args.plan.now c.args.maps.now c.args.maps.now (map (packet_in c.args.ifindex opened.magic) packets) c.requires.ends (packets_come c.args.ifindex opened (old.held names.capture) packets c.ranges.ifindex.fits holds) c.decls-held.ensures.sound refl in
     let ws = streamed_writes names opened.magic packets (answers_left all.0) in
     let head : OneFailed (head_writes names opened.magic) mid new = subst (λ m. OneFailed (head_writes names m) mid new) c.magic.ensures c.in_err-begin_results.ensures.failed in
     record {
