@@ -17,7 +17,6 @@ use Rattle.kind_core.specs.declared.kind.Kind.{Kind}
 use Rattle.kind_core.specs.declared.kind.Kind.TheVariants.{Unset, Num, Packet, Var, End, Stack, Ctx, MapRef, Maybe, Entry, Stale, Mixed}
 use Rattle.kind_core.specs.declared.base.Base.{Base}
 use Rattle.kind_core.specs.declared.base.Bounds.{Bounds}
-use Rattle.kind_core.specs.declared.effects.Effect.{Effect}
 use Rattle.kind_core.specs.declared.kind.Kinds.{Kinds}
 use Rattle.xdp_state.specs.declared.refusal.Why.{Why}
 use Rattle.kind_core.specs.Kinds.{register, value_bytes, is_hash}
@@ -168,7 +167,7 @@ atomic_fills decls node is_ref k i size base h = kept h
 
 -- ---- by the operation
 
-based_fills : (node : ℕ) (is_ref : Bool) (k : Kinds) (i : Insn) (o : Option Bounds) (r : Result Effect Why) → AreFilled k → Fills (changed_if node is_ref false k r) → Fills (changed_if node is_ref false k (if_based i o r))
+based_fills : (node : ℕ) (is_ref : Bool) (k : Kinds) (i : Insn) (o : Option Bounds) (r : _) → AreFilled k → Fills (changed_if node is_ref false k r) → Fills (changed_if node is_ref false k (if_based i o r))
 based_fills node is_ref k i (Some bounds) r h f = kept h
 based_fills node is_ref k i None r h f = f
 
