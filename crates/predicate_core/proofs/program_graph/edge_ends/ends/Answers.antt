@@ -1,4 +1,4 @@
-use Rattle.std.proofs.Common.{◌≡◌, ◌≤◌, ◌<◌, length, slice_index_or, sym, ap, subst, false}
+use Rattle.std.proofs.Common.{◌≡◌, ◌≤◌, ◌<◌, length, slice_index_or, sym, ◌∙◌, ap, subst, false}
 use Rattle.std.proofs.lemmas.List.{take_all}
 use Rattle.unfold_core.specs.declared.links.Edge.{Edge}
 use Rattle.predicate_core.proofs.ProgramGraph.Adding.{AreEndsOf, next_edge}
@@ -14,7 +14,7 @@ index-requires c =
     let is : x ≡ slice_index_or edges c.loop-edge.edge-index d = ap (λ es. slice_index_or es c.loop-edge.edge-index d) c.deref-edge-items.ensures.value in
     let below : c.loop-edge.edge-index < length edges = subst (λ es. c.loop-edge.edge-index < length es) c.deref-edge-items.ensures.value c.loop-edge-test.true in
     let inside : x.from < length c.args.unfolded.now.nodes.items = subst (λ y. y.from < length c.args.unfolded.now.nodes.items) (sym is) (from_inside c.args.program.now c.args.unfolded.now laws c.requires c.loop-edge.edge-index d below) in
-    subst (λ n. x.from < n) (sym c.loop-edge.invariant.size) inside
+    subst (λ n. x.from < n) (sym (c.loop-edge.ends.ok.0 ∙ c.loop-edge.invariant.size)) inside
 
 pub index_mut-requires : goal.index_mut-requires
 index_mut-requires c =
@@ -25,7 +25,7 @@ index_mut-requires c =
     let is : x ≡ slice_index_or edges c.loop-edge.edge-index d = ap (λ es. slice_index_or es c.loop-edge.edge-index d) c.deref-edge-items.ensures.value in
     let below : c.loop-edge.edge-index < length edges = subst (λ es. c.loop-edge.edge-index < length es) c.deref-edge-items.ensures.value c.loop-edge-test.true in
     let inside : x.from < length c.args.unfolded.now.nodes.items = subst (λ y. y.from < length c.args.unfolded.now.nodes.items) (sym is) (from_inside c.args.program.now c.args.unfolded.now laws c.requires c.loop-edge.edge-index d below) in
-    subst (λ n. x.from < n) (sym c.loop-edge.invariant.size) inside
+    subst (λ n. x.from < n) (sym (c.loop-edge.ends.ok.0 ∙ c.loop-edge.invariant.size)) inside
 
 pub loop-edge-preserved : goal.loop-edge-preserved
 loop-edge-preserved c =
