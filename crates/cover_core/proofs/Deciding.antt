@@ -1,7 +1,6 @@
 -- Where kinds decide a condition, it is so of the values that they describe.
 use Rattle.std.proofs.Common.{◌≡◌, ℕ, zero, ℤ, pos, Bool, true, false, not, List, Option, Some, None, refl, ap}
 use Rattle.xdp_machine.specs.bpf_isa.declared.operation.Src.{Src}
-use Rattle.xdp_machine.specs.bpf_isa.declared.operation.Src.TheVariants.{K, X}
 use Rattle.xdp_machine.specs.bpf_isa.declared.operation.Width.{Width}
 use Rattle.xdp_machine.specs.bpf_isa.declared.operation.Width.TheVariants.{Bits32, Bits64}
 use Rattle.xdp_machine.specs.bpf_isa.declared.operation.JumpCode.{JumpCode}

@@ -1,4 +1,4 @@
-use Rattle.std.proofs.Common.{◌≡◌, ◌<◌, length, All, List, sym, subst}
+use Rattle.std.proofs.Common.{◌<◌, length, All, List, sym, subst}
 use Rattle.unfold_core.specs.declared.links.Edge.{Edge}
 use Rattle.cover_core.specs.Cover.{no_point}
 use Rattle.cover_core.proofs.covering.covers.Goals as goal
