@@ -1,6 +1,7 @@
 pub mod StateLaws
 pub mod WriteLaws
 pub mod EndLaws
+pub mod RangeLaws
 pub mod RunLaws
 pub mod PassingLemmas
 pub mod SurveyLemmas

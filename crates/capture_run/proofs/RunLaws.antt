@@ -1,5 +1,6 @@
 -- The runs of the packets of a capture, one after another, and the writes of their answers.
 use Rattle.std.proofs.Common.{◌≡◌, ℕ, zero, suc, ◌+◌, ◌-◌, ◌<◌, ◌≤◌, List, [], ◌∷◌, ◌++◌, length, map, drop, get_or, slice_index_or, Option, Result, Ok, Err, refl, sym, ◌∙◌, ap, subst, arith, append_assoc, append-nil, drop-cons}
+use Rattle.std.specs.List.{AllByRecursion}
 use Rattle.std.proofs.lemmas.List.{get_or-map, length-map, drop_all}
 use Rattle.beat_core.specs.declared.answer.Answer.{Answer}
 use Rattle.pcap_core.specs.Format.{Packet}
@@ -9,7 +10,7 @@ use Rattle.xdp_state.specs.xdp_machine.State.{Code, PacketIn, start}
 use Rattle.xdp_state.specs.xdp_machine.Runs.{Leaves, Progress, Ended, IsRun, AreRuns, run}
 use Rattle.xdp_state.specs.xdp_machine.MachineLaws.{maps_so_far}
 use Rattle.xdp_state.proofs.xdp_machine_laws.RunLaws.{runs_keep_sizes, has_one_answer, runs_length}
-use Rattle.xdp_maps.specs.State.{MapState}
+use Rattle.xdp_maps.specs.State.{MapState, IsSound}
 use Rattle.command_line.specs.Request.{Names}
 use Rattle.capture_run.specs.States.{ShelfState, Changes}
 use Rattle.capture_run.specs.Writes.{Write, AreDone}
@@ -19,6 +20,7 @@ use Rattle.capture_run.specs.Results.{no_packet, no_answer, answer_writes, packe
 use Rattle.capture_run.specs.Runs.{packet_in, RunsEnd, answer_left, answers_left, AnswersOut, RunsOut}
 use Rattle.capture_run.specs.declared.error.RunError.{RunError}
 use Rattle.capture_run.proofs.WriteLaws.{done_both}
+use Rattle.capture_run.proofs.RangeLaws.{Comes}
 use Rattle.capture_run.proofs.EndLaws.{ends_out}
 
 -- ---- runs
@@ -26,11 +28,11 @@ left_decls : (code : Code) (packet : PacketIn) (maps : MapState) (e : Leaves) �
 left_decls code packet maps e ran = ap (λ (r : Progress). (maps_so_far r).decls) (sym ran) ∙ (runs_keep_sizes code 1048576 (start packet maps) refl).decls
 
 -- Where each run has an end, those of all packets exist.
-pub runs_exist : (code : Code) (first maps : MapState) (packets : List PacketIn) → RunsEnd code first → maps.decls ≡ first.decls → (leaves : List Leaves) × (final : MapState) × AreRuns code maps packets leaves final
-runs_exist code first maps [] ends decls = ([], maps, refl)
-runs_exist code first maps (packet ∷ packets) ends decls =
-    let end = ends packet maps decls in
-    let more = runs_exist code first end.0.maps packets ends (left_decls code packet maps end.0 end.1 ∙ decls) in
+pub runs_exist : (code : Code) (first maps : MapState) (packets : List PacketIn) → RunsEnd code first → AllByRecursion Comes packets → IsSound maps → maps.decls ≡ first.decls → (leaves : List Leaves) × (final : MapState) × AreRuns code maps packets leaves final
+runs_exist code first maps [] ends come sound decls = ([], maps, refl)
+runs_exist code first maps (packet ∷ packets) ends come sound decls =
+    let end = ends packet maps decls (come.0 maps sound) in
+    let more = runs_exist code first end.0.maps packets ends come.1 end.2 (left_decls code packet maps end.0 end.1 ∙ decls) in
     (end.0 ∷ more.0, more.1, ((1048576, end.1), more.2))
 
 -- what a run leaves, whichever is asked for
@@ -72,9 +74,9 @@ leaves_at leaves i maps = get_or leaves i (no_leaves maps)
 abbrev pub packet_at : List Packet → ℕ → Packet
 packet_at packets i = slice_index_or packets i no_packet
 
-pub so_far_none : (names : Names) (code : Code) (ifindex magic : ℕ) (packets : List Packet) (maps : MapState) (state : ShelfState) → RunsEnd code maps → Changes [] state state → SoFar names code ifindex magic packets 0 maps maps state state
-so_far_none names code ifindex magic packets maps state ends same =
-    let all = runs_exist code maps maps (map (packet_in ifindex magic) packets) ends refl in
+pub so_far_none : (names : Names) (code : Code) (ifindex magic : ℕ) (packets : List Packet) (maps : MapState) (state : ShelfState) → RunsEnd code maps → AllByRecursion Comes (map (packet_in ifindex magic) packets) → IsSound maps → Changes [] state state → SoFar names code ifindex magic packets 0 maps maps state state
+so_far_none names code ifindex magic packets maps state ends come sound same =
+    let all = runs_exist code maps maps (map (packet_in ifindex magic) packets) ends come sound refl in
     record { leaves = all.0; final = all.1; runs = all.2; rest = all.2; done = same }
 
 module _ (names : Names) (code : Code) (ifindex magic : ℕ) (packets : List Packet) (i : ℕ) (first now : MapState) (old mid : ShelfState) (far : SoFar names code ifindex magic packets i first now old mid) where

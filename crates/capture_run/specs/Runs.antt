@@ -15,8 +15,9 @@ use Rattle.net_core.specs.declared.tree.Net.TheVariants.{Wire}
 use Rattle.realization.specs.History.{Answered, Stopped, OutOfClocks, answers_given, Drive}
 use Rattle.port_drive.specs.Reports.{full_drive, given_in}
 use Rattle.xdp_machine.specs.State.{Code, PacketIn, start}
+use Rattle.xdp_machine.specs.Ranges.{IsInRange}
 use Rattle.xdp_machine.specs.Runs.{Leaves, Ended, AreRuns, run}
-use Rattle.xdp_maps.specs.State.{MapState}
+use Rattle.xdp_maps.specs.State.{MapState, IsSound}
 use Rattle.command_line.specs.Request.{Names}
 use Rattle.capture_run.specs.States.{ShelfState, Changes, OneRose}
 use Rattle.capture_run.specs.Writes.{Write, AreDone, OneFailed}
@@ -64,9 +65,9 @@ IsPlainStop e = ⊥
 abbrev pub packet_in : ℕ → ℕ → Packet → PacketIn
 packet_in ifindex magic p = record { frame = p.bytes; ifindex = ifindex; time = time_of magic p }
 
--- each run ends within the steps that a run may take
+-- each run that starts in range ends within the steps that a run may take, and leaves maps in range
 abbrev pub RunsEnd : Code → MapState → Type 0
-RunsEnd code first = (packet : PacketIn) (maps : MapState) → maps.decls ≡ first.decls → (e : Leaves) × (run code 1048576 (start packet maps) ≡ Ended e)
+RunsEnd code first = (packet : PacketIn) (maps : MapState) → maps.decls ≡ first.decls → IsInRange (start packet maps) → (e : Leaves) × (run code 1048576 (start packet maps) ≡ Ended e) × IsSound e.maps
 
 -- what a packet is answered by what its run leaves
 abbrev pub answer_left : Leaves → Answer

@@ -17,7 +17,7 @@ use shelf_core::{Feed, FetchError, Shelf};
 const NUMBERS_BYTES: u32 = 16;
 
 /// How many bytes these are.
-fn count_of(bytes: &[u8]) -> usize
+pub(crate) fn count_of(bytes: &[u8]) -> usize
     ensures count { result ≡ length bytes.now }
     ensures bytes { IsBytes bytes.now }
 {

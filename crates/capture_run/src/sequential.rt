@@ -12,6 +12,7 @@ ghost use Rattle.capture_run.specs.Results.{answer_writes};
 ghost use Rattle.capture_run.specs.Runs.{IsApart, IsPlainStop, IsRunOver, RunsEnd, AnswersOut, RunsOut, packet_in, answer_left, result_names};
 
 use crate::error::RunError;
+use crate::passing::count_of;
 use crate::records::{Records, Stamp, Survey};
 use crate::results::{ResultRoom, put_answer};
 use beat_core::{FRAME_LIMIT, Meta};
@@ -92,8 +93,10 @@ fn run_next<S: Shelf>(
         ifindex,
         time: stream.time(&packet),
     };
-    let frame = &mut buffer[..bytes.len()];
+    let frame = &mut buffer[..count_of(bytes)];
     frame.copy_from_slice(bytes);
+    // The maps are in range.
+    let _decls = maps.decls();
     answer_packet(shelf, files, room, plan, maps, frame, meta, stamp, index)
 }
 
@@ -119,6 +122,8 @@ pub fn run_capture<S: Shelf>(
     ensures plain { IfErr result IsPlainStop }
     ensures decls { maps.new.decls ≡ maps.old.decls }
 {
+    // The maps are in range.
+    let _decls = maps.decls();
     for index in 0..survey.count {
         run_next(
             shelf,

@@ -73,7 +73,7 @@ record AtNode (a b : XdpProgram) (u : Unfolded) (origin : List ℕ) (w : World) 
 
 at_node : (a b : XdpProgram) (u : Unfolded) (origin : List ℕ) (w : World) (m : Machine) → Covering a b u origin → Fits b m → StandsAt u.nodes.items w m → AtNode a b u origin w m
 at_node a b u origin w m c fits stands =
-    let links = c.laws.links b u.loops.items u.nodes.items w.node no_point c.unfolded.loops.loops c.unfolded.graph stands.inside in
+    let links = c.laws.links u.offsets b u.loops.items u.nodes.items w.node no_point c.unfolded.loops.loops c.unfolded.graph stands.inside in
     let place : m.place ≡ place_of u w.node = stands.place no_point in
     let begins : insn_at b.insns m.place ≡ Some links.insn = ap (insn_at b.insns) place ∙ links.insn_is in
     record {
@@ -254,7 +254,7 @@ keeps a b u origin c (goes_on {w = w} {v = v} {m = m} {n = n} {e = e} {taken = t
 nothing_told : (b : XdpProgram) (u : Unfolded) (w : World) (m : Machine) → w.node ≡ 0 → IsAsTold b u w m
 nothing_told b u w m first i told = let behind = told.behind in absurd (omega (arith, behind, first))
 
--- no lookup has been made
+-- no lookup and no base has been made
 nothing_yet : ℕ → Value
 nothing_yet n = is.Unset
 
@@ -263,14 +263,14 @@ covers_keep_runs laws a b u origin program unfolded cover packet maps declared r
     let c : Covering a b u origin = record { laws = laws; program = program; unfolded = unfolded; cover = cover } in
     let m : Machine = machine.start packet maps in
     let decls : maps.decls ≡ b.decls = declared ∙ sym cover.decls in
-    let sound = laws.runs b u packet maps program unfolded decls in
+    let sound = laws.runs b u packet maps program unfolded decls range in
     let fits : Fits b m = record { registers = refl; range = range; decls = decls } in
     let from_first : RunsTo (program_code a) (at_place (origin_of u origin 0) m) sound.left =
     subst (λ n. RunsTo (program_code a) (at_place (origin_of u origin n) m) sound.left) sound.first (keeps a b u origin c sound.path fits (nothing_told b u sound.world m sound.first)) in
     let begun : World = record { frame = length packet.frame; node = 0; gave = nothing_yet } in
-    let described : DescribesMachine begun kinds.start m = laws.start nothing_yet m refl refl in
+    let described : DescribesMachine begun (kinds.start u.offsets) m = laws.start u.offsets nothing_yet m refl refl in
     record {
       left = sound.left;
       of_b = (length u.nodes.items, sound.ended (length u.nodes.items) (omega arith));
-      of_a = settles_silently (program_code a) begun kinds.start (unit_count a.insns) m (origin_of u origin 0) sound.left described cover.start from_first;
+      of_a = settles_silently (program_code a) begun (kinds.start u.offsets) (unit_count a.insns) m (origin_of u origin 0) sound.left described cover.start from_first;
     }

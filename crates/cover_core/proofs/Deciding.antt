@@ -1,7 +1,6 @@
 -- Where kinds decide a condition, it is so of the values that they describe.
 use Rattle.std.proofs.Common.{◌≡◌, ℕ, zero, ℤ, pos, Bool, true, false, not, List, Option, Some, None, refl, ap}
 use Rattle.xdp_machine.specs.bpf_isa.declared.operation.Src.{Src}
-use Rattle.xdp_machine.specs.bpf_isa.declared.operation.Src.TheVariants.{K, X}
 use Rattle.xdp_machine.specs.bpf_isa.declared.operation.Width.{Width}
 use Rattle.xdp_machine.specs.bpf_isa.declared.operation.Width.TheVariants.{Bits32, Bits64}
 use Rattle.xdp_machine.specs.bpf_isa.declared.operation.JumpCode.{JumpCode}
@@ -15,12 +14,12 @@ use Rattle.xdp_machine.specs.State as machine
 use Rattle.xdp_machine.specs.Pointers.{compared}
 use Rattle.xdp_machine.specs.Step as step
 use Rattle.kind_core.specs.declared.number.Number.{Number}
-use Rattle.kind_core.specs.declared.number.Number.TheVariants.{Known, Unknown}
+use Rattle.kind_core.specs.declared.number.Number.TheVariants.{Known, Between}
 use Rattle.kind_core.specs.declared.kind.Kind.{Kind}
-use Rattle.kind_core.specs.declared.kind.Kind.TheVariants.{Num, Packet, End, Entry}
+use Rattle.kind_core.specs.declared.kind.Kind.TheVariants.{Num, Packet, Var, End, Entry}
 use Rattle.kind_core.specs.declared.kind.Kinds.{Kinds}
 use Rattle.kind_core.specs.Kinds.{register}
-use Rattle.kind_core.specs.Conditions.{bounds_test, mirrored, null_test, against_number, null_condition, pointer_condition, condition_of}
+use Rattle.kind_core.specs.Conditions.{bounds_test, base_test, mirrored, null_test, against_number, null_condition, pointer_condition, condition_of}
 use Rattle.kind_core.specs.Effects.{operand, jump}
 use Rattle.kind_core.specs.Edges.{decision}
 use Rattle.kind_core.specs.Describes.{World, Describes, DescribesNumber, DescribesMachine}
@@ -63,6 +62,13 @@ bounds_open Jlt o = refl
 bounds_open Jle o = refl
 bounds_open c o = refl
 
+base_open : (c : JumpCode) (node : ℕ) (f : ℤ) → decision (base_test c node f) ≡ None
+base_open Jgt node f = refl
+base_open Jge node f = refl
+base_open Jlt node f = refl
+base_open Jle node f = refl
+base_open c node f = refl
+
 not_open : {P : Type 0} (o : Option Bool) (t : Bool) → o ≡ None → o ≡ Some t → P
 not_open o t e h = absurd (cc)
 
@@ -70,13 +76,15 @@ pointer_decided : (w : World) (maps : MapState) (c : JumpCode) (a b : Kind) (x y
     → compared Bits64 c x y ≡ Some t
 pointer_decided w maps c (Packet o) End x y t p q h = not_open (decision (bounds_test c o)) t (bounds_open c o) h
 pointer_decided w maps c End (Packet o) x y t p q h = not_open (decision (bounds_test (mirrored c) o)) t (bounds_open (mirrored c) o) h
+pointer_decided w maps c (Var b f) End x y t p q h = not_open (decision (base_test c b.node f)) t (base_open c b.node f) h
+pointer_decided w maps c End (Var b f) x y t p q h = not_open (decision (base_test (mirrored c) b.node f)) t (base_open (mirrored c) b.node f) h
 pointer_decided w maps c a b x y t p q h = null_condition_decided w maps c a b x y t p q h
 
 condition_decided : (w : World) (maps : MapState) (wd : Width) (c : JumpCode) (a b : Kind) (x y : Value) (t : Bool) → Describes w maps a x → Describes w maps b y → decision (condition_of wd c a b) ≡ Some t
     → compared wd c x y ≡ Some t
 condition_decided w maps wd c (Num (Known i)) (Num (Known j)) x y t p q h = rw (p, q) h
-condition_decided w maps wd c (Num (Known i)) (Num Unknown) x y t p q h = absurd (cc)
-condition_decided w maps wd c (Num Unknown) (Num n) x y t p q h = absurd (cc)
+condition_decided w maps wd c (Num (Known i)) (Num (Between lo hi)) x y t p q h = absurd (cc)
+condition_decided w maps wd c (Num (Between lo hi)) (Num n) x y t p q h = absurd (cc)
 condition_decided w maps Bits64 c a b x y t p q h = pointer_decided w maps c a b x y t p q h
 condition_decided w maps Bits32 c a b x y t p q h = absurd (cc)
 

@@ -10,6 +10,7 @@ use Rattle.xdp_machine.specs.bpf_isa.declared.instruction.Insn.{Insn}
 use Rattle.xdp_machine.specs.bpf_isa.Text.{insn_at}
 use Rattle.xdp_machine.specs.Values.{◌>>=◌}
 use Rattle.xdp_machine.specs.Program.{XdpProgram}
+use Rattle.kind_core.specs.declared.kind.Offsets.TheVariants.{Fixed}
 use Rattle.kind_core.specs.Kinds as kinds
 use Rattle.unfold_core.specs.declared.edges.Point.{Point}
 use Rattle.unfold_core.specs.declared.links.Edge.{Edge}
@@ -19,7 +20,7 @@ use Rattle.unfold_core.specs.LinkLaws.{known_behind}
 use Rattle.cover_core.specs.Settling.{side, settled}
 
 abbrev pub no_point : Point
-no_point = record { node = record { place = 0; copies = [] }; kinds = kinds.start }
+no_point = record { node = record { place = 0; copies = [] }; kinds = kinds.start Fixed }
 
 -- a node of b, its place, and its place in a
 abbrev pub node_at : Unfolded → ℕ → Point
@@ -109,5 +110,5 @@ IsCovered a b u origin n = IsCoveredBy a b u origin n (insn_at b.insns (place_of
 -- The origins are a cover of a by b: both have the same maps, the first node's origin is where a settles at the start, and each node is covered.
 pub record IsCover (a b : XdpProgram) (u : Unfolded) (origin : List ℕ) : Type 0 where
   pub decls : b.decls ≡ a.decls
-  pub start : settled a.insns kinds.start 0 ≡ Some (origin_of u origin 0)
+  pub start : settled a.insns (kinds.start u.offsets) 0 ≡ Some (origin_of u origin 0)
   pub nodes : (n : ℕ) → n < length u.nodes.items → IsCovered a b u origin n

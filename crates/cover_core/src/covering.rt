@@ -314,9 +314,10 @@ fn are_covered(
 fn starts(a: &Program, units: &[Option<Insn>], unfolded: &Unfolded, origin: &[u32]) -> bool
     requires units { ArePlaces a.now.insns units.now }
     requires some { 0 < length unfolded.now.nodes.items }
-    ensures { IsTrue result ↔ (settled a.now.insns start 0 ≡ Some (origin_of unfolded.now origin.now 0)) }
+    ensures { IsTrue result ↔ (settled a.now.insns (start unfolded.now.offsets) 0 ≡ Some (origin_of unfolded.now origin.now 0)) }
 {
-    settle(a, units, &Kinds::start(), 0) == Some(u64::from(origin_of(unfolded, origin, 0)))
+    settle(a, units, &Kinds::start(unfolded.offsets), 0)
+        == Some(u64::from(origin_of(unfolded, origin, 0)))
 }
 
 /// Whether a program b, with its graph, covers a by these origins, a place of a for each place of b. Where it does, each packet has the same run

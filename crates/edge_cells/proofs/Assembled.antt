@@ -1,6 +1,7 @@
 -- What is held at a node, from its parts.
-use Rattle.std.proofs.Common.{◌≡◌, ℕ, ◌<◌, ◌≤◌, List, length, get_or, sym, ◌∙◌, ap, subst, arith}
-use Rattle.std.specs.Prelude.{All, slice_index}
+use Rattle.std.proofs.Common.{◌≡◌, ℕ, ◌<◌, ◌≤◌, List, [], ◌∷◌, length, get_or, sym, ◌∙◌, ap, subst, arith}
+use Rattle.std.specs.Prelude.{ℤ, ◌≤ℤ◌, All, slice_index}
+use Rattle.std.proofs.lemmas.Int.{ints}
 use Rattle.xdp_machine.specs.xdp_maps.declared.decl.MapDecl.{MapDecl}
 use Rattle.xdp_machine.specs.xdp_maps.State.{MapState}
 use Rattle.xdp_machine.specs.Values.{Value}
@@ -8,11 +9,14 @@ use Rattle.xdp_machine.specs.Values as is
 use Rattle.xdp_machine.specs.State.{PacketIn, Machine}
 use Rattle.xdp_machine.specs.State as machine
 use Rattle.kind_core.specs.declared.number.Number.{Number}
-use Rattle.kind_core.specs.declared.number.Number.TheVariants.{Known, Unknown}
+use Rattle.kind_core.specs.declared.number.Number.TheVariants.{Known, Between}
 use Rattle.kind_core.specs.declared.kind.Kind.{Kind}
-use Rattle.kind_core.specs.declared.kind.Kind.TheVariants.{Unset, Num, Mixed}
+use Rattle.kind_core.specs.declared.kind.Kind.TheVariants.{Unset, Num, Var, Mixed}
+use Rattle.kind_core.specs.declared.base.Base.{Base}
 use Rattle.kind_core.specs.declared.kind.Kinds.{Kinds}
-use Rattle.kind_core.specs.Describes.{World, Describes, DescribesMachine}
+use Rattle.kind_core.specs.declared.kind.Offsets.TheVariants.{Fixed}
+use Rattle.kind_core.specs.NumberBounds.{lower, upper}
+use Rattle.kind_core.specs.Describes.{World, Describes, IsFrom, DescribesMachine}
 use Rattle.kind_core.specs.Soundness.{Stands}
 use Rattle.cell_core.specs.Cells.{CellView, IsRun}
 use Rattle.operator_cells.specs.Making.{Grows}
@@ -29,15 +33,31 @@ use Rattle.operator_cells.proofs.MakingLaws.{grown}
 use Rattle.edge_cells.proofs.ExtendingLaws.{extends_none, holds_later, part_counts, inside_from_parts}
 use Rattle.edge_cells.proofs.WayLaws.{first_below}
 
-number-wider : (w : World) (maps : MapState) (n : Number) (x : Value) → Describes w maps (Num n) x → Describes w maps (Num Unknown) x
-number-wider w maps Unknown x h = h
-number-wider w maps (Known a) x h = (a, h)
+number-wider : (w : World) (maps : MapState) (lo hi : ℕ) (n : Number) (x : Value) → lo ≤ lower n → upper n ≤ hi → Describes w maps (Num n) x → Describes w maps (Num (Between lo hi)) x
+number-wider w maps lo hi (Between l u) x low high h = (h.0, h.1, omega (arith, low, h.2), omega (arith, high, h.3))
+number-wider w maps lo hi (Known a) x low high h = (a, h, low, high)
+
+-- of a base from which less is checked
+less-checked : (w : World) (j : Base) (z f : ℤ) (x : Value) → z ≤ℤ j.checked → IsFrom w j f x → IsFrom w (record j { checked = z }) f x
+less-checked w j z f x less d = record {
+  place = d.place;
+  before = d.before;
+  gave = d.gave;
+  low = d.low;
+  high = d.high;
+  inside = d.inside;
+  least = d.least;
+  most = d.most;
+  checked = omega (arith, ints, less, d.checked);
+  value = d.value;
+}
 
 describes-wider : (w : World) (maps : MapState) (a b : Kind) (x : Value) → Widens a b → Describes w maps b x → Describes w maps a x
 describes-wider w maps Unset b x h d = tt
 describes-wider w maps Mixed b x h d = tt
-describes-wider w maps (Num Unknown) b x h d = number-wider w maps h.0 x (subst (λ (k : Kind). Describes w maps k x) h.1 d)
+describes-wider w maps (Num (Between lo hi)) b x h d = number-wider w maps lo hi h.0 x h.2 h.3 (subst (λ (k : Kind). Describes w maps k x) h.1 d)
 describes-wider w maps (Num (Known n)) b x h d = subst (λ (k : Kind). Describes w maps k x) (sym h) d
+describes-wider w maps (Var a f) b x h d = subst (λ (j : Base). IsFrom w j f x) (sym h.2) (less-checked w h.0 a.checked f x h.3 (subst (λ (k : Kind). Describes w maps k x) h.1 d))
 describes-wider w maps a b x h d = subst (λ (k : Kind). Describes w maps k x) (sym h) d
 
 stands-wider : (w : World) (k j : Kinds) (m : Machine) → AreWider k j → Stands w j m → Stands w k m
@@ -51,12 +71,13 @@ stands-wider w k j m h s = record {
   registers = h.register_count ∙ s.registers;
   slots = h.slot_count ∙ s.slots;
   stack = s.stack;
+  range = s.range;
   values = s.values;
 }
 
 said : (w : World) (maps : MapState) (a : Kind) (x : Value) → Describes w maps a x → IsSaid a x
 said w maps (Num (Known n)) x d = d
-said w maps (Num Unknown) x d = tt
+said w maps (Num (Between lo hi)) x d = tt
 said w maps a x d = tt
 
 -- the value of a part of a machine
@@ -118,6 +139,11 @@ known-here decls old new ps qs here k h some more ways wider filled met packet v
       };
     }
 
+-- offsets do not vary where they do not on each edge
+fixed-here : (decls : List MapDecl) (cells : List CellView) (ps : List PointerView) (here : List Way) (k : Kinds) → 1 ≤ length here → AreWays decls cells ps here → All (λ e. AreWider k e.kinds) here → k.offsets ≡ Fixed
+fixed-here decls cells ps [] k some ways wider = absurd (omega (arith, some))
+fixed-here decls cells ps (e ∷ here) k some ways wider = (wider 0 e (omega arith)).offsets (ways 0 e (omega arith)).1.offsets
+
 pub joins_met : (decls : List MapDecl) (old mid new : List CellView) (ps qs : List PointerView) (here : List Way) (k : Kinds) (guard : ℕ) (h : RegisterCells) → 1 ≤ length here → AreWays decls old ps here
     → All (λ e. AreWider k e.kinds) here → AreFilled k → Guards old mid here guard → Grows mid new → Extends ps qs → AreMet decls new qs here k h → Joins decls old new ps qs here k guard h
 joins_met decls old mid new ps qs here k guard h some ways wider filled guards grows more met = record {
@@ -127,6 +153,6 @@ joins_met decls old mid new ps qs here k guard h some ways wider filled guards g
     value = λ packet v run bits. guards.value packet v (grows.run packet v run) bits;
   };
   extends = more;
-  inside = inside_from_parts decls (length new) qs h k (λ part p. (met part p).counts);
+  inside = inside_from_parts decls (length new) qs h k (fixed-here decls old ps here k some ways wider) (λ part p. (met part p).counts);
   known = known-here decls old new ps qs here k h some more ways wider filled met;
 }

@@ -17,7 +17,7 @@ use Rattle.xdp_machine.specs.State as machine
 use Rattle.xdp_machine.specs.Ranges.{InRange}
 use Rattle.xdp_machine.specs.Step as step
 use Rattle.xdp_machine.specs.Step.{exits, Ends}
-use Rattle.kind_core.specs.declared.number.Number.TheVariants.{Known, Unknown}
+use Rattle.kind_core.specs.declared.number.Number.TheVariants.{Known, Between}
 use Rattle.kind_core.specs.declared.kind.Kind.{Kind}
 use Rattle.kind_core.specs.declared.kind.Kind.TheVariants.{Num, Packet, End, Maybe, Entry}
 use Rattle.kind_core.specs.declared.kind.Kinds.{Kinds}
@@ -45,7 +45,7 @@ place-short decls o x e h = let f = subst (InRange decls) e h in omega (arith, i
 read : (w : World) (maps : MapState) (decls : List MapDecl) (packet : PacketIn) (v : ℕ → ℕ) (ps : List PointerView) (k : Kind) (c : ℕ) (x : Value) → w.frame ≡ length packet.frame → InRange decls x
     → Describes w maps k x → Holds decls v ps k c x → IsRead decls packet v ps k c x
 read w maps decls packet v ps (Num (Known n)) c x f r d h = d
-read w maps decls packet v ps (Num Unknown) c x f r d h = h
+read w maps decls packet v ps (Num (Between lo hi)) c x f r d h = h
 read w maps decls packet v ps (Packet o) c x f r d h = (d, place-short decls o x d r)
 read w maps decls packet v ps End c x f r d h = let e : x ≡ is.Packet (pos (length packet.frame)) = d ∙ ap (λ (n : ℕ). is.Packet (pos n)) f in (e, place-short decls (length packet.frame) x e r)
 read w maps decls packet v ps (Maybe q n) c x f r d h = h

@@ -28,22 +28,25 @@ use Rattle.operator_cells.specs.declared.held_cells.machine_cells.RegisterCells.
 use Rattle.operator_cells.specs.HeldCells.RegisterCells.{PointerView, pointer_at, key_of, Holds, Counts}
 use Rattle.operator_cells.specs.HeldCells.Carrying.{IsKnown}
 use Rattle.edge_cells.specs.Leaving.{EdgesAreKnown, EdgesAreInside, SingleEdgesAreKnown}
-use Rattle.edge_cells.proofs.JumpKindLaws.{Along, same, null, entry, IsEdge, edge_of, edge-any, single_edge}
+use Rattle.edge_cells.proofs.JumpKindLaws.{Along, same, null, entry, further, IsEdge, edge_of, edge-any, single_edge}
 
 counts-along : {P : ℕ → Type 0} (decls : List MapDecl) (n : ℕ) (ps : List PointerView) (a b : Kind) (c : ℕ) → Along P a b → Counts decls n ps a c → Counts decls n ps b c
 counts-along decls n ps a b c (same k) h = h
 counts-along decls n ps a b c (null q m) h = tt
 counts-along decls n ps a b c (entry q m p) h = h
+counts-along decls n ps a b c (further x y f) h = h
 
 pub set-along : {P : ℕ → Type 0} (a b : Kind) → Along P a b → a ≢ Unset → b ≢ Unset
 set-along a b (same k) h = h
 set-along a b (null q m) h = λ e. absurd (cc)
 set-along a b (entry q m p) h = λ e. absurd (cc)
+set-along a b (further x y f) h = λ e. absurd (cc)
 
 -- an answer that is an entry was found
 holds-along : {P : ℕ → Type 0} (w : World) (maps : MapState) (decls : List MapDecl) (v : ℕ → ℕ) (ps : List PointerView) (a b : Kind) (c : ℕ) (x : Value) → Along P a b → Describes w maps b x → Holds decls v ps a c x → Holds decls v ps b c x
 holds-along w maps decls v ps a b c x (same k) d h = h
 holds-along w maps decls v ps a b c x (null q m) d h = tt
+holds-along w maps decls v ps a b c x (further y z f) d h = h
 holds-along w maps decls v ps a b c x (entry q m p) d h = by (on (v (pointer_at ps c).found)) refl h
   where
     by : (t : Bool) → on (v (pointer_at ps c).found) ≡ t → x ≡ (if t then is.Entry q (key_of decls v q (pointer_at ps c)) (pos 0) else is.Number 0)
@@ -59,6 +62,7 @@ edges_are_inside decls n ps k h i node w c s taken is inside =
       slots = λ r l. counts-along decls n ps _ _ (slice_index h.slots r) (e.slots r) (inside.slots r l);
       window = inside.window;
       target = inside.target;
+      offsets = e.offsets ∙ inside.offsets;
     }
 
 placed-range : (m : Machine) (place : ℕ) → IsInRange m → IsInRange (record m { place = place })
@@ -78,6 +82,7 @@ known-along decls packet v ps node to place k j h m known l d e = record {
     registers = e.register_count ∙ known.stands.registers;
     slots = e.slot_count ∙ known.stands.slots;
     stack = known.stands.stack;
+    range = placed-range m place known.in_range;
     values = known.stands.values;
   };
   in_range = placed-range m place known.in_range;
@@ -120,6 +125,7 @@ edges_are_known sound later decls packet v ps node to place k h m i w c s taken 
       registers = known.stands.registers;
       slots = known.stands.slots;
       stack = known.stands.stack;
+      range = known.stands.range;
       values = known.stands.values;
     }) known.decls_are is ok cmp)
     (edge_of decls k i node w c s taken is)
@@ -128,4 +134,4 @@ pub single_edges_are_known : LaterDescribes → SingleEdgesAreKnown
 single_edges_are_known later decls packet v ps node to place k h m i w taken known l is =
     subst (λ (j : Kinds). IsKnown decls packet v ps to j h (record m { place = place })) (sym (single_edge decls k i node w taken is))
     (known-along decls packet v ps node to place k k h m known l
-    (later known.world (at_node known.world node) k m (record { frame = refl; node = known.node_is; gave = λ n p. refl }) known.stands.described) (edge-any {P = λ n. ⊥} k k refl refl))
+    (later known.world (at_node known.world node) k m (record { frame = refl; node = known.node_is; gave = λ n p. refl }) known.stands.described) (edge-any {P = λ n. ⊥} k k refl refl refl))

@@ -12,13 +12,14 @@ use Rattle.kind_core.specs.Edges.{transferred}
 use Rattle.operator_cells.specs.declared.held_cells.machine_cells.RegisterCells.{RegisterCells}
 use Rattle.operator_cells.specs.HeldCells.RegisterCells.{PointerView}
 use Rattle.operator_cells.specs.HeldCells.Rows.{value_row, number_at, held_row}
-use Rattle.edge_cells.proofs.JumpKindLaws.{Along, same, null, entry, IsEdge, along_at, edge_of, single_edge}
+use Rattle.edge_cells.proofs.JumpKindLaws.{Along, same, null, entry, further, IsEdge, along_at, edge_of, single_edge}
 
 -- what a lookup answered has the same cells as an entry, and none as null
 value_along : {P : ℕ → Type 0} (row : ℕ → ℕ) (ps : List PointerView) (a b : Kind) (c : ℕ) → Along P a b → value_row row ps b c ≤ value_row row ps a c
 value_along row ps a b c (same k) = omega arith
 value_along row ps a b c (null q n) = omega arith
 value_along row ps a b c (entry q n p) = omega arith
+value_along row ps a b c (further x y f) = omega arith
 
 held_along : {P : ℕ → Type 0} (row : ℕ → ℕ) (ps : List PointerView) (h : RegisterCells) (k j : Kinds) (place : ℕ) → IsEdge P k j → held_row row ps h j place ≤ held_row row ps h k place
 held_along row ps h k j place e = value_along row ps _ _ (number_at h place) (along_at k j place e)

@@ -4,7 +4,7 @@ use Rattle.std.specs.Prelude.{slice_index}
 use Rattle.std.proofs.Math.ListN.{set}
 use Rattle.std.proofs.lemmas.Bool.{cases_lt}
 use Rattle.xdp_machine.specs.xdp_maps.declared.decl.MapDecl.{MapDecl}
-use Rattle.kind_core.specs.declared.number.Number.TheVariants.{Unknown}
+use Rattle.kind_core.specs.declared.number.Number.TheVariants.{Between}
 use Rattle.kind_core.specs.declared.kind.Kind.{Kind}
 use Rattle.kind_core.specs.declared.kind.Kind.TheVariants.{Num, Maybe, Entry}
 use Rattle.kind_core.specs.declared.kind.Kinds.{Kinds}
@@ -54,7 +54,7 @@ part_at place l = by (location_at place) (held_there place l) (numbered_as place
 -- ---- more pointers
 
 value_later : (decls : List MapDecl) (n : ℕ) (row : ℕ → ℕ) (ps qs : List PointerView) (x : Kind) (c : ℕ) → Extends ps qs → Counts decls n ps x c → value_row row qs x c ≡ value_row row ps x c
-value_later decls n row ps qs (Num Unknown) c e k = refl
+value_later decls n row ps qs (Num (Between lo hi)) c e k = refl
 value_later decls n row ps qs (Maybe q j) c e k = ap (λ (p : PointerView). greatest row (cells_of_pointer p)) (same_pointer ps qs c e k.0)
 value_later decls n row ps qs (Entry q o) c e k = ap (λ (p : PointerView). greatest row (cells_of_pointer p)) (same_pointer ps qs c e k.0)
 value_later decls n row ps qs x c e k = refl

@@ -5,9 +5,9 @@ use Rattle.xdp_machine.specs.bpf_isa.declared.operation.Src.{Src}
 use Rattle.xdp_machine.specs.bpf_isa.declared.operation.Src.TheVariants.{K, X}
 use Rattle.xdp_machine.specs.bpf_isa.declared.instruction.Insn.{Insn}
 use Rattle.xdp_machine.specs.xdp_maps.declared.decl.MapDecl.{MapDecl}
-use Rattle.kind_core.specs.declared.number.Number.TheVariants.{Known, Unknown}
+use Rattle.kind_core.specs.declared.number.Number.TheVariants.{Known, Between}
 use Rattle.kind_core.specs.declared.kind.Kind.{Kind}
-use Rattle.kind_core.specs.declared.kind.Kind.TheVariants.{Num, Maybe}
+use Rattle.kind_core.specs.declared.kind.Kind.TheVariants.{Num, Var, Maybe}
 use Rattle.kind_core.specs.declared.kind.Kinds.{Kinds}
 use Rattle.kind_core.specs.Kinds.{register}
 use Rattle.kind_core.specs.Effects.{operand}
@@ -17,7 +17,8 @@ use Rattle.edge_cells.specs.Testing.{IsReady}
 use Rattle.edge_cells.specs.Leaving.{operand_held, OperandsAreReady}
 
 ready : (decls : List MapDecl) (n : ℕ) (ps : List PointerView) (k : Kind) (c : ℕ) → Counts decls n ps k c → IsReady n ps k c
-ready decls n ps (Num Unknown) c h = h
+ready decls n ps (Num (Between lo hi)) c h = h
+ready decls n ps (Var b f) c h = h
 ready decls n ps (Num (Known a)) c h = tt
 ready decls n ps (Maybe q j) c h = (h.0, h.1.found)
 ready decls n ps k c h = tt

@@ -5,9 +5,9 @@ use Rattle.std.proofs.lemmas.Bool.{eq-eqb, eqb-true}
 use Rattle.std.proofs.lemmas.List.Sums.{AllPass-from_list_all, list_all-from_AllPass}
 use Rattle.xdp_machine.specs.xdp_maps.declared.decl.MapDecl.{MapDecl}
 use Rattle.kind_core.specs.declared.number.Number.{Number}
-use Rattle.kind_core.specs.declared.number.Number.TheVariants.{Known, Unknown}
+use Rattle.kind_core.specs.declared.number.Number.TheVariants.{Known, Between}
 use Rattle.kind_core.specs.declared.kind.Kind.{Kind}
-use Rattle.kind_core.specs.declared.kind.Kind.TheVariants.{Unset, Num, Maybe, Entry, Mixed}
+use Rattle.kind_core.specs.declared.kind.Kind.TheVariants.{Unset, Num, Var, Maybe, Entry, Mixed}
 use Rattle.kind_core.specs.declared.kind.Kinds.{Kinds}
 use Rattle.cell_core.specs.Cells.{CellView}
 use Rattle.cell_core.specs.Rows.{greatest}
@@ -69,7 +69,7 @@ Agree part c e = (is_known (kind_at part e.kinds) ≡ false) × (held_at part e.
 
 known_same : (k : Kind) → reading.is_known k ≡ is_known k
 known_same (Num (Known n)) = refl
-known_same (Num Unknown) = refl
+known_same (Num (Between lo hi)) = refl
 known_same k = refl
 
 both_true : (a b : Bool) → (not a && b) ≡ true → (a ≡ false) × (b ≡ true)
@@ -122,15 +122,16 @@ choosing_chosen row ps here k part p o h =
 
 -- ---- all edges bring one
 
-number_less : (row : ℕ → ℕ) (n : Number) (c : ℕ) → is_known (Num n) ≡ false → number_row row Unknown c ≤ number_row row n c
-number_less row Unknown c k = omega arith
-number_less row (Known a) c k = absurd (cc)
+number_less : (row : ℕ → ℕ) (lo hi : ℕ) (n : Number) (c : ℕ) → is_known (Num n) ≡ false → number_row row (Between lo hi) c ≤ number_row row n c
+number_less row lo hi (Between l h) c k = omega arith
+number_less row lo hi (Known a) c k = absurd (cc)
 
 value_less : (row : ℕ → ℕ) (ps : List PointerView) (a b : Kind) (c : ℕ) → Widens a b → is_known b ≡ false → value_row row ps a c ≤ value_row row ps b c
 value_less row ps Unset b c w k = omega arith
 value_less row ps Mixed b c w k = omega arith
-value_less row ps (Num Unknown) b c w k = subst (λ (y : Kind). value_row row ps (Num Unknown) c ≤ value_row row ps y c) (sym w.1) (number_less row w.0 c (subst (λ (y : Kind). is_known y ≡ false) w.1 k))
+value_less row ps (Num (Between lo hi)) b c w k = subst (λ (y : Kind). value_row row ps (Num (Between lo hi)) c ≤ value_row row ps y c) (sym w.1) (number_less row lo hi w.0 c (subst (λ (y : Kind). is_known y ≡ false) w.1 k))
 value_less row ps (Num (Known n)) b c w k = omega arith
+value_less row ps (Var a f) b c w k = omega arith
 value_less row ps a b c w k = subst (λ (y : Kind). value_row row ps a c ≤ value_row row ps y c) w (omega arith)
 
 below : (a b c d : ℕ) → a ≤ b → b ≡ c → c ≤ d → a ≤ d
@@ -170,13 +171,13 @@ chosen_to old new ps qs here k part c cs brings p o none low is r = record {
     chosen row = choice_chosen row ps brings here (data_place part) (λ i d l.
         subst (λ (n : ℕ). brings row (get_or here i d) ≤ n) (sym (row_there row ps (get_or here i d).held (get_or here i d).kinds part p)) (low row i d l))
 
-number_low : (row : ℕ → ℕ) (ps : List PointerView) (a b : Kind) (c : ℕ) → a ≡ Num Unknown → Widens a b → number_row row (number_in b) c ≤ value_row row ps b c
-number_low row ps a b c e w = let n : (n : Number) × (b ≡ Num n) = subst (λ (x : Kind). Widens x b) e w in subst (λ (x : Kind). number_row row (number_in x) c ≤ value_row row ps x c) (sym n.1) (omega arith)
+number_low : (row : ℕ → ℕ) (ps : List PointerView) (a b : Kind) (c lo hi : ℕ) → a ≡ Num (Between lo hi) → Widens a b → number_row row (number_in b) c ≤ value_row row ps b c
+number_low row ps a b c lo hi e w = let n = subst (λ (x : Kind). Widens x b) e w in subst (λ (x : Kind). number_row row (number_in x) c ≤ value_row row ps x c) (sym n.1) (omega arith)
 
-pub meets_number : (decls : List MapDecl) (old new : List CellView) (ps : List PointerView) (here : List Way) (k : Kinds) (part : Part) (c : ℕ) → AreAt decls old ps here k part → kind_at part k ≡ Num Unknown
+pub meets_number : (decls : List MapDecl) (old new : List CellView) (ps : List PointerView) (here : List Way) (k : Kinds) (part : Part) (c lo hi : ℕ) → AreAt decls old ps here k part → kind_at part k ≡ Num (Between lo hi)
     → hold_one here (data_place part) ≡ false → Rises old new c (λ row. choice_row row (number_row_brought part) here) → MeetsTo old new ps ps here k part c
-meets_number decls old new ps here k part c a e none r = chosen_to old new ps ps here k part c (c ∷ []) (number_row_brought part) a.is_part (ap is_open e) none
-    (λ row i d l. number_low row ps (kind_at part k) (kind_at part (get_or here i d).kinds) (held_at part (get_or here i d).held) e (part_wider k (get_or here i d).kinds part (a.wider i d l)))
+meets_number decls old new ps here k part c lo hi a e none r = chosen_to old new ps ps here k part c (c ∷ []) (number_row_brought part) a.is_part (ap is_open e) none
+    (λ row i d l. number_low row ps (kind_at part k) (kind_at part (get_or here i d).kinds) (held_at part (get_or here i d).held) lo hi e (part_wider k (get_or here i d).kinds part (a.wider i d l)))
     (λ row. ap (λ (x : Kind). value_row row ps x c) e) (record { grows = r.grows; results = λ row rows. omega (arith, r.result row rows) })
 
 pointer_open : (a : Kind) (q : ℕ) → map_of a ≡ Some q → is_open a ≡ true
@@ -209,7 +210,7 @@ meets_pointer decls old new ps qs here k part q c a e none r = chosen_to old new
 -- ---- kinds without data
 
 none_row : (row : ℕ → ℕ) (ps : List PointerView) (a : Kind) (c : ℕ) → map_of a ≡ None → is_unknown a ≡ false → value_row row ps a c ≡ 0
-none_row row ps (Num Unknown) c h g = absurd (cc)
+none_row row ps (Num (Between lo hi)) c h g = absurd (cc)
 none_row row ps (Num (Known a)) c h g = refl
 none_row row ps (Maybe q j) c h g = absurd (cc)
 none_row row ps (Entry q o) c h g = absurd (cc)

@@ -1,6 +1,6 @@
 -- What meets at a part.
 use Rattle.std.proofs.Common.{◌≡◌, ℕ, pos, zero, suc, ◌*◌, ◌<◌, ◌≤◌, true, false, if◌then◌else◌, List, [], ◌∷◌, length, length-append, get_or, map as map_list, refl, sym, ◌∙◌, ap, subst, arith}
-use Rattle.std.specs.Prelude.{All, Some, None}
+use Rattle.std.specs.Prelude.{ℤ, All, Some, None}
 use Rattle.std.proofs.lemmas.List.{length-map, get_or-map, get_or_default}
 use Rattle.std.proofs.lemmas.Grind.{div_ceil_times}
 use Rattle.xdp_machine.specs.xdp_maps.declared.decl.MapDecl.{MapDecl}
@@ -8,10 +8,12 @@ use Rattle.xdp_machine.specs.Values.{Value}
 use Rattle.xdp_machine.specs.Values as is
 use Rattle.xdp_machine.specs.State.{PacketIn}
 use Rattle.kind_core.specs.declared.number.Number.{Number}
-use Rattle.kind_core.specs.declared.number.Number.TheVariants.{Known, Unknown}
+use Rattle.kind_core.specs.declared.number.Number.TheVariants.{Known, Between}
 use Rattle.kind_core.specs.declared.kind.Kind.{Kind}
-use Rattle.kind_core.specs.declared.kind.Kind.TheVariants.{Unset, Num, Maybe, Entry, Mixed}
+use Rattle.kind_core.specs.declared.kind.Kind.TheVariants.{Unset, Num, Var, Maybe, Entry, Mixed}
 use Rattle.kind_core.specs.declared.kind.Kinds.{Kinds}
+use Rattle.kind_core.specs.declared.base.Base.{Base}
+use Rattle.kind_core.specs.NumberBounds.{any_number}
 use Rattle.kind_core.specs.Kinds.{key_bytes}
 use Rattle.cell_core.specs.Cells.{CellView, IsRun, on}
 use Rattle.operator_cells.specs.declared.held_cells.way.Way.{Way}
@@ -24,35 +26,38 @@ use Rattle.operator_cells.proofs.MakingLaws.{grown_none}
 use Rattle.edge_cells.proofs.Words.{bytes_same}
 use Rattle.edge_cells.proofs.ExtendingLaws.{extends_none, extended, same_pointer, pointer_new, part_counts}
 use Rattle.edge_cells.proofs.WayLaws.{first_below}
+use Rattle.edge_cells.proofs.Widened.{widens-same}
 
 pub part_wider : (k j : Kinds) (part : Part) → AreWider k j → Widens (kind_at part k) (kind_at part j)
 part_wider k j (Register r) w = w.registers r
 part_wider k j (Slot s) w = w.slots s
-part_wider k j (Byte i) w = (Unknown, refl)
-part_wider k j Target w = (Unknown, refl)
+part_wider k j (Byte i) w = widens-same (Num (any_number 64))
+part_wider k j Target w = widens-same (Num (any_number 64))
 
 -- ---- all edges bring one cell
 
 number-same : (decls : List MapDecl) (v : ℕ → ℕ) (qs : List PointerView) (n : Number) (c : ℕ) (x : Value) → is_known (Num n) ≡ false → Holds decls v qs (Num n) c x → x ≡ is.Number (v c)
-number-same decls v qs Unknown c x k h = h
+number-same decls v qs (Between lo hi) c x k h = h
 number-same decls v qs (Known a) c x k h = absurd (cc)
 
 holds-same : (decls : List MapDecl) (v : ℕ → ℕ) (qs : List PointerView) (a b : Kind) (c : ℕ) (x : Value) → Widens a b → is_known b ≡ false → Holds decls v qs b c x → Holds decls v qs a c x
 holds-same decls v qs Unset b c x w k h = tt
 holds-same decls v qs Mixed b c x w k h = tt
-holds-same decls v qs (Num Unknown) b c x w k h = number-same decls v qs w.0 c x (subst (λ (y : Kind). is_known y ≡ false) w.1 k) (subst (λ (y : Kind). Holds decls v qs y c x) w.1 h)
+holds-same decls v qs (Num (Between lo hi)) b c x w k h = number-same decls v qs w.0 c x (subst (λ (y : Kind). is_known y ≡ false) w.1 k) (subst (λ (y : Kind). Holds decls v qs y c x) w.1 h)
 holds-same decls v qs (Num (Known n)) b c x w k h = tt
+holds-same decls v qs (Var a f) b c x w k h = subst (λ (y : Kind). Holds decls v qs y c x) w.1 h
 holds-same decls v qs a b c x w k h = subst (λ (y : Kind). Holds decls v qs y c x) (sym w) h
 
 number-there : (decls : List MapDecl) (n : ℕ) (ps : List PointerView) (a : Number) (c : ℕ) → is_known (Num a) ≡ false → Counts decls n ps (Num a) c → c < n
-number-there decls n ps Unknown c k h = h
+number-there decls n ps (Between lo hi) c k h = h
 number-there decls n ps (Known a) c k h = absurd (cc)
 
 counts-same : (decls : List MapDecl) (n : ℕ) (ps : List PointerView) (a b : Kind) (c : ℕ) → Widens a b → is_known b ≡ false → Counts decls n ps b c → Counts decls n ps a c
 counts-same decls n ps Unset b c w k h = tt
 counts-same decls n ps Mixed b c w k h = tt
-counts-same decls n ps (Num Unknown) b c w k h = number-there decls n ps w.0 c (subst (λ (y : Kind). is_known y ≡ false) w.1 k) (subst (λ (y : Kind). Counts decls n ps y c) w.1 h)
+counts-same decls n ps (Num (Between lo hi)) b c w k h = number-there decls n ps w.0 c (subst (λ (y : Kind). is_known y ≡ false) w.1 k) (subst (λ (y : Kind). Counts decls n ps y c) w.1 h)
 counts-same decls n ps (Num (Known a)) b c w k h = tt
+counts-same decls n ps (Var a f) b c w k h = subst (λ (y : Kind). Counts decls n ps y c) w.1 h
 counts-same decls n ps a b c w k h = subst (λ (y : Kind). Counts decls n ps y c) (sym w) h
 
 -- what is asked of edges and kinds where they meet at a part
@@ -91,30 +96,30 @@ met_same decls cells ps here k part c e a all = record {
 -- ---- numbers
 
 number-brings : (decls : List MapDecl) (n : ℕ) (ps : List PointerView) (a : Number) (c : ℕ) → Counts decls n ps (Num a) c → IsThere n a c
-number-brings decls n ps Unknown c h = h
+number-brings decls n ps (Between lo hi) c h = h
 number-brings decls n ps (Known a) c h = tt
 
 number-held : (decls : List MapDecl) (v : ℕ → ℕ) (qs : List PointerView) (a : Number) (c : ℕ) (x : Value) → IsSaid (Num a) x → Holds decls v qs (Num a) c x → x ≡ is.Number (number_of v a c)
-number-held decls v qs Unknown c x said h = h
+number-held decls v qs (Between lo hi) c x said h = h
 number-held decls v qs (Known a) c x said h = said
 
 -- a number where edges meet is one on each of them
-is-number : (k : Kind) → k ≡ Num Unknown → (b : Kind) → Widens k b → (n : Number) × (b ≡ Num n)
-is-number k e b w = subst (λ (a : Kind). Widens a b) e w
+is-number : (k : Kind) (lo hi : ℕ) → k ≡ Num (Between lo hi) → (b : Kind) → Widens k b → (n : Number) × (b ≡ Num n)
+is-number k lo hi e b w = let n = subst (λ (a : Kind). Widens a b) e w in (n.0, n.1)
 
-pub numbers_brought : (decls : List MapDecl) (cells : List CellView) (ps : List PointerView) (here : List Way) (k : Kinds) (part : Part) → AreAt decls cells ps here k part
-    → kind_at part k ≡ Num Unknown → BringNumbers (length cells) here part
-numbers_brought decls cells ps here k part a e i d l =
-    let n = is-number (kind_at part k) e (kind_at part (get_or here i d).kinds) (widened decls cells ps here k part a i d l) in (
+pub numbers_brought : (decls : List MapDecl) (cells : List CellView) (ps : List PointerView) (here : List Way) (k : Kinds) (part : Part) (lo hi : ℕ) → AreAt decls cells ps here k part
+    → kind_at part k ≡ Num (Between lo hi) → BringNumbers (length cells) here part
+numbers_brought decls cells ps here k part lo hi a e i d l =
+    let n = is-number (kind_at part k) lo hi e (kind_at part (get_or here i d).kinds) (widened decls cells ps here k part a i d l) in (
       (a.ways i d l).0,
       subst (λ (b : Kind). IsThere (length cells) (number_in b) (held_at part (get_or here i d).held)) (sym n.1)
           (number-brings decls (length cells) ps n.0 (held_at part (get_or here i d).held)
           (subst (λ (b : Kind). Counts decls (length cells) ps b (held_at part (get_or here i d).held)) n.1 (counted decls cells ps here k part a i d l))),
     )
 
-pub met_number : (decls : List MapDecl) (old new : List CellView) (ps : List PointerView) (here : List Way) (k : Kinds) (part : Part) (c : ℕ) → AreAt decls old ps here k part
-    → kind_at part k ≡ Num Unknown → Picks old new here (number_brought part) c → MeetsMore decls old new ps ps here part (kind_at part k) c
-met_number decls old new ps here k part c a e p = subst (λ (kind : Kind). MeetsMore decls old new ps ps here part kind c) (sym e) (record {
+pub met_number : (decls : List MapDecl) (old new : List CellView) (ps : List PointerView) (here : List Way) (k : Kinds) (part : Part) (c lo hi : ℕ) → AreAt decls old ps here k part
+    → kind_at part k ≡ Num (Between lo hi) → Picks old new here (number_brought part) c → MeetsMore decls old new ps ps here part (kind_at part k) c
+met_number decls old new ps here k part c lo hi a e p = subst (λ (kind : Kind). MeetsMore decls old new ps ps here part kind c) (sym e) (record {
   grows = p.grows;
   extends = extends_none ps;
   meets = record {
@@ -124,7 +129,7 @@ met_number decls old new ps here k part c a e p = subst (λ (kind : Kind). Meets
         let l : i < length here = first_below v here a.some in
         let b : Kind = kind_at part (get_or here i d).kinds in
         let cell : ℕ = held_at part (get_or here i d).held in
-        let n = is-number (kind_at part k) e b (widened decls old ps here k part a i d l) in
+        let n = is-number (kind_at part k) lo hi e b (widened decls old ps here k part a i d l) in
         number-held decls v qs n.0 cell x (subst (λ (y : Kind). IsSaid y x) n.1 said) (subst (λ (y : Kind). Holds decls v qs y cell x) n.1 h)
         ∙ ap (λ (y : Kind). is.Number (number_of v (number_in y) cell)) (sym n.1)
         ∙ ap is.Number (sym (p.value packet v d run));
@@ -237,31 +242,43 @@ met_pointer decls old new ps qs here k part q c a e p = record {
 
 -- ---- kinds without data
 
-counts-none : (decls : List MapDecl) (n : ℕ) (ps : List PointerView) (a : Kind) (c : ℕ) → map_of a ≡ None → is_unknown a ≡ false → Counts decls n ps a c
-counts-none decls n ps (Num Unknown) c h g = absurd (cc)
-counts-none decls n ps (Num (Known a)) c h g = tt
-counts-none decls n ps (Maybe q j) c h g = absurd (cc)
-counts-none decls n ps (Entry q o) c h g = absurd (cc)
-counts-none decls n ps a c h g = tt
+-- a place in the packet that is not known no edge brings
+never-var : (decls : List MapDecl) (cells : List CellView) (ps : List PointerView) (here : List Way) (k : Kinds) (part : Part) → AreAt decls cells ps here k part → (b : Base) (f : ℤ) → kind_at part k ≡ Var b f → ⊥
+never-var decls cells ps [] k part a b f e = absurd (omega (arith, a.some))
+never-var decls cells ps (d ∷ here) k part a b f e =
+    let w = subst (λ (x : Kind). Widens x (kind_at part d.kinds)) e (widened decls cells ps (d ∷ here) k part a 0 d a.some) in
+    subst (λ (x : Kind). Counts decls (length cells) ps x (held_at part d.held)) w.1 (counted decls cells ps (d ∷ here) k part a 0 d a.some)
 
-holds-none : (decls : List MapDecl) (v : ℕ → ℕ) (ps : List PointerView) (a : Kind) (c : ℕ) (x : Value) → map_of a ≡ None → is_unknown a ≡ false → Holds decls v ps a c x
-holds-none decls v ps (Num Unknown) c x h g = absurd (cc)
-holds-none decls v ps (Num (Known a)) c x h g = tt
-holds-none decls v ps (Maybe q j) c x h g = absurd (cc)
-holds-none decls v ps (Entry q o) c x h g = absurd (cc)
-holds-none decls v ps a c x h g = tt
+counts-none : (decls : List MapDecl) (n : ℕ) (ps : List PointerView) (a : Kind) (c : ℕ) → ((b : Base) (f : ℤ) → a ≡ Var b f → ⊥) → map_of a ≡ None → is_unknown a ≡ false → Counts decls n ps a c
+counts-none decls n ps (Num (Between lo hi)) c never h g = absurd (cc)
+counts-none decls n ps (Num (Known a)) c never h g = tt
+counts-none decls n ps (Var b f) c never h g = never b f refl
+counts-none decls n ps (Maybe q j) c never h g = absurd (cc)
+counts-none decls n ps (Entry q o) c never h g = absurd (cc)
+counts-none decls n ps a c never h g = tt
 
-pub met_none : (decls : List MapDecl) (cells : List CellView) (ps : List PointerView) (here : List Way) (k : Kinds) (part : Part) (c : ℕ) → map_of (kind_at part k) ≡ None → is_unknown (kind_at part k) ≡ false
+holds-none : (decls : List MapDecl) (v : ℕ → ℕ) (ps : List PointerView) (a : Kind) (c : ℕ) (x : Value) → ((b : Base) (f : ℤ) → a ≡ Var b f → ⊥) → map_of a ≡ None → is_unknown a ≡ false → Holds decls v ps a c x
+holds-none decls v ps (Num (Between lo hi)) c x never h g = absurd (cc)
+holds-none decls v ps (Num (Known a)) c x never h g = tt
+holds-none decls v ps (Var b f) c x never h g = never b f refl
+holds-none decls v ps (Maybe q j) c x never h g = absurd (cc)
+holds-none decls v ps (Entry q o) c x never h g = absurd (cc)
+holds-none decls v ps a c x never h g = tt
+
+pub met_none : (decls : List MapDecl) (cells : List CellView) (ps : List PointerView) (here : List Way) (k : Kinds) (part : Part) (c : ℕ) → AreAt decls cells ps here k part → map_of (kind_at part k) ≡ None → is_unknown (kind_at part k) ≡ false
     → MeetsMore decls cells cells ps ps here part (kind_at part k) c
-met_none decls cells ps here k part c h g = record {
+met_none decls cells ps here k part c a h g = record {
   grows = grown_none;
   extends = extends_none ps;
-  meets = record { counts = counts-none decls (length cells) ps (kind_at part k) c h g; holds = λ packet v qs d x run more said held. holds-none decls v qs (kind_at part k) c x h g };
+  meets = record {
+    counts = counts-none decls (length cells) ps (kind_at part k) c (never-var decls cells ps here k part a) h g;
+    holds = λ packet v qs d x run more said held. holds-none decls v qs (kind_at part k) c x (never-var decls cells ps here k part a) h g;
+  };
 }
 
 -- a number that is not known has no other kind
-pub unknown_is : (k : Kind) → is_unknown k ≡ true → k ≡ Num Unknown
-unknown_is (Num Unknown) h = refl
+pub unknown_is : (k : Kind) → is_unknown k ≡ true → (lo : ℕ) × (hi : ℕ) × (k ≡ Num (Between lo hi))
+unknown_is (Num (Between lo hi)) h = (lo, hi, refl)
 unknown_is k h = absurd (cc)
 
 pub met_words : (decls : List MapDecl) (old new : List CellView) (ps qs : List PointerView) (here : List Way) (k : Kinds) (part : Part) (q n c : ℕ) → n ≡ words_of (key_bytes decls q) → map_of (kind_at part k) ≡ Some q

@@ -4,7 +4,7 @@ use Rattle.std.specs.Prelude.{Option, Some, None, slice_index}
 use Rattle.std.proofs.Math.ListN.{set}
 use Rattle.std.proofs.lemmas.Bool.{cases_lt}
 use Rattle.xdp_machine.specs.xdp_maps.declared.decl.MapDecl.{MapDecl}
-use Rattle.kind_core.specs.declared.number.Number.TheVariants.{Unknown}
+use Rattle.kind_core.specs.NumberBounds.{any_number}
 use Rattle.kind_core.specs.declared.kind.Kind.{Kind}
 use Rattle.kind_core.specs.declared.kind.Kind.TheVariants.{Unset, Num, Maybe, Entry}
 use Rattle.kind_core.specs.declared.kind.Kinds.{Kinds}
@@ -144,8 +144,8 @@ rows_points decls a b c d e f p q r s t here k h some ways registers registers_p
     points_later (grown slots.grows (grown window.grows target.grows)) (extended slots.extends (extended window.extends target.extends)) (registers.each i (omega (arith, l))) (registers_point.each i (omega (arith, l)))
 rows_points decls a b c d e f p q r s t here k h some ways registers registers_point slots slots_point window target (Slot i) l =
     points_later (grown window.grows target.grows) (extended window.extends target.extends) (slots.each i l) (points_from a some l registers.extends ways (slots_point.each i l))
-rows_points decls a b c d e f p q r s t here k h some ways registers registers_point slots slots_point window target (Byte i) l = points_none (Num Unknown) refl
-rows_points decls a b c d e f p q r s t here k h some ways registers registers_point slots slots_point window target Target l = points_none (Num Unknown) refl
+rows_points decls a b c d e f p q r s t here k h some ways registers registers_point slots slots_point window target (Byte i) l = points_none (Num (any_number 64)) refl
+rows_points decls a b c d e f p q r s t here k h some ways registers registers_point slots slots_point window target Target l = points_none (Num (any_number 64)) refl
 
 nowhere : (k : Kinds) (place : ℕ) → first_pending ≤ place → places.kind_at k place ≡ Unset
 nowhere k place l = ap (places.kind_by k) (pending_there place l)

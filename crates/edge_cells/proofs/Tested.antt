@@ -12,16 +12,16 @@ use Rattle.xdp_machine.specs.Values as is
 use Rattle.xdp_machine.specs.State.{PacketIn}
 use Rattle.xdp_machine.specs.Pointers.{compared, in_order}
 use Rattle.kind_core.specs.declared.number.Number.{Number}
-use Rattle.kind_core.specs.declared.number.Number.TheVariants.{Known, Unknown}
+use Rattle.kind_core.specs.declared.number.Number.TheVariants.{Known, Between}
 use Rattle.kind_core.specs.declared.kind.Kind.{Kind}
-use Rattle.kind_core.specs.declared.kind.Kind.TheVariants.{Unset, Num, Packet, End, Maybe}
+use Rattle.kind_core.specs.declared.kind.Kind.TheVariants.{Unset, Num, Packet, Var, End, Maybe}
 use Rattle.cell_core.specs.Cells.{CellView, IsRun, cell_at, bit, on}
 use Rattle.cell_core.specs.CellLaws.{ValuesFit}
 use Rattle.cell_core.specs.Formed.{AreFormed}
 use Rattle.cell_core.specs.declared.operator.Operator.TheVariants.{Constant}
 use Rattle.operator_cells.specs.Making.{Makes, operated}
 use Rattle.operator_cells.specs.HeldCells.RegisterCells.{PointerView, pointer_at, key_of, number_of}
-use Rattle.edge_cells.specs.Testing.{is_order, is_equality, is_equal, is_open, null_holds, place_of, found_of, is_number, Tests}
+use Rattle.edge_cells.specs.Testing.{is_order, is_equality, is_equal, is_open, null_holds, place_of, found_of, IsReady, is_number, Tests}
 use Rattle.edge_cells.specs.Meeting.{number_in}
 use Rattle.operator_cells.proofs.MakingLaws.{grown}
 use Rattle.operator_cells.proofs.MakingLaws.{not_bit}
@@ -174,9 +174,9 @@ tests_end ps Bits64 code o p End q old new c none needed made = record {
 }
 tests_end ps w code o p b q old new c none needed made = absurd (cc)
 
-tests_from_end : (ps : List PointerView) (w : Width) (code : JumpCode) (p : ℕ) (b : Kind) (q : ℕ) (old new : List CellView) (c : ℕ) → found_of ps b q ≡ None → is_open w code End b ≡ true
+tests_from_end : (ps : List PointerView) (w : Width) (code : JumpCode) (p : ℕ) (b : Kind) (q : ℕ) (old new : List CellView) (c n : ℕ) → IsReady n ps b q → found_of ps b q ≡ None → is_open w code End b ≡ true
     → Placed code End b old new c → Tests ps w code End p b q old new c
-tests_from_end ps Bits64 code p (Packet o) q old new c none needed made = record {
+tests_from_end ps Bits64 code p (Packet o) q old new c n ready none needed made = record {
   grows = made.grows;
   there = made.there;
   is_bit = λ packet v run. subst (λ (n : ℕ). n < 2) (sym (made.value packet v run)) (bit_small _);
@@ -184,7 +184,8 @@ tests_from_end ps Bits64 code p (Packet o) q old new c none needed made = record
       made.value packet v run ∙ places_value code (length packet.frame) o taken needed left.1 right.1
       (ap (λ (z : Value). compared Bits64 code z (is.Packet (pos o))) (sym left.0) ∙ ap (compared Bits64 code s) (sym right.0) ∙ h);
 }
-tests_from_end ps w code p b q old new c none needed made = absurd (cc)
+tests_from_end ps w code p (Var b f) q old new c n ready none needed made = absurd ready
+tests_from_end ps w code p b q old new c n ready none needed made = absurd (cc)
 
 -- of a number only a condition with a number, or with what a lookup answered, needs a cell
 number_open : (ps : List PointerView) (w : Width) (code : JumpCode) (x : Number) (b : Kind) (q : ℕ) → found_of ps b q ≡ None → is_open w code (Num x) b ≡ true → (y : Number) × (b ≡ Num y)
@@ -193,7 +194,7 @@ number_open ps w code x (Maybe r n) q none needed = absurd (cc)
 number_open ps Bits32 code x b q none needed = absurd (cc)
 number_open ps Bits64 code (Known zero) b q none needed = absurd (cc)
 number_open ps Bits64 code (Known (suc a)) b q none needed = absurd (cc)
-number_open ps Bits64 code Unknown b q none needed = absurd (cc)
+number_open ps Bits64 code (Between lo hi) b q none needed = absurd (cc)
 
 -- two numbers, where the first is one
 pub both_numbers : (ps : List PointerView) (w : Width) (code : JumpCode) (a b : Kind) (q : ℕ) → is_number a ≡ true → found_of ps b q ≡ None → is_open w code a b ≡ true → (a ≡ Num (number_in a)) × (b ≡ Num (number_in b))
@@ -206,14 +207,15 @@ tests_both ps w code a p b q old new c are made =
     subst (λ (k : Kind). Tests ps w code k p b q old new c) (sym are.0)
     (subst (λ (k : Kind). Tests ps w code (Num (number_in a)) p k q old new c) (sym are.1) (tests_numbers ps w code (number_in a) p (number_in b) q old new c made))
 
-pub tests_places : (ps : List PointerView) (w : Width) (code : JumpCode) (a : Kind) (p : ℕ) (b : Kind) (q : ℕ) (old new : List CellView) (c : ℕ) → found_of ps a p ≡ None → found_of ps b q ≡ None
+pub tests_places : (ps : List PointerView) (w : Width) (code : JumpCode) (a : Kind) (p : ℕ) (b : Kind) (q : ℕ) (old new : List CellView) (c n : ℕ) → IsReady n ps a p → IsReady n ps b q → found_of ps a p ≡ None → found_of ps b q ≡ None
     → is_number a ≡ false → is_open w code a b ≡ true → Placed code a b old new c → Tests ps w code a p b q old new c
-tests_places ps w code (Packet o) p b q old new c none nil other needed made = tests_end ps w code o p b q old new c nil needed made
-tests_places ps w code End p b q old new c none nil other needed made = tests_from_end ps w code p b q old new c nil needed made
-tests_places ps w code (Num x) p b q old new c none nil other needed made = absurd (cc)
-tests_places ps w code (Maybe r n) p b q old new c none nil other needed made = absurd (cc)
-tests_places ps Bits32 code a p b q old new c none nil other needed made = absurd (cc)
-tests_places ps Bits64 code a p b q old new c none nil other needed made = absurd (cc)
+tests_places ps w code (Packet o) p b q old new c n first second none nil other needed made = tests_end ps w code o p b q old new c nil needed made
+tests_places ps w code End p b q old new c n first second none nil other needed made = tests_from_end ps w code p b q old new c n second nil needed made
+tests_places ps w code (Var k f) p b q old new c n first second none nil other needed made = absurd first
+tests_places ps w code (Num x) p b q old new c n first second none nil other needed made = absurd (cc)
+tests_places ps w code (Maybe r m) p b q old new c n first second none nil other needed made = absurd (cc)
+tests_places ps Bits32 code a p b q old new c n first second none nil other needed made = absurd (cc)
+tests_places ps Bits64 code a p b q old new c n first second none nil other needed made = absurd (cc)
 
 pub tests_numbers_of : (ps : List PointerView) (w : Width) (code : JumpCode) (a : Kind) (p : ℕ) (b : Kind) (q : ℕ) (old new : List CellView) (c : ℕ) (x y : Number) → x ≡ number_in a → y ≡ number_in b
     → (a ≡ Num (number_in a)) × (b ≡ Num (number_in b)) → Makes old new c (λ packet v. bit (holds code (bits_in w) (low (bits_in w) (number_of v x p)) (low (bits_in w) (number_of v y q))))

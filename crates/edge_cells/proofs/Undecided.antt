@@ -1,5 +1,5 @@
 -- Which conditions of allowed jumps are undecided.
-use Rattle.std.proofs.Common.{◌≡◌, ℕ, zero, suc, true, List, [], refl, sym, ◌∙◌, ap, subst}
+use Rattle.std.proofs.Common.{◌≡◌, ℕ, ℤ, zero, suc, true, List, [], refl, sym, ◌∙◌, ap, subst}
 use Rattle.std.specs.Prelude.{Bool, Ok, Err, Some, None}
 use Rattle.xdp_machine.specs.bpf_isa.declared.operation.Width.{Width}
 use Rattle.xdp_machine.specs.bpf_isa.declared.operation.Width.TheVariants.{Bits64}
@@ -12,10 +12,11 @@ use Rattle.xdp_machine.specs.bpf_isa.declared.operation.Op.TheVariants.{Jump}
 use Rattle.xdp_machine.specs.bpf_isa.declared.instruction.Insn.{Insn}
 use Rattle.xdp_machine.specs.xdp_maps.declared.decl.MapDecl.{MapDecl}
 use Rattle.kind_core.specs.declared.number.Number.{Number}
-use Rattle.kind_core.specs.declared.number.Number.TheVariants.{Known, Unknown}
+use Rattle.kind_core.specs.declared.number.Number.TheVariants.{Known, Between}
 use Rattle.kind_core.specs.declared.kind.Kind.{Kind}
-use Rattle.kind_core.specs.declared.kind.Kind.TheVariants.{Num, Packet, End, Maybe, Entry}
+use Rattle.kind_core.specs.declared.kind.Kind.TheVariants.{Num, Packet, Var, End, Maybe, Entry}
 use Rattle.kind_core.specs.declared.kind.Kinds.{Kinds}
+use Rattle.kind_core.specs.declared.base.Base.{Base}
 use Rattle.xdp_state.specs.declared.refusal.Why.{Why}
 use Rattle.kind_core.specs.Kinds.{register}
 use Rattle.kind_core.specs.Tests.{◌>>=◌, Test, passed}
@@ -40,14 +41,14 @@ open-null : (c : JumpCode) (q n : ℕ) (y : Number) → IsOpen Bits64 c (Maybe q
 open-null Jeq q n (Known zero) v d = refl
 open-null Jne q n (Known zero) v d = refl
 open-null c q n (Known (suc a)) v d = refused v
-open-null c q n Unknown v d = refused v
+open-null c q n (Between lo hi) v d = refused v
 open-null c q n y v d = refused v
 
 open-null-right : (c : JumpCode) (q n : ℕ) (y : Number) → IsOpen Bits64 c (Num y) (Maybe q n)
 open-null-right Jeq q n (Known zero) v d = refl
 open-null-right Jne q n (Known zero) v d = refl
 open-null-right c q n (Known (suc a)) v d = refused v
-open-null-right c q n Unknown v d = refused v
+open-null-right c q n (Between lo hi) v d = refused v
 open-null-right c q n y v d = refused v
 
 open-place : (c : JumpCode) (o : ℕ) → IsOpen Bits64 c (Packet o) End
@@ -63,6 +64,21 @@ open-end Jge o v d = refl
 open-end Jlt o v d = refl
 open-end Jle o v d = refl
 open-end c o v d = refused v
+
+-- the same of a place at a distance from a base
+open-base : (c : JumpCode) (b : Base) (f : ℤ) → IsOpen Bits64 c (Var b f) End
+open-base Jgt b f v d = refl
+open-base Jge b f v d = refl
+open-base Jlt b f v d = refl
+open-base Jle b f v d = refl
+open-base c b f v d = refused v
+
+open-from-end : (c : JumpCode) (b : Base) (f : ℤ) → IsOpen Bits64 c End (Var b f)
+open-from-end Jgt b f v d = refl
+open-from-end Jge b f v d = refl
+open-from-end Jlt b f v d = refl
+open-from-end Jle b f v d = refl
+open-from-end c b f v d = refused v
 
 -- any kind against a number: an entry is not null, and that is decided
 open-left : (c : JumpCode) (a : Kind) (y : Number) → IsOpen Bits64 c a (Num y)
@@ -91,6 +107,8 @@ open-on Bits64 c a (Num y) v d = open-left c a y v d
 open-on Bits64 c (Num x) b v d = open-right c x b v d
 open-on Bits64 c (Packet o) End v d = open-place c o v d
 open-on Bits64 c End (Packet o) v d = open-end c o v d
+open-on Bits64 c (Var b f) End v d = open-base c b f v d
+open-on Bits64 c End (Var b f) v d = open-from-end c b f v d
 open-on w c a b v d = refused v
 
 open-if : (decls : List MapDecl) (k : Kinds) (i : Insn) (w : Width) (c : JumpCode) (s : Src) (t : Test) → verdict (t >>= λ _. effect_as decls k i (Jump w c s)) ≡ passed

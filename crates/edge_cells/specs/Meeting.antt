@@ -6,10 +6,11 @@ use Rattle.xdp_machine.specs.State.{PacketIn}
 use Rattle.xdp_machine.specs.Values.{Value}
 use Rattle.xdp_machine.specs.Values as is
 use Rattle.kind_core.specs.declared.number.Number.{Number}
-use Rattle.kind_core.specs.declared.number.Number.TheVariants.{Known, Unknown}
+use Rattle.kind_core.specs.declared.number.Number.TheVariants.{Known, Between}
 use Rattle.kind_core.specs.declared.kind.Kind.{Kind}
 use Rattle.kind_core.specs.declared.kind.Kind.TheVariants.{Unset, Num, Maybe, Entry}
 use Rattle.kind_core.specs.declared.kind.Kinds.{Kinds}
+use Rattle.kind_core.specs.NumberBounds.{any_number}
 use Rattle.cell_core.specs.Cells.{CellView, IsRun, on}
 use Rattle.operator_cells.specs.Making.{Grows}
 use Rattle.operator_cells.specs.declared.held_cells.machine_cells.RegisterCells.{RegisterCells}
@@ -35,8 +36,8 @@ held_at Target h = h.target
 abbrev pub kind_at : Part → Kinds → Kind
 kind_at (Register r) k = get_or k.registers r Unset
 kind_at (Slot s) k = get_or k.slots s Unset
-kind_at (Byte i) k = Num Unknown
-kind_at Target k = Num Unknown
+kind_at (Byte i) k = Num (any_number 64)
+kind_at Target k = Num (any_number 64)
 
 -- the number of the first edge that is on, or of the last one
 abbrev pub first_on : (ℕ → ℕ) → List Way → ℕ
@@ -53,7 +54,7 @@ pub record Picks (old new : List CellView) (here : List Way) (brings : (ℕ → 
 -- what is known of a number
 abbrev pub number_in : Kind → Number
 number_in (Num n) = n
-number_in k = Unknown
+number_in k = any_number 64
 
 -- the number that an edge brings to a part
 abbrev pub number_brought : Part → (ℕ → ℕ) → Way → ℕ
@@ -99,7 +100,7 @@ is_known k = false
 
 -- whether it is one that is not known
 abbrev pub is_unknown : Kind → Bool
-is_unknown (Num Unknown) = true
+is_unknown (Num (Between lo hi)) = true
 is_unknown k = false
 
 -- the map that a pointer to an entry leads into

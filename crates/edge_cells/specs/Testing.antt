@@ -11,7 +11,7 @@ use Rattle.xdp_machine.specs.State.{PacketIn}
 use Rattle.xdp_machine.specs.Pointers.{compared}
 use Rattle.kind_core.specs.declared.number.Number.TheVariants.{Known}
 use Rattle.kind_core.specs.declared.kind.Kind.{Kind}
-use Rattle.kind_core.specs.declared.kind.Kind.TheVariants.{Num, Packet, End, Maybe, Entry}
+use Rattle.kind_core.specs.declared.kind.Kind.TheVariants.{Num, Packet, Var, End, Maybe, Entry}
 use Rattle.cell_core.specs.Cells.{CellView, IsRun, bit}
 use Rattle.operator_cells.specs.Making.{Grows}
 use Rattle.operator_cells.specs.HeldCells.RegisterCells.{PointerView, pointer_at, Holds, number_of, IsThere}
@@ -34,6 +34,8 @@ abbrev pub is_open : Width → JumpCode → Kind → Kind → Bool
 is_open w c (Num a) (Num b) = true
 is_open Bits64 c (Packet o) End = is_order c
 is_open Bits64 c End (Packet o) = is_order c
+is_open Bits64 c (Var b f) End = is_order c
+is_open Bits64 c End (Var b f) = is_order c
 is_open Bits64 c (Maybe q n) (Num (Known zero)) = is_equality c
 is_open Bits64 c (Num (Known zero)) (Maybe q n) = is_equality c
 is_open w c a b = false
@@ -64,10 +66,12 @@ abbrev pub HasPointer : ℕ → Kind → ℕ → Type 0
 HasPointer n (Maybe q j) c = c < n
 HasPointer n k c = Unit {0}
 
--- what is read is there: of a number that is not known its cell, of what a lookup answered its pointer and the found bit
+-- what is read is there: of a number that is not known its cell, of what a lookup answered its pointer and the found bit; no cell
+-- holds a place in the packet that is not known
 abbrev pub IsReady : ℕ → List PointerView → Kind → ℕ → Type 0
 IsReady n ps (Num x) c = IsThere n x c
 IsReady n ps (Maybe q j) c = (c < length ps) × ((pointer_at ps c).found < n)
+IsReady n ps (Var b f) c = ⊥
 IsReady n ps k c = Unit {0}
 
 -- What is known of a value that is read: a number is the known one or that of its cell, a place in the packet stands in the kind, and

@@ -159,7 +159,7 @@ fn map_of(kind: Kind) -> Option<u32>
 fn is_unknown(kind: Kind) -> bool
     ensures { result ≡ is_unknown kind }
 {
-    matches!(kind, Kind::Num(Number::Unknown))
+    matches!(kind, Kind::Num(Number::Between(_, _)))
 }
 
 // Whether all edges bring one cell, or one pointer.

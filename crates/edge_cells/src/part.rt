@@ -3,8 +3,10 @@
 ghost use Rattle.std.specs.Prelude.{◌≡◌};
 ghost use Rattle.edge_cells.specs.Meeting.{IsPart, held_at, kind_at, number_in};
 
+use kind_core::number::any;
 use kind_core::{Kind, Kinds, Number};
 use operator_cells::held_cells::machine_cells::RegisterCells;
+use xdp_machine::bpf_isa::Width;
 
 /// A part of a machine: a register, a slot of the stack, a byte of the packet, or the target of a redirect.
 #[derive(Copy, Clone)]
@@ -36,7 +38,7 @@ pub fn kind_at(part: Part, kinds: &Kinds) -> Kind
     match part {
         Part::Register(r) => kinds.registers[r],
         Part::Slot(s) => kinds.slots[s],
-        Part::Byte(_) | Part::Target => Kind::Num(Number::Unknown),
+        Part::Byte(_) | Part::Target => Kind::Num(any(Width::Bits64)),
     }
 }
 
@@ -46,6 +48,6 @@ pub fn number_in(kind: Kind) -> Number
 {
     match kind {
         Kind::Num(n) => n,
-        _ => Number::Unknown,
+        _ => any(Width::Bits64),
     }
 }

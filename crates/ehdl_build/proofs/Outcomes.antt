@@ -10,6 +10,7 @@ use Rattle.xdp_object.proofs.OutcomeLaws.{one_outcome, never_both}
 use Rattle.xdp_state.specs.declared.refusal.Refusal.{Refusal}
 use Rattle.xdp_state.specs.declared.refusal.BuildError.{BuildError}
 use Rattle.xdp_state.specs.declared.refusal.BuildError.TheVariants as build
+use Rattle.kind_core.specs.declared.kind.Offsets.TheVariants.{Fixed}
 use Rattle.unfold_core.specs.declared.links.Edge.{Edge}
 use Rattle.unfold_core.specs.declared.unfolding.Unfolded.{Unfolded}
 use Rattle.unfold_core.specs.Unfolding.{IsUnfolded, Unfolds}
@@ -30,21 +31,21 @@ err_with P e (Err f) is h = subst P (sym is) h
 
 -- ---- what is counted
 
-abbrev pub accepted_of : (p : XdpProgram) (c : Counted) → IsCounted p c → IsAccepted p
+abbrev pub accepted_of : (p : XdpProgram) (c : Counted) → IsCounted p c → IsAccepted Fixed p
 accepted_of p c is = record {
-  unfolds = unfolds_of p c.graph is.unfolded;
+  unfolds = unfolds_of Fixed p c.graph is.unfolded is.fixed;
   stages = c.stages;
   has_stages = subst (λ (es : List Edge). HasStages p c.graph.nodes.items es c.stages) is.unfolded.edges is.stages;
 }
 
-pub unfolding_fails : (p : XdpProgram) (e : BuildError) → Unfolds p (Err e) → FailsCounting p e
+pub unfolding_fails : (p : XdpProgram) (e : BuildError) → Unfolds Fixed p (Err e) → FailsCounting p e
 unfolding_fails p (build.Refused r) u = inl u
 unfolding_fails p build.NoMemory u = tt
 
-pub counting_fails : (p : XdpProgram) (u : Unfolded) (e : BuildError) → IsUnfolded p u → AreCounted p u (Err e) → FailsCounting p e
-counting_fails p u (build.Refused r) is late =
-    inr (record { unfolds = unfolds_of p u is; late = subst (λ (es : List Edge). IsTooLate p u.nodes.items es r) is.edges late })
-counting_fails p u build.NoMemory is late = tt
+pub counting_fails : (p : XdpProgram) (u : Unfolded) (e : BuildError) → IsUnfolded p u → u.offsets ≡ Fixed → AreCounted p u (Err e) → FailsCounting p e
+counting_fails p u (build.Refused r) is fixed late =
+    inr (record { unfolds = unfolds_of Fixed p u is fixed; late = subst (λ (es : List Edge). IsTooLate p u.nodes.items es r) is.edges late })
+counting_fails p u build.NoMemory is fixed late = tt
 
 -- ---- errors of the object
 abbrev pub IsErrorOf : ObjectError → CompileError → Type 0
@@ -72,8 +73,8 @@ module _ (choice : Chosen) (bytes : List ℕ) where
   -- ---- errors of the program
   module _ (p : XdpProgram) (object : IsObject choice bytes p) where
     -- the refusal of an object is that of its program
-    refusal_in : (r : Refusal) → IsRefused choice bytes r → IsFirstRefusal p r
-    refusal_in r h = subst (λ (q : XdpProgram). IsFirstRefusal q r) ((one_outcome choice bytes).program h.program p h.object object) h.refusal
+    refusal_in : (r : Refusal) → IsRefused choice bytes r → IsFirstRefusal Fixed p r
+    refusal_in r h = subst (λ (q : XdpProgram). IsFirstRefusal Fixed q r) ((one_outcome choice bytes).program h.program p h.object object) h.refusal
 
     pub failed_program : (error : BuildError) (r : CompileError) → FailsCounting p error → r ≡ compile_error error → FailsFor choice bytes r
     failed_program error r is e = subst (λ (x : CompileError). FailsFor choice bytes x) (sym e) (by_error error is)
@@ -87,9 +88,9 @@ module _ (choice : Chosen) (bytes : List ℕ) where
     only_refusal {T} error r q is e h = by_error error is e
       where
         by_error : (error : BuildError) → FailsCounting p error → r ≡ compile_error error → IsErrOf {T = T} (Err r) (Refused q) ⊎ IsErrOf {T = T} (Err r) NoMemory
-        by_error (build.Refused own) is e = inl (ap Err (e ∙ ap Refused ((has_one_outcome p).refusal own q is (refusal_in q h))))
+        by_error (build.Refused own) is e = inl (ap Err (e ∙ ap Refused ((has_one_outcome Fixed p).refusal own q is (refusal_in q h))))
         by_error build.NoMemory is e = inr (ap Err e)
 
     -- an accepted program is not refused
-    pub no_refusal : (r : Refusal) → IsAccepted p → ¬ IsRefused choice bytes r
-    no_refusal r accepted h = (has_one_outcome p).never_both r (refusal_in r h) accepted
+    pub no_refusal : (r : Refusal) → IsAccepted Fixed p → ¬ IsRefused choice bytes r
+    no_refusal r accepted h = (has_one_outcome Fixed p).never_both r (refusal_in r h) accepted

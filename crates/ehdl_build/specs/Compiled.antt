@@ -20,6 +20,7 @@ use Rattle.ehdl_build.specs.declared.built.CompileError.TheVariants.{Object, Ref
 use Rattle.xdp_state.specs.declared.refusal.Refusal.{Refusal}
 use Rattle.xdp_state.specs.declared.refusal.BuildError.{BuildError}
 use Rattle.xdp_state.specs.declared.refusal.BuildError.TheVariants as build
+use Rattle.kind_core.specs.declared.kind.Offsets.TheVariants.{Fixed}
 use Rattle.row_rules.specs.NodeRows.Acceptance.{IsAccepted, IsFirstRefusal}
 use Rattle.pipe_runs.specs.realization.Bounds.{ConflictFree}
 use Rattle.net_core.specs.ProductRules.Products.{no_product_chains}
@@ -54,9 +55,9 @@ pub record PipelineSize : Type 0 where
   pub records : ℕ
   pub nodes : ℕ
 
--- The size of an accepted program's pipeline: its stages and record sites as they are counted on its graph, and the nodes of this graph.
+-- The size of an accepted program's pipeline, where offsets are fixed: its stages and record sites as they are counted on its graph, and the nodes of this graph.
 pub record HasSize (p : XdpProgram) (z : PipelineSize) : Type 0 where
-  pub accepted : IsAccepted p
+  pub accepted : IsAccepted Fixed p
   pub stages : z.stages ≡ accepted.stages.rows
   pub records : z.records ≡ accepted.stages.records
   pub nodes : z.nodes ≡ length accepted.unfolds.graph
@@ -94,7 +95,7 @@ pub record Compiles (choice : Chosen) (bytes : List ℕ) (built : Built) : Type 
 pub record IsRefused (choice : Chosen) (bytes : List ℕ) (r : Refusal) : Type 0 where
   pub program : XdpProgram
   pub object : IsObject choice bytes program
-  pub refusal : IsFirstRefusal program r
+  pub refusal : IsFirstRefusal Fixed program r
 
 -- what holds of the bytes that an error is answered for; of want of memory nothing is said
 abbrev pub FailsFor : Chosen → List ℕ → CompileError → Type 0

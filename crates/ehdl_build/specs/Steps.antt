@@ -6,6 +6,7 @@ use Rattle.net_core.specs.Nets.{Netlist}
 use Rattle.net_core.specs.ProductRules.Products.{no_product_chains}
 use Rattle.xdp_state.specs.declared.refusal.BuildError.{BuildError}
 use Rattle.xdp_state.specs.declared.refusal.BuildError.TheVariants as build
+use Rattle.kind_core.specs.declared.kind.Offsets.TheVariants.{Fixed}
 use Rattle.unfold_core.specs.Unfolding.{IsUnfolded}
 use Rattle.row_rules.specs.NodeRows.Rows.{HasStages}
 use Rattle.row_rules.specs.NodeRows.Acceptance.{IsFirstRefusal}
@@ -18,14 +19,15 @@ use Rattle.ehdl_build.specs.declared.counted.Counted.{Counted}
 use Rattle.ehdl_build.specs.Pipelines.{AreCellsOf}
 use Rattle.ehdl_build.specs.Compiled.{PipelineSize}
 
--- the graph of a program, and what is counted on it
+-- the graph of a program, with offsets that are fixed, and what is counted on it
 pub record IsCounted (p : XdpProgram) (c : Counted) : Type 0 where
   pub unfolded : IsUnfolded p c.graph
+  pub fixed : c.graph.offsets ≡ Fixed
   pub stages : HasStages p c.graph.nodes.items c.graph.edges.items c.stages
 
 -- why nothing is counted; of want of memory nothing is said
 abbrev pub FailsCounting : XdpProgram → BuildError → Type 0
-FailsCounting p (build.Refused r) = IsFirstRefusal p r
+FailsCounting p (build.Refused r) = IsFirstRefusal Fixed p r
 FailsCounting p build.NoMemory = Unit {0}
 
 abbrev pub counted_size : Counted → PipelineSize

@@ -5,6 +5,7 @@ ghost use Rattle.xdp_state.specs.declared.refusal.Refusal.{Refusal};
 ghost use Rattle.row_rules.specs.NodeRows.Acceptance.{IsAccepted, IsFirstRefusal};
 ghost use Rattle.ehdl_build.specs.Steps.{IsCounted, FailsCounting};
 
+use kind_core::Offsets;
 use row_rules::node_rows::{Stages, count_stages};
 use std::alloc::Global;
 use unfold_core::{Unfolded, unfold};
@@ -23,7 +24,7 @@ pub(crate) fn count(alloc: Global, program: &Program) -> Result<Counted, BuildEr
     ensures counted { IfOk result (IsCounted program.now) }
     ensures fails { IfErr result (FailsCounting program.now) }
 {
-    let graph = unfold(alloc, program)?;
+    let graph = unfold(alloc, program, Offsets::Fixed)?;
     let stages = count_stages(alloc, program, &graph)?;
     Ok(Counted { graph, stages })
 }

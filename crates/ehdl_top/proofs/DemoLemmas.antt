@@ -21,6 +21,7 @@ use Rattle.xdp_object.specs.Choice.{chosen}
 use Rattle.xdp_object.specs.Object.{IsObject}
 use Rattle.xdp_object.proofs.OutcomeLaws.{one_outcome}
 use Rattle.xdp_state.specs.declared.refusal.Refusal.{Refusal}
+use Rattle.kind_core.specs.declared.kind.Offsets.TheVariants.{Fixed}
 use Rattle.row_rules.specs.NodeRows.Acceptance.{IsFirstRefusal}
 use Rattle.row_rules.proofs.NodeRows.OneOutcomeLaws.{has_one_outcome}
 use Rattle.port_drive.specs.realization.Bounds.{clock_bound, most_beats}
@@ -71,14 +72,14 @@ module _ (b : Built) (program : XdpProgram) (first last : MapState) (timed : Lis
   pub is_hash : (decl_at last 0).kind ≡ Hash
   is_hash = ap (λ (ds : List MapDecl). (get_or ds 0 no_decl).kind) left_is
 
-refused_none : DemoIsAccepted → (r : Refusal) → ¬ IsFirstRefusal demo_program r
-refused_none demo r first = (has_one_outcome demo_program).never_both r first demo.accepted
+refused_none : DemoIsAccepted → (r : Refusal) → ¬ IsFirstRefusal Fixed demo_program r
+refused_none demo r first = (has_one_outcome Fixed demo_program).never_both r first demo.accepted
 
 object_faultless : DemoIsAccepted → (bytes : List ℕ) (e : CommandError) → IsDemoObject bytes → ¬ ProgramFaults (chosen None 256) built bytes e
 object_faultless demo bytes (error.Object fault) is u = (one_outcome (chosen None 256) bytes).apart demo_program fault (object_of bytes is) u
 object_faultless demo bytes (error.Refused r) is u =
     let same : u.program ≡ demo_program = (one_outcome (chosen None 256) bytes).program u.program demo_program u.object (object_of bytes is) in
-    refused_none demo r (subst (λ (p : XdpProgram). IsFirstRefusal p r) same u.refuses)
+    refused_none demo r (subst (λ (p : XdpProgram). IsFirstRefusal Fixed p r) same u.refuses)
 object_faultless demo bytes e is u = u
 
 pub object_given_up : DemoIsAccepted → (bytes : List ℕ) (e : CommandError) → IsDemoObject bytes → IsGivenUp (program_form (chosen None 256) built) bytes e → e ≡ error.NoMemory

@@ -17,6 +17,7 @@ use Rattle.xdp_maps.specs.State.{MapState}
 use Rattle.maps_text.specs.Text.{IsMapsText}
 use Rattle.maps_text.proofs.TextLaws.{never_both}
 use Rattle.xdp_state.specs.declared.refusal.Refusal.{Refusal}
+use Rattle.kind_core.specs.declared.kind.Offsets.TheVariants.{Varying}
 use Rattle.row_rules.proofs.NodeRows.OneOutcomeLaws.{has_one_outcome}
 use Rattle.shelf_core.specs.Shelf.{Holding}
 use Rattle.command_line.specs.Request.{Request, AskCompile, AskRun, AskSim, AskRef, AskReport, AskDemo}
@@ -80,7 +81,7 @@ built_apart : IsRule built
 built_apart p r takes refuses = takes r refuses
 
 accepted_apart : IsRule accepted
-accepted_apart p r takes refuses = (has_one_outcome p).never_both r refuses takes
+accepted_apart p r takes refuses = (has_one_outcome Varying p).never_both r refuses takes
 
 -- objects alone
 alone_apart : (choice : Chosen) (bytes : List ℕ) (e : CommandError) → (program : XdpProgram) × IsObject choice bytes program → ¬ ObjectFaults choice bytes e

@@ -335,7 +335,7 @@ pub reported_of : (object : List ℕ) (chosen : Chosen) (old : ShelfState) (byte
 reported_of object chosen old bytes a lines read is are told = record {
   program = a.program;
   held_object = record { bytes = bytes; there = read.there told; within = read.within; is = is.taken.object };
-  accepted = accepted_of a.program is.counts.graph a.counts.stages is.counts.unfolded is.counts.has_stages;
+  accepted = accepted_of a.program is.counts.graph a.counts.stages is.counts.unfolded is.counts.varying is.counts.has_stages;
   lines_are = are ∙ ap (λ n. report_lines a.program n a.counts.stages) is.counts.nodes;
 }
 

@@ -1,10 +1,13 @@
 -- The command `ref`: runs of the packets of a capture, and how what is written of them goes out.
+use Rattle.std.specs.List.{AllByRecursion}
 use Rattle.std.proofs.Common.{◌≡◌, ℕ, List, [], ◌∷◌, ◌++◌, map, Some, None, Result, Ok, Err, IsErrAnd, refl, sym, ap, ◌∙◌, subst, inl, inr, append_assoc, arith}
 use Rattle.pcap_core.specs.Format.{Packet}
-use Rattle.xdp_maps.specs.State.{MapState}
+use Rattle.xdp_maps.specs.State.{MapState, IsSound}
 use Rattle.xdp_object.specs.xdp_machine.Program.{XdpProgram, IsProgram, program_code}
+use Rattle.xdp_object.specs.xdp_machine.MachineLaws.{LeavesInRange}
 use Rattle.xdp_object.specs.xdp_machine.State.{Code, PacketIn, start}
 use Rattle.xdp_object.specs.xdp_machine.Runs.{Leaves, Ended, AreRuns, run}
+use Rattle.kind_core.proofs.xdp_machine_laws.RangeLaws.{runs_leave_in_range}
 use Rattle.unfold_core.specs.declared.unfolding.Unfolded.{Unfolded}
 use Rattle.unfold_core.specs.Unfolding.{IsUnfolded}
 use Rattle.unfold_core.specs.RunLaws.{RunsAreSound}
@@ -21,6 +24,7 @@ use Rattle.capture_run.specs.declared.error.RunError.{RunError}
 use Rattle.capture_run.specs.declared.error.RunError.TheVariants as runs
 use Rattle.capture_run.proofs.StateLaws.{changes_none}
 use Rattle.capture_run.proofs.WriteLaws.{done_both, failed_after, failed_before}
+use Rattle.capture_run.proofs.RangeLaws.{Comes}
 use Rattle.capture_run.proofs.RunLaws.{runs_exist}
 use Rattle.ehdl_top.specs.declared.error.CommandError.{CommandError}
 use Rattle.ehdl_top.specs.declared.error.CommandError.TheVariants as error
@@ -28,12 +32,14 @@ use Rattle.ehdl_top.specs.Steps.{stop_error, capture_error, StreamOut, GoesOut, 
 use Rattle.ehdl_top.proofs.StreamLemmas.{none_done, some_after, some_before}
 
 -- ---- runs
--- each run of an unfolded program has an end
+-- each run of an unfolded program that starts in range has an end
 pub runs_end : (sound : RunsAreSound) (p : XdpProgram) (u : Unfolded) (code : Code) (first : MapState) → IsProgram p → IsUnfolded p u → code ≡ program_code p → first.decls ≡ p.decls → RunsEnd code first
-runs_end sound p u code first program unfolded is decls = λ packet maps same.
-    let s = sound p u packet maps program unfolded (same ∙ decls) in
+runs_end sound p u code first program unfolded is decls = λ packet maps same range.
+    let s = sound p u packet maps program unfolded (same ∙ decls) range in
     let few = unfolded.graph.few in
-    subst (λ (c : Code). (e : Leaves) × (run c 1048576 (start packet maps) ≡ Ended e)) (sym is) (s.left, s.ended 1048576 (omega (arith, few)))
+    let end = s.ended 1048576 (omega (arith, few)) in
+    let left : LeavesInRange s.left = runs_leave_in_range (program_code p) packet maps s.left program.legal range (1048576, end) in
+    subst (λ (c : Code). (e : Leaves) × (run c 1048576 (start packet maps) ≡ Ended e) × IsSound e.maps) (sym is) (s.left, (end, left.maps))
 
 came_in : (ifindex magic : ℕ) (packets : List Packet) → map (packet_in ifindex magic) packets ≡ packets_in (came_by ifindex (timed_packets magic packets))
 came_in ifindex magic [] = refl
@@ -91,10 +97,10 @@ stream_goes names (error.XValue x) ws vs left a b out = absurd out
 stream_goes names (error.Late x y) ws vs left a b out = absurd out
 
 -- memory ran out before anything was written
-pub early_out : (names : Names) (p : XdpProgram) (code : Code) (first : MapState) (ifindex magic : ℕ) (packets : List Packet) (r : Result (Unit {0}) CommandError) (old : ShelfState) → code ≡ program_code p → RunsEnd code first → IsErrAnd r (λ e. e ≡ error.NoMemory)
+pub early_out : (names : Names) (p : XdpProgram) (code : Code) (first : MapState) (ifindex magic : ℕ) (packets : List Packet) (r : Result (Unit {0}) CommandError) (old : ShelfState) → code ≡ program_code p → RunsEnd code first → AllByRecursion Comes (map (packet_in ifindex magic) packets) → IsSound first → IsErrAnd r (λ e. e ≡ error.NoMemory)
     → WritesRuns names p first ifindex magic packets r [] old old
-early_out names p code first ifindex magic packets r old is ends memory =
-    let all = runs_exist code first first (map (packet_in ifindex magic) packets) ends refl in
+early_out names p code first ifindex magic packets r old is ends come sound memory =
+    let all = runs_exist code first first (map (packet_in ifindex magic) packets) ends come sound refl in
     let ws = result_writes names magic packets (answers_left all.0) (Some (text_of all.1)) in
     record {
       answers = answers_left all.0;

@@ -34,6 +34,7 @@ use Rattle.capture_run.specs.declared.records.CaptureError.{CaptureError}
 use Rattle.capture_run.specs.declared.records.CaptureError.TheVariants as capture
 use Rattle.capture_run.specs.declared.error.RunError.{RunError}
 use Rattle.capture_run.specs.declared.error.RunError.TheVariants as runs
+use Rattle.capture_run.proofs.RangeLaws.{time_most, unit_by}
 use Rattle.capture_run.proofs.StateLaws.{changes_then, changes_within}
 use Rattle.capture_run.proofs.WriteLaws.{AreOf, done_from, failed_from, failed_before, failed_after, done_both, done_changes, failed_changes, failed_rose}
 use Rattle.ehdl_top.specs.declared.status.Status.{Status}
@@ -45,15 +46,6 @@ use Rattle.ehdl_top.proofs.RealizedLemmas.{answers_fit, sequential_decls, shows_
 use Rattle.ehdl_top.proofs.StreamLemmas.{none_done, over_then, some_after, some_before, stands_still}
 
 -- ---- the packets of a capture
-time_most : (seconds fraction unit : ℕ) → seconds < 2 ^ 32 → fraction < 2 ^ 32 → unit ≤ 1000 → seconds * 1000000000 + fraction * unit < 2 ^ 64
-time_most seconds fraction unit s f u =
-    let most : fraction * unit ≤ fraction * 1000 = mul-le-mul_left fraction u in
-    omega (arith, most)
-
-unit_by : (b : Bool) → (if b then 1 else 1000) ≤ 1000
-unit_by true = omega arith
-unit_by false = omega arith
-
 legal_records : (magic : ℕ) (rs : List Record) → AllByRecursion IsRecord rs → AllByRecursion IsLegal (timed_packets magic (packets_of rs))
 legal_records magic [] are = tt
 legal_records magic (r ∷ rs) are = (

@@ -17,6 +17,7 @@ use Rattle.xdp_object.specs.Choice.{Chosen}
 use Rattle.xdp_object.specs.Maps.{MapTable}
 use Rattle.xdp_object.specs.Object.{FirstFault, IsObject, function_of, maps_of}
 use Rattle.xdp_state.specs.declared.refusal.Refusal.{Refusal}
+use Rattle.kind_core.specs.declared.kind.Offsets.TheVariants.{Fixed, Varying}
 use Rattle.row_rules.specs.NodeRows.Acceptance.{IsAccepted, IsFirstRefusal}
 use Rattle.capture_run.specs.declared.records.TheConstants.{CAPTURE_LIMIT}
 use Rattle.capture_run.specs.Captures.{IsCaptured, IsCaptureFault}
@@ -83,13 +84,13 @@ program_form choice rule = record {
   Ends = λ s. (s ≡ status.Object) ⊎ (s ≡ status.Refused);
 }
 
--- programs that are compiled: they are not refused
+-- programs that are compiled: they are not refused, where offsets into the packet are fixed
 abbrev pub built : ProgramRule
-built = record { Takes = λ p. (r : Refusal) → ¬ IsFirstRefusal p r; Refuses = IsFirstRefusal }
+built = record { Takes = λ p. (r : Refusal) → ¬ IsFirstRefusal Fixed p r; Refuses = IsFirstRefusal Fixed }
 
--- programs that are accepted: they unfold, and have few stages
+-- programs that are accepted: they unfold, and have few stages, where offsets may vary
 abbrev pub accepted : ProgramRule
-accepted = record { Takes = IsAccepted; Refuses = IsFirstRefusal }
+accepted = record { Takes = IsAccepted Varying; Refuses = IsFirstRefusal Varying }
 
 -- an object alone, whatever its program
 abbrev pub ObjectFaults : Chosen → List ℕ → CommandError → Type 0

@@ -10,6 +10,7 @@ use Rattle.maps_text.specs.Writing.{text_of}
 use Rattle.ehdl_build.specs.Compiled.{PipelineSize, HasSize, IsSequential, Realizes}
 use Rattle.xdp_object.specs.Choice.{Chosen}
 use Rattle.xdp_object.specs.Object.{IsObject}
+use Rattle.kind_core.specs.declared.kind.Offsets.TheVariants.{Varying}
 use Rattle.row_rules.specs.NodeRows.Acceptance.{IsAccepted}
 use Rattle.command_line.specs.Request.{Names}
 use Rattle.ehdl_top.specs.declared.limits.TheConstants.{OBJECT_LIMIT, VERILOG_LIMIT}
@@ -101,7 +102,7 @@ pub record IsReference (names : Names) (chosen : Chosen) (ifindex : ℕ) (held :
 pub record IsReported (object : List ℕ) (chosen : Chosen) (held : Holding) (lines : List (List ℕ)) : Type 0 where
   pub program : XdpProgram
   pub held_object : Holds OBJECT_LIMIT (held object) (λ bytes. IsObject chosen bytes program)
-  pub accepted : IsAccepted program
+  pub accepted : IsAccepted Varying program
   pub lines_are : lines ≡ report_lines program (length accepted.unfolds.graph) accepted.stages
 
 -- ---- demo

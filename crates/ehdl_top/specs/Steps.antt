@@ -28,6 +28,7 @@ use Rattle.maps_text.specs.Writing.{text_of}
 use Rattle.ehdl_build.specs.declared.built.Built.{Built}
 use Rattle.ehdl_build.specs.Compiled.{HasSize, IsSequential, Realizes, size_of}
 use Rattle.xdp_object.specs.xdp_machine.Program.{IsProgram}
+use Rattle.kind_core.specs.declared.kind.Offsets.TheVariants as offsets
 use Rattle.unfold_core.specs.declared.unfolding.Unfolded.{Unfolded}
 use Rattle.unfold_core.specs.Unfolding.{IsUnfolded}
 use Rattle.xdp_state.specs.declared.refusal.BuildError.{BuildError}
@@ -159,16 +160,17 @@ error_of design (drive.Late answers frames clocks) = Some (error.Late answers fr
 error_of design drive.NoMemory = None
 
 -- ---- what is counted
--- what is counted of a program: the nodes of its graph, and its stages
+-- what is counted of a program, where offsets may vary: the nodes of its graph, and its stages
 pub record AreCounts (program : XdpProgram) (counts : Counts) : Type 0 where
   pub graph : Unfolded
   pub unfolded : IsUnfolded program graph
+  pub varying : graph.offsets ≡ offsets.Varying
   pub nodes : counts.nodes ≡ length graph.nodes.items
   pub has_stages : HasStages program graph.nodes.items graph.edges.items counts.stages
 
 -- why nothing is counted: its first refusal, unless memory ran out
 abbrev pub FailsProgram : XdpProgram → BuildError → Type 0
-FailsProgram program (build.Refused r) = IsFirstRefusal program r
+FailsProgram program (build.Refused r) = IsFirstRefusal offsets.Varying program r
 FailsProgram program build.NoMemory = Unit {0}
 
 -- an object's program that was accepted

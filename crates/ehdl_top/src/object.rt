@@ -11,6 +11,7 @@ use crate::error::CommandError;
 use crate::form::Form;
 use crate::limits::OBJECT_LIMIT;
 use ehdl_build::{Built, CompileError, compile};
+use kind_core::Offsets;
 use row_rules::node_rows::{Stages, count_stages};
 use std::alloc::Global;
 use unfold_core::unfold;
@@ -139,12 +140,12 @@ fn accepted_program(alloc: Global, object: &[u8], choice: Choice) -> Result<Acce
     }
 }
 
-// The nodes of a program's graph and its stages, or its first refusal.
+// The nodes of a program's graph and its stages, where offsets into the packet may vary, or its first refusal.
 fn count(alloc: Global, program: &Program) -> Result<Counts, BuildError>
     ensures counts { IfOk result (AreCounts program.now) }
     ensures refuses { IfErr result (FailsProgram program.now) }
 {
-    let graph = unfold(alloc, program)?;
+    let graph = unfold(alloc, program, Offsets::Varying)?;
     let stages = count_stages(alloc, program, &graph)?;
     Ok(Counts {
         nodes: graph.nodes.len() as u64,

@@ -54,6 +54,8 @@ fn stream_runs<S: Shelf>(
     ensures over { IsOver NoOther files.now.capture.now (result_names (names_of files.now)) result (state_of S.Shelf shelf.old) (state_of S.Shelf shelf.new) }
     ensures decls { maps.new.decls ≡ maps.old.decls }
 {
+    // The maps are in range.
+    let _held = maps.decls();
     records.begin(shelf, files.capture)?;
     begin_results(shelf, files, survey.stream.magic())?;
     match run_capture(
@@ -83,8 +85,9 @@ fn write_runs<S: Shelf>(
     ensures told { IsTrue (S.tells shelf.old) → (packets : List Packet) → HoldsCapture survey.now.stream (S.held shelf.old files.now.capture.now) packets → survey.now.count ≡ length packets → WritesRuns (names_of files.now) program.now maps.old ifindex survey.now.stream.magic packets result [] (state_of S.Shelf shelf.old) (state_of S.Shelf shelf.new) }
     ensures over { IsOver NoOther files.now.capture.now (written_names (names_of files.now)) result (state_of S.Shelf shelf.old) (state_of S.Shelf shelf.new) }
 {
-    // A program has few maps, and each run of it ends.
+    // A program has few maps, and each run of it that starts in range ends. The maps are in range.
     let _decls = program.decls();
+    let _held = maps.decls();
     unfold_core::laws::runs_are_sound();
     let mut room = ResultRoom::new(alloc)?;
     let mut plan = SeqPlan::open(alloc, program)?;

@@ -1,29 +1,48 @@
 -- What describes a machine.
-use Rattle.std.proofs.Common.{◌≡◌, ℕ, zero, suc, ◌==◌, inl, inr, Bool, true, false, cond, refl, subst, arith, List, [], ◌∷◌, get_or, replicate}
+use Rattle.std.proofs.Common.{ℕ, ℤ, zero, suc, ◌==◌, min, max, inl, inr, Bool, true, false, cond, refl, subst, arith, List, [], ◌∷◌, get_or, replicate}
 use Rattle.xdp_machine.specs.xdp_maps.State.{MapState}
 use Rattle.xdp_machine.specs.Values.{Value}
 use Rattle.xdp_machine.specs.Values as is
 use Rattle.xdp_machine.specs.State as machine
 use Rattle.xdp_machine.specs.State.{Machine}
 use Rattle.kind_core.specs.declared.number.Number.{Number}
-use Rattle.kind_core.specs.declared.number.Number.TheVariants.{Known, Unknown}
+use Rattle.kind_core.specs.declared.number.Number.TheVariants.{Known, Between}
 use Rattle.kind_core.specs.declared.kind.Kind.{Kind}
-use Rattle.kind_core.specs.declared.kind.Kind.TheVariants.{Unset, Num, Packet, End, Stack, Ctx, MapRef, Maybe, Entry, Stale, Mixed}
+use Rattle.kind_core.specs.declared.kind.Kind.TheVariants.{Unset, Num, Packet, Var, End, Stack, Ctx, MapRef, Maybe, Entry, Stale, Mixed}
+use Rattle.kind_core.specs.declared.base.Base.{Base}
 use Rattle.kind_core.specs.declared.kind.Kinds.{Kinds}
+use Rattle.std.proofs.lemmas.Int.{ints}
 use Rattle.kind_core.specs.Numbers.{join_number}
+use Rattle.kind_core.specs.Bases.{joined_base}
 use Rattle.kind_core.specs.Kinds.{first_registers}
 use Rattle.kind_core.specs.Joins.{join_kind, join_list, joined}
-use Rattle.kind_core.specs.Describes.{World, Describes, DescribesNumber, DescribesMachine, StartIsDescribed, JoinDescribes}
+use Rattle.kind_core.specs.Describes.{World, Describes, DescribesNumber, IsFrom, DescribesMachine, StartIsDescribed, JoinDescribes}
 use Rattle.kind_core.proofs.JoinLaws.{join_is_commutative}
-
-number_choice : (t : Bool) (a : ℕ) (v : Value) → v ≡ is.Number a → DescribesNumber (cond t (Known a) Unknown) v
-number_choice true a v h = h
-number_choice false a v h = (a, h)
+use Rattle.kind_core.proofs.Order.{int_min_left}
 
 join_number-left : (a b : Number) (v : Value) → DescribesNumber a v → DescribesNumber (join_number a b) v
-join_number-left (Known a) (Known b) v h = number_choice (a == b) a v h
-join_number-left (Known a) Unknown v h = (a, h)
-join_number-left Unknown b v h = h
+join_number-left (Known a) (Known b) v h = by_test (a == b)
+  where
+    by_test : (t : Bool) → DescribesNumber (cond t (Known a) (Between (min a b) (max a b))) v
+    by_test true = h
+    by_test false = (a, h, omega arith, omega arith)
+join_number-left (Known a) (Between lo hi) v h = (a, h, omega arith, omega arith)
+join_number-left (Between lo hi) n v h = (h.0, h.1, omega (arith, h.2), omega (arith, h.3))
+
+-- where less is checked of a base
+joined_from : (w : World) (a b : Base) (f : ℤ) (v : Value) → IsFrom w a f v → IsFrom w (joined_base a b) f v
+joined_from w a b f v d = record {
+  place = d.place;
+  before = d.before;
+  gave = d.gave;
+  low = d.low;
+  high = d.high;
+  inside = d.inside;
+  least = d.least;
+  most = d.most;
+  checked = omega (arith, ints, d.checked, int_min_left a.checked b.checked);
+  value = d.value;
+}
 
 choice : (w : World) (maps : MapState) (t : Bool) (k : Kind) (v : Value) → Describes w maps k v → Describes w maps (cond t k Mixed) v
 choice w maps true k v h = h
@@ -35,6 +54,7 @@ join_kind-left w maps Unset b v h = tt
 join_kind-left w maps a Unset v h = tt
 join_kind-left w maps (Num a) (Num b) v h = join_number-left a b v h
 join_kind-left w maps (Packet o) (Packet p) v h = choice w maps _ (Packet o) v h
+join_kind-left w maps (Var a f) (Var b g) v h = choice w maps _ (Var (joined_base a b) f) v (joined_from w a b f v h)
 join_kind-left w maps End End v h = h
 join_kind-left w maps (Stack o) (Stack p) v h = choice w maps _ (Stack o) v h
 join_kind-left w maps Ctx Ctx v h = h
@@ -87,7 +107,7 @@ firsts w maps (suc (suc (suc (suc (suc (suc (suc (suc (suc (suc zero)))))))))) =
 firsts w maps (suc (suc (suc (suc (suc (suc (suc (suc (suc (suc (suc r))))))))))) = tt
 
 pub start_is_described : StartIsDescribed
-start_is_described gave m e f = record {
+start_is_described offsets gave m e f = record {
   registers = λ r. rw e (firsts _ m.maps r);
   slots = λ s. rw f (zeros _ m.maps 64 s);
   checked = omega arith;

@@ -1,13 +1,16 @@
 pub use Rattle.xdp_machine.proofs as xdp_machine_laws
 pub mod Lists
+pub mod BoundLaws
 pub mod JoinLaws
 pub mod Order
 pub mod JoinOrder
 pub mod Described
 pub mod TestLaws
 pub mod Sound
+pub mod SoundBases
 pub mod SoundPointers
 pub mod MachineSteps
+pub mod Later
 pub mod SoundLoads
 pub mod OperandLaws
 pub mod SoundRegisters
@@ -20,5 +23,6 @@ pub mod MachineAtomics
 pub mod SoundAtomics
 pub mod SoundSteps
 pub mod TransferLaws
+pub mod FixedLaws
 pub mod AllowedLaws
 pub mod SizeLaws

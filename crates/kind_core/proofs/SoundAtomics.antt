@@ -1,5 +1,5 @@
 -- Atomic changes are sound.
-use Rattle.std.proofs.Common.{◌≡◌, ℕ, ◌+◌, ◌==◌, ◌≤◌, ◌&&◌, ◌||◌, inl, inr, ℤ, pos, ◌+ℤ◌, Bool, true, false, not, cond, nat_le, refl, sym, ap, ◌∙◌, subst, arith, Some, None, Result, Ok, Err, IfOk, List, length, slice_set, slice_get, is_some, IsTrue}
+use Rattle.std.proofs.Common.{◌≡◌, ℕ, ◌+◌, ◌^◌, ◌==◌, ◌<◌, ◌≤◌, ◌&&◌, ◌||◌, inl, inr, ℤ, pos, ◌+ℤ◌, Bool, true, false, not, cond, nat_le, refl, sym, ap, ◌∙◌, subst, arith, Some, None, Result, Ok, Err, IfOk, List, length, slice_set, slice_get, is_some, IsTrue}
 use Rattle.std.specs.Int.{w64, cast_unsigned}
 use Rattle.xdp_machine.specs.bpf_isa.declared.operation.Size.{Size}
 use Rattle.xdp_machine.specs.bpf_isa.declared.operation.Op.TheVariants.{Atomic}
@@ -15,9 +15,9 @@ use Rattle.xdp_machine.specs.Memory.{bytes_in}
 use Rattle.xdp_machine.specs.Memory as memory
 use Rattle.xdp_machine.specs.Atomics.{fetches}
 use Rattle.xdp_machine.specs.Atomics as machine_atomics
-use Rattle.kind_core.specs.declared.number.Number.TheVariants.{Unknown}
+use Rattle.kind_core.specs.NumberBounds.{any_number}
 use Rattle.kind_core.specs.declared.kind.Kind.{Kind}
-use Rattle.kind_core.specs.declared.kind.Kind.TheVariants.{Num, Packet, Stack, Entry}
+use Rattle.kind_core.specs.declared.kind.Kind.TheVariants.{Num, Packet, Var, Stack, Entry}
 use Rattle.kind_core.specs.declared.kind.Kinds.{Kinds}
 use Rattle.kind_core.specs.declared.places.Place.{Place}
 use Rattle.kind_core.specs.declared.places.Place.TheVariants.{InPacket, InStack, InEntry}
@@ -27,15 +27,17 @@ use Rattle.xdp_state.specs.declared.refusal.Why.{Why}
 use Rattle.xdp_state.specs.declared.refusal.Why.TheVariants as why
 use Rattle.kind_core.specs.Kinds.{register, value_in, value_bytes}
 use Rattle.kind_core.specs.Tests.{◌>>=◌, passed, number_in, aligned}
-use Rattle.kind_core.specs.Places.{in_packet, in_stack, in_value, accessed}
+use Rattle.kind_core.specs.Places.{past_base, in_packet, in_stack, in_value, accessed}
 use Rattle.kind_core.specs.Access.{compares, comparand, taking, changed_at}
 use Rattle.kind_core.specs.Profile.{writes_destination, writes_source, in_profile, keeps_stack_end, registers_read, profiled}
 use Rattle.kind_core.specs.Effects.{effect_as, effect_of}
 use Rattle.kind_core.specs.Describes.{World, Describes, DescribesMachine}
 use Rattle.kind_core.specs.Soundness.{Stands, AtomicsAreSound}
-use Rattle.kind_core.proofs.Sound.{numbered}
+use Rattle.xdp_machine.proofs.NumberLaws.{change_number_word}
+use Rattle.kind_core.proofs.Sound.{numbered, any_described}
 use Rattle.kind_core.proofs.TestLaws.{bind_ok, bind_passed}
-use Rattle.kind_core.proofs.SoundLoads.{in_packet_is, aligned_is, either_decl, some_bytes}
+use Rattle.kind_core.proofs.SoundLoads.{in_packet_is, aligned_is, either_decl, some_bytes, entry_bytes}
+use Rattle.kind_core.proofs.SoundBases.{past_base_is}
 use Rattle.kind_core.proofs.SoundRegisters.{Leaves, set_described}
 use Rattle.kind_core.proofs.Kept.{kept_machine, map_kept, with_value_keeps}
 use Rattle.kind_core.proofs.MachineSteps.{some_of, aligned_at}
@@ -48,28 +50,28 @@ refused_packet k i P (Ok (InStack a)) h = tt
 refused_packet k i P (Ok InEntry) h = cc (h InEntry refl)
 refused_packet k i P (Err e) h = tt
 
-number_described : (w : World) (k : Kinds) (m : Machine) (maps : MapState) (r y : ℕ) → length k.registers ≡ length m.registers → DescribesMachine w k (record m { maps = maps })
-    → DescribesMachine w (record k { registers = slice_set k.registers r (Num Unknown) }) (record m { registers = slice_set m.registers r (is.Number y); maps = maps })
-number_described w k m maps r y len d = record {
-  registers = set_described w maps k.registers m.registers r (Num Unknown) (is.Number y) len d.registers (y, refl);
+number_described : (w : World) (k : Kinds) (m : Machine) (maps : MapState) (r y : ℕ) → y < 2 ^ 64 → length k.registers ≡ length m.registers → DescribesMachine w k (record m { maps = maps })
+    → DescribesMachine w (record k { registers = slice_set k.registers r (Num (any_number 64)) }) (record m { registers = slice_set m.registers r (is.Number y); maps = maps })
+number_described w k m maps r y short len d = record {
+  registers = set_described w maps k.registers m.registers r (Num (any_number 64)) (is.Number y) len d.registers (any_described 64 y short);
   slots = d.slots;
   checked = d.checked;
   frame = d.frame;
 }
 
 -- where the old number goes, by whether the change compares
-taken_leaves : (w : World) (k : Kinds) (m : Machine) (i : Insn) (maps : MapState) (old : ℕ) (compare fetch : Bool) → length k.registers ≡ length m.registers → DescribesMachine w k (record m { maps = maps })
+taken_leaves : (w : World) (k : Kinds) (m : Machine) (i : Insn) (maps : MapState) (old : ℕ) (compare fetch : Bool) → old < 2 ^ 64 → length k.registers ≡ length m.registers → DescribesMachine w k (record m { maps = maps })
     → fetches (cast_unsigned w64 i.imm) ≡ fetch → (compare ≡ false → fetch ≡ true → (i.src == 10) ≡ false)
-    → Leaves w k m false (with_registers (record m { maps = maps }) (taken compare m.registers i old)) (cond compare (Register 0 (Num Unknown)) (cond fetch (Register i.src (Num Unknown)) Nothing))
-taken_leaves w k m i maps old true fetch len d f h =
-    (record m { registers = slice_set m.registers 0 (is.Number old); maps = maps }, refl, number_described w k m maps 0 old len d)
-taken_leaves w k m i maps old false true len d f h = (
+    → Leaves w k m false (with_registers (record m { maps = maps }) (taken compare m.registers i old)) (cond compare (Register 0 (Num (any_number 64))) (cond fetch (Register i.src (Num (any_number 64))) Nothing))
+taken_leaves w k m i maps old true fetch short len d f h =
+    (record m { registers = slice_set m.registers 0 (is.Number old); maps = maps }, refl, number_described w k m maps 0 old short len d)
+taken_leaves w k m i maps old false true short len d f h = (
   record m { registers = slice_set m.registers i.src (is.Number old); maps = maps },
   ap (λ t. with_registers (record m { maps = maps }) (cond t (machine.put m.registers i.src (is.Number old)) (Some m.registers))) f
       ∙ ap (λ t. with_registers (record m { maps = maps }) (cond t None (Some (slice_set m.registers i.src (is.Number old))))) (h refl refl),
-  number_described w k m maps i.src old len d,
+  number_described w k m maps i.src old short len d,
 )
-taken_leaves w k m i maps old false false len d f h = (
+taken_leaves w k m i maps old false false short len d f h = (
   record m { maps = maps },
   ap (λ t. with_registers (record m { maps = maps }) (cond t (machine.put m.registers i.src (is.Number old)) (Some m.registers))) f,
   d,
@@ -120,7 +122,7 @@ entry_change w k m i size q key o st code wide r10 there base =
           let old = number_at wide.0 b.0 value.0 in
           let kept = kept_machine w k m maps (map_kept m.maps q (entry_changed c key b.0 x) (λ other h. with_value_keeps c key _ (lookup_of c key) other h)) st.described in
           subst (λ t. Leaves w k m false t (taking i)) (sym (made ∙ ap (λ t. with_registers (record m { maps = maps }) (taken t m.registers i old)) (sym code.compares)))
-          (taken_leaves w k m i maps old (compares i) (fetches (cast_unsigned w64 i.imm)) st.registers kept refl r10)
+          (taken_leaves w k m i maps old (compares i) (fetches (cast_unsigned w64 i.imm)) (change_number_word wide.0 b.0 value.0 (entry_bytes m.maps q key value.0 decl st.range.maps e value.1)) st.registers kept refl r10)
     ]))))
 
 is_in_packet : (checked : ℕ) (z : ℤ) (n : ℕ) (p : Place) → in_packet checked z n ≡ Ok p → InPacket ≡ p
@@ -131,6 +133,8 @@ by_base : (w : World) (k : Kinds) (m : Machine) (i : Insn) (size : Size) (base :
     → IfOk (accessed m.maps.decls k.checked base i.offset size >>= (λ p. changed_at k i p)) (Leaves w k m false (machine_atomics.atomic m i size))
 by_base w k m i size (Packet o) v e st code wide r10 d =
     refused_packet k i _ (in_packet k.checked (pos o +ℤ i.offset) (bytes_in size)) (λ p h. is_in_packet k.checked (pos o +ℤ i.offset) (bytes_in size) p h)
+by_base w k m i size (Var c f) v e st code wide r10 d =
+    refused_packet k i _ (past_base c (f +ℤ i.offset) (bytes_in size)) (λ p h. (past_base_is w c f v i.offset (bytes_in size) p d h).is_it)
 by_base w k m i size (Stack o) v e st code wide r10 d =
     bind_ok (in_stack (o +ℤ i.offset) size) (λ p. changed_at k i p) (Leaves w k m false (machine_atomics.atomic m i size)) (λ p h.
     let b = bind_passed (aligned ((o +ℤ i.offset) +ℤ pos 512) (bytes_in size) 512) (λ a. Ok (InStack a)) p h in

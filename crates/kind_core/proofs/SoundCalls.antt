@@ -22,11 +22,11 @@ use Rattle.xdp_machine.specs.Memory.{inside}
 use Rattle.xdp_machine.specs.Helpers as helpers
 use Rattle.xdp_machine.specs.Step as step
 use Rattle.kind_core.specs.declared.number.Number.{Number}
-use Rattle.kind_core.specs.declared.number.Number.TheVariants.{Unknown}
+use Rattle.kind_core.specs.NumberBounds.{any_number}
 use Rattle.kind_core.specs.declared.kind.Kind.{Kind}
-use Rattle.kind_core.specs.declared.kind.Kind.TheVariants.{Unset, Num, Packet, End, Stack, MapRef, Maybe, Entry, Stale}
+use Rattle.kind_core.specs.declared.kind.Kind.TheVariants.{Unset, Num, Packet, Stack, MapRef, Maybe, Entry, Stale}
 use Rattle.kind_core.specs.declared.kind.Kinds.{Kinds}
-use Rattle.kind_core.specs.declared.helpers.Argument.TheVariants.{Map, Key, Value as ValueBytes}
+use Rattle.kind_core.specs.declared.helpers.Argument.TheVariants.{Key, Value as ValueBytes}
 use Rattle.kind_core.specs.declared.effects.Effect.{Effect}
 use Rattle.kind_core.specs.declared.effects.Effect.TheVariants.{Lookup, Answered, Changed}
 use Rattle.kind_core.specs.declared.refinements.Refinement.TheVariants.{IsStale}
@@ -39,8 +39,10 @@ use Rattle.kind_core.specs.Profile.{in_profile, keeps_stack_end, registers_read,
 use Rattle.kind_core.specs.Effects.{effect_as, effect_of}
 use Rattle.kind_core.specs.Edges.{refined, refined_all, changed}
 use Rattle.kind_core.specs.Describes.{World, Describes, DescribesMachine, IsEntry}
-use Rattle.kind_core.specs.Soundness.{Stands, IsLater, IsNext, CallsAreSound}
-use Rattle.kind_core.proofs.Sound.{number_of, is_number}
+use Rattle.kind_core.specs.Soundness.{Stands, IsNext, CallsAreSound}
+use Rattle.xdp_machine.proofs.NumberLaws.{word_of, update_number_fits, delete_number_fits}
+use Rattle.kind_core.proofs.Later.{later_machine, next, next_later, looked, looked_later, looked_here}
+use Rattle.kind_core.proofs.Sound.{number_of, is_number, any_described}
 use Rattle.kind_core.proofs.TestLaws.{bind_ok, bind_passed}
 use Rattle.kind_core.proofs.SoundLoads.{within_is, in_packet_is}
 use Rattle.kind_core.proofs.MachineSteps.{inside_at}
@@ -143,19 +145,6 @@ plain_there w k m r u st e =
     (v.0, v.1)
 
 -- ---- after a call
-later_kind : (w v : World) (maps : MapState) → IsLater w v → (k : Kind) (x : Value) → Describes w maps k x → Describes v maps k x
-later_kind w v maps h (Maybe q n) x d = (omega (arith, h.node, d.0), d.1 ∙ sym (h.gave n d.0), d.2)
-later_kind w v maps h End x d = d ∙ ap (λ f. is.Packet (pos f)) (sym h.frame)
-later_kind w v maps h k x d = d
-
-pub later_machine : (w v : World) (k : Kinds) (m : Machine) → IsLater w v → DescribesMachine w k m → DescribesMachine v k m
-later_machine w v k m h d = record {
-  registers = λ r. later_kind w v m.maps h (get_or k.registers r Unset) (get_or m.registers r is.Unset) (d.registers r);
-  slots = λ s. later_kind w v m.maps h (get_or k.slots s Unset) (get_or m.stack s is.Unset) (d.slots s);
-  checked = d.checked;
-  frame = d.frame ∙ sym h.frame;
-}
-
 drop_described : (w : World) (maps : MapState) (n : ℕ) (ks : List Kind) (vs : List Value) → length ks ≡ length vs
     → ((s : ℕ) → Describes w maps (get_or ks s Unset) (get_or vs s is.Unset)) → (s : ℕ) → Describes w maps (get_or (drop n ks) s Unset) (get_or (drop n vs) s is.Unset)
 drop_described w maps zero ks vs e d s = d s
@@ -183,23 +172,6 @@ answered_machine w k m x v e d h = record {
   checked = d.checked;
   frame = d.frame;
 }
-
--- the next node, where no lookup was
-abbrev pub next : World → World
-next w = record w { node = w.node + 1 }
-
-pub next_later : (w : World) → IsLater w (next w)
-next_later w = record { frame = refl; node = omega arith; gave = λ n h. refl }
-
--- and where a lookup gave a value
-abbrev looked : World → Value → World
-looked w x = record w { node = w.node + 1; gave = λ n. cond (n == w.node) x (w.gave n) }
-
-looked_later : (w : World) (x : Value) → IsLater w (looked w x)
-looked_later w x = record { frame = refl; node = omega arith; gave = λ n h. let t : n == w.node ≡ false = grind (arith, nat_tests) in ap (λ b. cond b x (w.gave n)) t }
-
-looked_here : (w : World) (x : Value) → (looked w x).gave w.node ≡ x
-looked_here w x = let t : w.node == w.node ≡ true = grind (arith, nat_tests) in ap (λ b. cond b x (w.gave w.node)) t
 
 -- what a call leaves
 abbrev Leaves : World → Kinds → Option Machine → Effect → Type 0
@@ -237,18 +209,18 @@ stale_machine w k m maps q h d = record {
     stale_list (x ∷ ks) (v ∷ vs) e (suc s) = stale_list ks vs (λ t. e (suc t)) s
 
 -- a call that changes a map: its entries are stale where it is a hash, and else its keys stay
-change_described : (w : World) (k : Kinds) (m : Machine) (q t : ℕ) (c : Contents) (hash : Bool) → length k.registers ≡ length m.registers → DescribesMachine w k m
+change_described : (w : World) (k : Kinds) (m : Machine) (q t : ℕ) (c : Contents) (hash : Bool) → t < 2 ^ 64 → length k.registers ≡ length m.registers → DescribesMachine w k m
     → (hash ≡ false → (key : List ℕ) → Present (contents_at m.maps q) key → Present c key)
     → DescribesMachine (next w) (changed w.node false false k (cond hash (Changed q) Answered)) (helpers.answering (is.Number t) (record m { maps = with_contents m.maps q c }))
-change_described w k m q t c true len d h =
-    later_machine w (next w) (refined_all (IsStale q) (answering (Num Unknown) k)) (helpers.answering (is.Number t) (record m { maps = with_contents m.maps q c })) (next_later w)
-    (stale_machine w (answering (Num Unknown) k) (helpers.answering (is.Number t) m) (with_contents m.maps q c) q
+change_described w k m q t c true short len d h =
+    later_machine w (next w) (refined_all (IsStale q) (answering (Num (any_number 64)) k)) (helpers.answering (is.Number t) (record m { maps = with_contents m.maps q c })) (next_later w)
+    (stale_machine w (answering (Num (any_number 64)) k) (helpers.answering (is.Number t) m) (with_contents m.maps q c) q
     (λ p key other there. subst (λ x. Present x key) (sym (get_or-set_other m.maps.contents q p c map.empty other)) there)
-    (answered_machine w k m (Num Unknown) (is.Number t) len d (t, refl)))
-change_described w k m q t c false len d h =
-    later_machine w (next w) (answering (Num Unknown) k) (helpers.answering (is.Number t) (record m { maps = with_contents m.maps q c })) (next_later w)
-    (kept_machine w (answering (Num Unknown) k) (helpers.answering (is.Number t) m) (with_contents m.maps q c) (map_kept m.maps q c (h refl))
-    (answered_machine w k m (Num Unknown) (is.Number t) len d (t, refl)))
+    (answered_machine w k m (Num (any_number 64)) (is.Number t) len d (any_described 64 t short)))
+change_described w k m q t c false short len d h =
+    later_machine w (next w) (answering (Num (any_number 64)) k) (helpers.answering (is.Number t) (record m { maps = with_contents m.maps q c })) (next_later w)
+    (kept_machine w (answering (Num (any_number 64)) k) (helpers.answering (is.Number t) m) (with_contents m.maps q c) (map_kept m.maps q c (h refl))
+    (answered_machine w k m (Num (any_number 64)) (is.Number t) len d (any_described 64 t short)))
 
 update_keeps : (c : Contents) (key value : List ℕ) (e : Option ℤ) (other : List ℕ) → Present c other → Present (unless e c (map.insert c key value)) other
 update_keeps c key value None other h = insert_keeps c key value other h
@@ -307,7 +279,7 @@ update_sound w k m st =
       (
         next w,
         (next_later w, refl),
-        change_described w k m q t (updated r.decl c key.0 value.0 flags.0) (is_hash decls q) st.registers st.described
+        change_described w k m q t (updated r.decl c key.0 value.0 flags.0) (is_hash decls q) (word_of (update_number r.decl c key.0 flags.0) (update_number_fits r.decl.kind r.decl c key.0 flags.0)) st.registers st.described
             (λ no other there. update_keeps c key.0 value.0 (update_error r.decl c key.0 flags.0) other there),
       ),
     ))))))
@@ -329,26 +301,26 @@ delete_sound w k m st =
       (
         next w,
         (next_later w, refl),
-        change_described w k m q t (deleted r.decl c key.0) (is_hash decls q) st.registers st.described
+        change_described w k m q t (deleted r.decl c key.0) (is_hash decls q) (word_of (delete_number r.decl c key.0) (delete_number_fits r.decl.kind c key.0)) st.registers st.described
             (λ no other there. delete_keeps r.decl.kind c key.0 (sym (ap hash_in r.there) ∙ no) other there),
       ),
     ))))
 
 -- a number is answered, and all else stays
-number_leaves : (w : World) (k : Kinds) (m : Machine) (n : ℕ) → Stands w k m → Leaves w k (Some (helpers.answering (is.Number n) m)) Answered
-number_leaves w k m n st = (
+number_leaves : (w : World) (k : Kinds) (m : Machine) (n : ℕ) → n < 2 ^ 64 → Stands w k m → Leaves w k (Some (helpers.answering (is.Number n) m)) Answered
+number_leaves w k m n short st = (
   helpers.answering (is.Number n) m,
   refl,
   (
     next w,
     (next_later w, refl),
-    later_machine w (next w) (answering (Num Unknown) k) (helpers.answering (is.Number n) m) (next_later w)
-        (answered_machine w k m (Num Unknown) (is.Number n) st.registers st.described (n, refl)),
+    later_machine w (next w) (answering (Num (any_number 64)) k) (helpers.answering (is.Number n) m) (next_later w)
+        (answered_machine w k m (Num (any_number 64)) (is.Number n) st.registers st.described (any_described 64 n short)),
   ),
 )
 
 time_sound : (w : World) (k : Kinds) (m : Machine) → Stands w k m → IfOk (called_as m.maps.decls k (prototype_of helper.Time)) (Leaves w k (helpers.packet_time m))
-time_sound w k m st = number_leaves w k m m.time st
+time_sound w k m st = number_leaves w k m m.time st.range.time st
 
 redirected_leaves : (w : World) (k : Kinds) (m : Machine) (a b : ℕ) → Stands w k m → Leaves w k (Some (helpers.redirected a b m)) Answered
 redirected_leaves w k m a zero st = (
@@ -357,15 +329,15 @@ redirected_leaves w k m a zero st = (
   (
     next w,
     (next_later w, refl),
-    later_machine w (next w) (answering (Num Unknown) k) (helpers.redirected a zero m) (next_later w)
-        (target_machine (a % 2 ^ 32) (answered_machine w k m (Num Unknown) (is.Number 4) st.registers st.described (4, refl))),
+    later_machine w (next w) (answering (Num (any_number 64)) k) (helpers.redirected a zero m) (next_later w)
+        (target_machine (a % 2 ^ 32) (answered_machine w k m (Num (any_number 64)) (is.Number 4) st.registers st.described (any_described 64 4 (omega arith)))),
   ),
 )
   where
-    target_machine : (t : ℕ) → DescribesMachine w (answering (Num Unknown) k) (helpers.answering (is.Number 4) m)
-        → DescribesMachine w (answering (Num Unknown) k) (helpers.answering (is.Number 4) (record m { target = t }))
+    target_machine : (t : ℕ) → DescribesMachine w (answering (Num (any_number 64)) k) (helpers.answering (is.Number 4) m)
+        → DescribesMachine w (answering (Num (any_number 64)) k) (helpers.answering (is.Number 4) (record m { target = t }))
     target_machine t d = record { registers = d.registers; slots = d.slots; checked = d.checked; frame = d.frame }
-redirected_leaves w k m a (suc b) st = number_leaves w k m 0 st
+redirected_leaves w k m a (suc b) st = number_leaves w k m 0 (omega arith) st
 
 redirect_sound : (w : World) (k : Kinds) (m : Machine) → Stands w k m → IfOk (called_as m.maps.decls k (prototype_of helper.Redirect)) (Leaves w k (helpers.redirect m))
 redirect_sound w k m st =

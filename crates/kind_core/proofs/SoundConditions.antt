@@ -1,5 +1,6 @@
 -- Conditional jumps are sound.
-use Rattle.std.proofs.Common.{◌≡◌, ℕ, zero, suc, ◌+◌, ◌==◌, ◌≤◌, ◌⊎◌, inl, inr, ℤ, pos, int_le, int_lt, Bool, true, false, not, cond, refl, sym, ap, ◌∙◌, subst, arith, Option, Some, None, Result, Ok, Err, IfOk, List, [], ◌∷◌, map, get_or}
+use Rattle.std.proofs.Common.{◌≡◌, ℕ, zero, suc, ◌+◌, ◌==◌, ◌≤◌, ◌⊎◌, inl, inr, ℤ, pos, ◌+ℤ◌, int_le, int_lt, Bool, true, false, not, cond, refl, sym, ap, ◌∙◌, subst, arith, Option, Some, None, Result, Ok, Err, IfOk, List, [], ◌∷◌, map, get_or}
+use Rattle.std.specs.Prelude.{◌≤ℤ◌}
 use Rattle.std.proofs.lemmas.Int.{ints}
 use Rattle.std.proofs.lemmas.Bool.Decides.{nat_tests}
 use Rattle.xdp_machine.specs.bpf_isa.declared.operation.Width.{Width}
@@ -16,26 +17,28 @@ use Rattle.xdp_machine.specs.State as machine
 use Rattle.xdp_machine.specs.State.{Machine}
 use Rattle.xdp_machine.specs.Step as step
 use Rattle.kind_core.specs.declared.number.Number.{Number}
-use Rattle.kind_core.specs.declared.number.Number.TheVariants.{Known, Unknown}
+use Rattle.kind_core.specs.declared.number.Number.TheVariants.{Known, Between}
 use Rattle.kind_core.specs.declared.kind.Kind.{Kind}
-use Rattle.kind_core.specs.declared.kind.Kind.TheVariants.{Unset, Num, Packet, End, Maybe, Entry}
+use Rattle.kind_core.specs.declared.kind.Kind.TheVariants.{Unset, Num, Packet, Var, End, Maybe, Entry}
 use Rattle.kind_core.specs.declared.kind.Kinds.{Kinds}
 use Rattle.kind_core.specs.declared.conditions.Condition.{Condition}
-use Rattle.kind_core.specs.declared.conditions.Condition.TheVariants.{BoundsTest}
+use Rattle.kind_core.specs.declared.conditions.Condition.TheVariants.{BoundsTest, BaseTest}
 use Rattle.kind_core.specs.declared.effects.Effect.{Effect}
 use Rattle.kind_core.specs.declared.effects.Effect.TheVariants.{Compared}
 use Rattle.kind_core.specs.declared.refinements.Refinement.{Refinement}
-use Rattle.kind_core.specs.declared.refinements.Refinement.TheVariants.{IsNull, IsEntry}
+use Rattle.kind_core.specs.declared.refinements.Refinement.TheVariants.{IsNull, IsEntry, IsChecked}
 use Rattle.xdp_state.specs.declared.refusal.Why.{Why}
 use Rattle.kind_core.specs.Kinds.{register}
 use Rattle.kind_core.specs.Tests.{◌>>=◌}
-use Rattle.kind_core.specs.Conditions.{bounds_test, mirrored, null_test, against_number, null_condition, pointer_condition, condition_of}
+use Rattle.kind_core.specs.Bases.{raised_base}
+use Rattle.kind_core.specs.Conditions.{base_test, bounds_test, mirrored, null_test, against_number, null_condition, pointer_condition, condition_of}
 use Rattle.kind_core.specs.Profile.{profiled}
 use Rattle.kind_core.specs.Effects.{operand, jump, effect_as, effect_of}
 use Rattle.kind_core.specs.Edges.{refined, refined_all, raised, on_edge, changed, decision, decided_as}
 use Rattle.kind_core.specs.Describes.{World, Describes, DescribesNumber, DescribesMachine}
 use Rattle.kind_core.specs.Soundness.{ConditionsAreSound}
 use Rattle.kind_core.proofs.Sound.{number_of}
+use Rattle.kind_core.proofs.SoundBases.{raised_from}
 use Rattle.kind_core.proofs.TestLaws.{bind_ok}
 use Rattle.kind_core.proofs.OperandLaws.{operand_described}
 
@@ -59,6 +62,16 @@ refined_entry w maps n p key o x (Maybe q t) v g e d =
       | false ↦ λ f. d
     ]) refl
 refined_entry w maps n p key o x k v g e d = d
+
+-- what is learnt of the bytes from a base on
+refined_checked : (w : World) (maps : MapState) (n : ℕ) (z : ℤ) (place : ℕ) (k : Kind) (v : Value) → w.gave n ≡ is.Packet (pos place) → (pos place +ℤ z) ≤ℤ pos w.frame → Describes w maps k v
+    → Describes w maps (refined (IsChecked n z) k) v
+refined_checked w maps n z place (Var b f) v g there d =
+    (elim (b.node == n) as (λ t. ((b.node == n) ≡ t) → Describes w maps (cond t (Var (raised_base z b) f) (Var b f)) v) [
+      | true ↦ λ h. let same : b.node ≡ n = grind (arith, nat_tests) in raised_from w b f z v place (ap w.gave same ∙ g) there d
+      | false ↦ λ h. d
+    ]) refl
+refined_checked w maps n z place k v g there d = d
 
 refined_list : (w : World) (maps : MapState) (f : Kind → Kind) → ((k : Kind) (v : Value) → Describes w maps k v → Describes w maps (f k) v) → (ks : List Kind) (vs : List Value)
     → ((s : ℕ) → Describes w maps (get_or ks s Unset) (get_or vs s is.Unset)) → (s : ℕ) → Describes w maps (get_or (map f ks) s Unset) (get_or vs s is.Unset)
@@ -105,6 +118,30 @@ behind_end w k m Jge o d = bounds_decide w k m true o (int_le (pos o) (pos w.fra
 behind_end w k m Jlt o d = bounds_decide w k m false o (int_lt (pos w.frame) (pos o)) d (λ h. grind (arith, ints, nat_tests))
 behind_end w k m Jle o d = bounds_decide w k m false (o + 1) (int_le (pos w.frame) (pos o)) d (λ h. grind (arith, ints, nat_tests))
 behind_end w k m c o d = tt
+
+-- ---- places that are not known
+base_decides : (w : World) (k : Kinds) (m : Machine) (edge : Bool) (n : ℕ) (z : ℤ) (t : Bool) (place : ℕ) → DescribesMachine w k m → w.gave n ≡ is.Packet (pos place)
+    → (t ≡ edge → (pos place +ℤ z) ≤ℤ pos w.frame) → Decides w k m (Some t) (BaseTest edge n z)
+base_decides w k m true n z true place d g h = (true, refl, inl refl, refined_machine w (IsChecked n z) k m (λ x v p. refined_checked w m.maps n z place x v g (h refl) p) d)
+base_decides w k m false n z true place d g h = (true, refl, inl refl, d)
+base_decides w k m true n z false place d g h = (false, refl, inl refl, d)
+base_decides w k m false n z false place d g h = (false, refl, inl refl, refined_machine w (IsChecked n z) k m (λ x v p. refined_checked w m.maps n z place x v g (h refl) p) d)
+
+base_before : (w : World) (k : Kinds) (m : Machine) (c : JumpCode) (n : ℕ) (f : ℤ) (p : ℕ) → w.gave n ≡ is.Packet (pos p) → DescribesMachine w k m
+    → IfOk (base_test c n f) (Decides w k m (compared Bits64 c (is.Packet (pos p +ℤ f)) (is.Packet (pos w.frame))))
+base_before w k m Jgt n f p g d = base_decides w k m false n f (int_lt (pos w.frame) (pos p +ℤ f)) p d g (λ h. omega (arith, ints))
+base_before w k m Jge n f p g d = base_decides w k m false n (f +ℤ pos 1) (int_le (pos w.frame) (pos p +ℤ f)) p d g (λ h. omega (arith, ints))
+base_before w k m Jlt n f p g d = base_decides w k m true n (f +ℤ pos 1) (int_lt (pos p +ℤ f) (pos w.frame)) p d g (λ h. omega (arith, ints))
+base_before w k m Jle n f p g d = base_decides w k m true n f (int_le (pos p +ℤ f) (pos w.frame)) p d g (λ h. omega (arith, ints))
+base_before w k m c n f p g d = tt
+
+base_behind : (w : World) (k : Kinds) (m : Machine) (c : JumpCode) (n : ℕ) (f : ℤ) (p : ℕ) → w.gave n ≡ is.Packet (pos p) → DescribesMachine w k m
+    → IfOk (base_test (mirrored c) n f) (Decides w k m (compared Bits64 c (is.Packet (pos w.frame)) (is.Packet (pos p +ℤ f))))
+base_behind w k m Jgt n f p g d = base_decides w k m true n (f +ℤ pos 1) (int_lt (pos p +ℤ f) (pos w.frame)) p d g (λ h. omega (arith, ints))
+base_behind w k m Jge n f p g d = base_decides w k m true n f (int_le (pos p +ℤ f) (pos w.frame)) p d g (λ h. omega (arith, ints))
+base_behind w k m Jlt n f p g d = base_decides w k m false n f (int_lt (pos w.frame) (pos p +ℤ f)) p d g (λ h. omega (arith, ints))
+base_behind w k m Jle n f p g d = base_decides w k m false n (f +ℤ pos 1) (int_le (pos w.frame) (pos p +ℤ f)) p d g (λ h. omega (arith, ints))
+base_behind w k m c n f p g d = tt
 
 -- ---- null tests
 -- what a test against 0 answers of null and of an entry
@@ -158,13 +195,15 @@ pointers_decide : (w : World) (k : Kinds) (m : Machine) (c : JumpCode) (a b : Ki
     → IfOk (pointer_condition c a b) (Decides w k m (compared Bits64 c x y))
 pointers_decide w k m c (Packet o) End x y d p q = rw (p, q) (before_end w k m c o d)
 pointers_decide w k m c End (Packet o) x y d p q = rw (p, q) (behind_end w k m c o d)
+pointers_decide w k m c (Var b f) End x y d p q = rw (p.value, q) (base_before w k m c b.node f p.place p.gave d)
+pointers_decide w k m c End (Var b f) x y d p q = rw (p, q.value) (base_behind w k m c b.node f q.place q.gave d)
 pointers_decide w k m c a b x y d p q = null_condition_decides w k m c a b x y d p q
 
 condition_decides : (w : World) (k : Kinds) (m : Machine) (wd : Width) (c : JumpCode) (a b : Kind) (x y : Value) → DescribesMachine w k m → Describes w m.maps a x → Describes w m.maps b y
     → IfOk (condition_of wd c a b) (Decides w k m (compared wd c x y))
 condition_decides w k m wd c (Num (Known i)) (Num (Known j)) x y d p q = rw (p, q) (holds c (bits_in wd) (low (bits_in wd) i) (low (bits_in wd) j), refl, inr refl, d)
-condition_decides w k m wd c (Num (Known i)) (Num Unknown) x y d p q = rw (p, q.1) (holds c (bits_in wd) (low (bits_in wd) i) (low (bits_in wd) q.0), refl, inl refl, d)
-condition_decides w k m wd c (Num Unknown) (Num n) x y d p q =
+condition_decides w k m wd c (Num (Known i)) (Num (Between lo hi)) x y d p q = rw (p, q.1) (holds c (bits_in wd) (low (bits_in wd) i) (low (bits_in wd) q.0), refl, inl refl, d)
+condition_decides w k m wd c (Num (Between lo hi)) (Num n) x y d p q =
     let v = number_of n y q in
     rw (p.1, v.1) (holds c (bits_in wd) (low (bits_in wd) p.0) (low (bits_in wd) v.0), refl, inl refl, d)
 condition_decides w k m Bits64 c a b x y d p q = pointers_decide w k m c a b x y d p q

@@ -16,7 +16,7 @@ use Rattle.xdp_machine.specs.State.{Machine}
 use Rattle.std.specs.Int.{w64, cast_unsigned}
 use Rattle.xdp_machine.specs.Atomics.{fetches}
 use Rattle.xdp_machine.specs.Pointers.{compared}
-use Rattle.kind_core.specs.declared.number.Number.TheVariants.{Unknown}
+use Rattle.kind_core.specs.NumberBounds.{any_number}
 use Rattle.kind_core.specs.declared.kind.Kind.TheVariants.{Num}
 use Rattle.xdp_machine.specs.Step as step
 use Rattle.kind_core.specs.declared.kind.Kinds.{Kinds}
@@ -40,10 +40,11 @@ use Rattle.kind_core.specs.Describes.{World, DescribesMachine}
 use Rattle.kind_core.specs.Soundness.{Stands, at_reference, is_store, IsNext, target, Leads, GoesOn, StepsAreSound}
 use Rattle.kind_core.proofs.Sound.{numbered}
 use Rattle.kind_core.proofs.TestLaws.{bind_all, bind_passed}
-use Rattle.kind_core.proofs.SoundRegisters.{registers_are_sound}
+use Rattle.kind_core.proofs.SoundRegisters.{LeavesNext, registers_are_sound}
 use Rattle.kind_core.proofs.SoundStores.{stores_are_sound}
 use Rattle.kind_core.proofs.SoundAtomics.{atomics_are_sound}
-use Rattle.kind_core.proofs.SoundCalls.{next, next_later, later_machine, calls_are_sound}
+use Rattle.kind_core.proofs.Later.{next, next_later, later_machine}
+use Rattle.kind_core.proofs.SoundCalls.{calls_are_sound}
 use Rattle.kind_core.proofs.SoundConditions.{conditions_are_sound}
 
 -- ---- effects that are the same at a reference
@@ -58,7 +59,7 @@ same_change node is_ref taken k e h = refl
 abbrev Plain : Effect → Type 0
 Plain e = is_constant e ≡ false
 
-plain_taking : (a b : Bool) (r : ℕ) → Plain (cond a (Register 0 (Num Unknown)) (cond b (Register r (Num Unknown)) Nothing))
+plain_taking : (a b : Bool) (r : ℕ) → Plain (cond a (Register 0 (Num (any_number 64))) (cond b (Register r (Num (any_number 64))) Nothing))
 plain_taking true b r = refl
 plain_taking false true r = refl
 plain_taking false false r = refl
@@ -118,7 +119,16 @@ straight code w k m i op e allowed undecided goes to n made v later d = record {
   described = subst (λ r. DescribesMachine v (changed_if w.node (at_reference code.refs m) false k r) n) (sym allowed) d;
 }
 
--- instructions that write their destination, and stores
+-- instructions that write their destination
+assigned : (code : machine.Code) (w : World) (k : Kinds) (m : Machine) (i : Insn) (op : Op) (e : Effect) → i.op ≡ op → effect_of m.maps.decls k i ≡ Ok e → decided_as k i op ≡ None
+    → step.step code m ≡ step.goes_on code.insns m.place (units_of op) (step.effect code.refs m i op) → target m.place i op false ≡ pos (m.place + units_of op)
+    → IfOk (effect_of m.maps.decls k i) (LeavesNext w k m (at_reference code.refs m) (step.effect code.refs m i i.op))
+    → Leads code w k m i op
+assigned code w k m i op e same allowed undecided goes to h =
+    let g = of_effect (LeavesNext w k m (at_reference code.refs m) (step.effect code.refs m i i.op)) (effect_of m.maps.decls k i) e allowed h in
+    straight code w k m i op e allowed undecided goes to g.0 (ap (step.effect code.refs m i) (sym same) ∙ g.1) g.2.0 g.2.1 g.2.2
+
+-- stores
 written : (code : machine.Code) (w : World) (k : Kinds) (m : Machine) (i : Insn) (op : Op) (e : Effect) → i.op ≡ op → effect_of m.maps.decls k i ≡ Ok e → decided_as k i op ≡ None
     → step.step code m ≡ step.goes_on code.insns m.place (units_of op) (step.effect code.refs m i op) → target m.place i op false ≡ pos (m.place + units_of op)
     → IfOk (effect_of m.maps.decls k i) (λ e. (n : Machine) × (step.effect code.refs m i i.op ≡ Some n) × DescribesMachine w (changed w.node (at_reference code.refs m) false k e) n)
@@ -150,13 +160,13 @@ along code w k m i wd e same goes st allowed =
 by_operation : (code : machine.Code) (w : World) (k : Kinds) (m : Machine) (i : Insn) (op : Op) (e : Effect) → i.op ≡ op → step.step code m ≡ step.outcome code m i op
     → Stands w k m → IsInsn i → effect_of m.maps.decls k i ≡ Ok e → GoesOn code w k m i op
 unfolding effect_of
-by_operation code w k m i (Alu wd c s) e same goes st legal allowed = written code w k m i (Alu wd c s) e same allowed refl goes refl (registers_are_sound code.refs w k m i st (ap writes_destination same))
-by_operation code w k m i (Neg wd) e same goes st legal allowed = written code w k m i (Neg wd) e same allowed refl goes refl (registers_are_sound code.refs w k m i st (ap writes_destination same))
-by_operation code w k m i (EndOp s) e same goes st legal allowed = written code w k m i (EndOp s) e same allowed refl goes refl (registers_are_sound code.refs w k m i st (ap writes_destination same))
-by_operation code w k m i Swap e same goes st legal allowed = written code w k m i Swap e same allowed refl goes refl (registers_are_sound code.refs w k m i st (ap writes_destination same))
-by_operation code w k m i LoadImm e same goes st legal allowed = written code w k m i LoadImm e same allowed refl goes refl (registers_are_sound code.refs w k m i st (ap writes_destination same))
-by_operation code w k m i (Load size) e same goes st legal allowed = written code w k m i (Load size) e same allowed refl goes refl (registers_are_sound code.refs w k m i st (ap writes_destination same))
-by_operation code w k m i (LoadSigned size) e same goes st legal allowed = written code w k m i (LoadSigned size) e same allowed refl goes refl (registers_are_sound code.refs w k m i st (ap writes_destination same))
+by_operation code w k m i (Alu wd c s) e same goes st legal allowed = assigned code w k m i (Alu wd c s) e same allowed refl goes refl (registers_are_sound code.refs w k m i st legal (ap writes_destination same))
+by_operation code w k m i (Neg wd) e same goes st legal allowed = assigned code w k m i (Neg wd) e same allowed refl goes refl (registers_are_sound code.refs w k m i st legal (ap writes_destination same))
+by_operation code w k m i (EndOp s) e same goes st legal allowed = assigned code w k m i (EndOp s) e same allowed refl goes refl (registers_are_sound code.refs w k m i st legal (ap writes_destination same))
+by_operation code w k m i Swap e same goes st legal allowed = assigned code w k m i Swap e same allowed refl goes refl (registers_are_sound code.refs w k m i st legal (ap writes_destination same))
+by_operation code w k m i LoadImm e same goes st legal allowed = assigned code w k m i LoadImm e same allowed refl goes refl (registers_are_sound code.refs w k m i st legal (ap writes_destination same))
+by_operation code w k m i (Load size) e same goes st legal allowed = assigned code w k m i (Load size) e same allowed refl goes refl (registers_are_sound code.refs w k m i st legal (ap writes_destination same))
+by_operation code w k m i (LoadSigned size) e same goes st legal allowed = assigned code w k m i (LoadSigned size) e same allowed refl goes refl (registers_are_sound code.refs w k m i st legal (ap writes_destination same))
 by_operation code w k m i (StoreImm size) e same goes st legal allowed = written code w k m i (StoreImm size) e same allowed refl goes refl (stores_are_sound code.refs w k m i st (ap is_store same))
 by_operation code w k m i (Store size) e same goes st legal allowed = written code w k m i (Store size) e same allowed refl goes refl (stores_are_sound code.refs w k m i st (ap is_store same))
 by_operation code w k m i (Atomic size) e same goes st legal allowed =

@@ -4,27 +4,28 @@ use Rattle.std.specs.Prelude.{if◌then◌else◌}
 use Rattle.std.proofs.lemmas.List.{length-set, length-map}
 use Rattle.std.specs.Int.{w64, cast_unsigned}
 use Rattle.xdp_machine.specs.bpf_isa.declared.operation.Op.{Op}
-use Rattle.xdp_machine.specs.bpf_isa.declared.operation.Op.TheVariants.{Ja, Jump, Call, Exit, LoadImm, Load, LoadSigned, StoreImm, Store, Atomic}
+use Rattle.xdp_machine.specs.bpf_isa.declared.operation.Op.TheVariants.{Alu, Ja, Jump, Call, Exit, LoadImm, Load, LoadSigned, StoreImm, Store, Atomic}
 use Rattle.xdp_machine.specs.bpf_isa.declared.operation.Size.{Size}
 use Rattle.xdp_machine.specs.bpf_isa.declared.instruction.Insn.{Insn}
 use Rattle.xdp_machine.specs.bpf_isa.declared.helper.Helper.{Helper}
 use Rattle.xdp_machine.specs.bpf_isa.Helpers.{helper_of}
 use Rattle.xdp_machine.specs.xdp_maps.declared.decl.MapDecl.{MapDecl}
 use Rattle.xdp_machine.specs.Atomics.{fetches}
-use Rattle.kind_core.specs.declared.number.Number.TheVariants.{Unknown}
+use Rattle.kind_core.specs.declared.base.Bounds.{Bounds}
+use Rattle.kind_core.specs.NumberBounds.{any_number}
 use Rattle.kind_core.specs.declared.kind.Kind.{Kind}
 use Rattle.kind_core.specs.declared.kind.Kind.TheVariants.{Num, Unset}
 use Rattle.kind_core.specs.declared.kind.Kinds.{Kinds}
 use Rattle.kind_core.specs.declared.conditions.Condition.{Condition}
-use Rattle.kind_core.specs.declared.conditions.Condition.TheVariants.{Decided, Open, NullTest, BoundsTest}
+use Rattle.kind_core.specs.declared.conditions.Condition.TheVariants.{Decided, Open, NullTest, BoundsTest, BaseTest}
 use Rattle.kind_core.specs.declared.effects.Effect.{Effect}
-use Rattle.kind_core.specs.declared.effects.Effect.TheVariants.{Nothing, Register, Constant, Slot, Lookup, Answered, Changed, Compared}
+use Rattle.kind_core.specs.declared.effects.Effect.TheVariants.{Nothing, Register, NewBase, Constant, Slot, Lookup, Answered, Changed, Compared}
 use Rattle.kind_core.specs.declared.helpers.Answer.{Answer}
 use Rattle.kind_core.specs.declared.helpers.Answer.TheVariants.{EntryOrNull, Plainly, AfterChange}
 use Rattle.kind_core.specs.declared.helpers.Prototype.{Prototype}
 use Rattle.kind_core.specs.declared.places.Place.{Place}
 use Rattle.kind_core.specs.declared.places.Place.TheVariants.{InPacket, InStack, InEntry}
-use Rattle.kind_core.specs.declared.refinements.Refinement.TheVariants.{IsStale}
+use Rattle.kind_core.specs.declared.refinements.Refinement.TheVariants.{IsStale, IsChecked}
 use Rattle.xdp_state.specs.declared.refusal.Why.{Why}
 use Rattle.kind_core.specs.Tests.{number_in}
 use Rattle.kind_core.specs.Joins.{join_list, joined}
@@ -33,8 +34,8 @@ use Rattle.kind_core.specs.Places.{accessed}
 use Rattle.kind_core.specs.Access.{loaded_plain, loaded_signed, stored, stored_at, changed_at, comparand, taking, compares, to_slot}
 use Rattle.kind_core.specs.Calls.{prototype_of, called_as, called, answer_of, change_of, declared, argument_fits}
 use Rattle.kind_core.specs.Profile.{profiled}
-use Rattle.kind_core.specs.Effects.{alu, assigned, effect_as, effect_of, immediate}
-use Rattle.kind_core.specs.Edges.{refined, agrees, on_edge, raised, changed, changed_if, transferred}
+use Rattle.kind_core.specs.Effects.{alu, operand, based, if_based, assigned, effect_as, effect_of, immediate}
+use Rattle.kind_core.specs.Edges.{refined, refined_all, agrees, on_edge, raised, changed, changed_if, transferred}
 use Rattle.kind_core.proofs.TestLaws.{bind_all}
 
 -- ---- sizes
@@ -64,19 +65,25 @@ edge_sized taken (BoundsTest edge n) k h = by_side (agrees taken edge)
     by_side : (b : Bool) → IsSized (if b then raised n k else k)
     by_side true = record { registers = h.registers; slots = h.slots }
     by_side false = h
+edge_sized taken (BaseTest edge n z) k h = by_side (agrees taken edge)
+  where
+    by_side : (b : Bool) → IsSized (if b then refined_all (IsChecked n z) k else k)
+    by_side true = record { registers = length-map k.registers _ ∙ h.registers; slots = length-map k.slots _ ∙ h.slots }
+    by_side false = h
 edge_sized taken (Decided b) k h = h
 edge_sized taken Open k h = h
 
 changed_sized : (node : ℕ) (is_ref taken : Bool) (k : Kinds) (e : Effect) → IsSized k → IsSized (changed node is_ref taken k e)
 changed_sized node is_ref taken k Nothing h = h
 changed_sized node is_ref taken k (Register r x) h = record { registers = length-set k.registers r x ∙ h.registers; slots = h.slots }
+changed_sized node is_ref taken k (NewBase r bounds) h = record { registers = length-set k.registers r _ ∙ h.registers; slots = h.slots }
 changed_sized node is_ref taken k (Constant r imm) h = record { registers = length-set k.registers r _ ∙ h.registers; slots = h.slots }
 changed_sized node is_ref taken k (Slot s x) h = record { registers = h.registers; slots = length-set k.slots s x ∙ h.slots }
 changed_sized node is_ref taken k (Lookup q) h = answering_sized _ k h
 changed_sized node is_ref taken k Answered h = answering_sized _ k h
 changed_sized node is_ref taken k (Changed q) h =
-    let a = answering_sized (Num Unknown) k h in
-    record { registers = length-map (answering (Num Unknown) k).registers (refined (IsStale q)) ∙ a.registers; slots = length-map (answering (Num Unknown) k).slots (refined (IsStale q)) ∙ a.slots }
+    let a = answering_sized (Num (any_number 64)) k h in
+    record { registers = length-map (answering (Num (any_number 64)) k).registers (refined (IsStale q)) ∙ a.registers; slots = length-map (answering (Num (any_number 64)) k).slots (refined (IsStale q)) ∙ a.slots }
 changed_sized node is_ref taken k (Compared x) h = edge_sized taken x k h
 
 pub transferred_sized : (decls : List MapDecl) (k : Kinds) (i : Insn) (node : ℕ) (is_ref taken : Bool) → IsSized k → IsSized (transferred decls k i node is_ref taken)
@@ -128,7 +135,7 @@ stored_fixed decls k base offset size x = bind_all _ _ Fixed (λ place. stored_a
 taking_fixed : (i : Insn) → Fixed (taking i)
 taking_fixed i = by_code (compares i) (fetches (cast_unsigned w64 i.imm))
   where
-    by_code : (b f : Bool) → Fixed (if b then Register 0 (Num Unknown) else if f then Register i.src (Num Unknown) else Nothing)
+    by_code : (b f : Bool) → Fixed (if b then Register 0 (Num (any_number 64)) else if f then Register i.src (Num (any_number 64)) else Nothing)
     by_code true f = λ node is_ref taken k. refl
     by_code false true = λ node is_ref taken k. refl
     by_code false false = λ node is_ref taken k. refl
@@ -144,6 +151,11 @@ is_jump op = false
 
 effect_fixed : (decls : List MapDecl) (k : Kinds) (i : Insn) (op : Op) → is_jump op ≡ false → IfOk (effect_as decls k i op) Fixed
 effect_fixed decls k i (Jump w c s) h = let bad : true ≡ false = h in absurd (cc)
+effect_fixed decls k i (Alu w c s) h = by_base (based k.offsets w c (register k i.dst) (operand k i s))
+  where
+    by_base : (o : Option Bounds) → IfOk (if_based i o (assigned i (alu decls k i (Alu w c s)))) Fixed
+    by_base (Some bounds) = λ node is_ref taken j. refl
+    by_base None = assigned_fixed i (alu decls k i (Alu w c s))
 effect_fixed decls k i (Ja w) h = λ node is_ref taken j. refl
 effect_fixed decls k i Call h = called_fixed decls k i (helper_of i.imm)
 effect_fixed decls k i Exit h = bind_all (number_in (register k 0)) (λ n. Ok Nothing) Fixed (λ n node is_ref taken j. refl)

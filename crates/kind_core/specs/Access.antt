@@ -10,7 +10,7 @@ use Rattle.xdp_machine.specs.xdp_maps.declared.decl.MapDecl.{MapDecl}
 use Rattle.xdp_machine.specs.Memory.{bytes_in}
 use Rattle.xdp_machine.specs.Atomics.{fetches}
 use Rattle.kind_core.specs.declared.number.Number.{Number}
-use Rattle.kind_core.specs.declared.number.Number.TheVariants.{Known, Unknown}
+use Rattle.kind_core.specs.declared.number.Number.TheVariants.{Known}
 use Rattle.kind_core.specs.declared.kind.Kind.{Kind}
 use Rattle.kind_core.specs.declared.kind.Kind.TheVariants.{Unset, Num, Packet, End, Ctx, Mixed}
 use Rattle.kind_core.specs.declared.kind.Kinds.{Kinds}
@@ -20,7 +20,8 @@ use Rattle.kind_core.specs.declared.effects.Effect.{Effect}
 use Rattle.kind_core.specs.declared.effects.Effect.TheVariants.{Nothing, Register, Slot}
 use Rattle.xdp_state.specs.declared.refusal.Why.{Why}
 use Rattle.xdp_state.specs.declared.refusal.Why.TheVariants as why
-use Rattle.kind_core.specs.Numbers.{number_part, number_patched, number_extended}
+use Rattle.kind_core.specs.NumberBounds.{any_number}
+use Rattle.kind_core.specs.Numbers.{any_bytes, number_part, number_patched, number_extended}
 use Rattle.kind_core.specs.Kinds.{register}
 use Rattle.kind_core.specs.Tests.{◌>>=◌, Test, passed, readable, number_in}
 use Rattle.kind_core.specs.Places.{accessed}
@@ -32,8 +33,8 @@ abbrev pub context_field : ℤ → Result Kind Why
 context_field offset =
     if int_eq offset (pos 0) then Ok (Packet 0) else
     if int_eq offset (pos 4) then Ok End else
-    if int_eq offset (pos 12) then Ok (Num Unknown) else
-    if int_eq offset (pos 16) then Ok (Num Unknown) else
+    if int_eq offset (pos 12) then Ok (Num (any_number 32)) else
+    if int_eq offset (pos 16) then Ok (Num (any_number 32)) else
     Err why.Offset
 
 -- a pointer in a slot is read whole, and of a number any part
@@ -43,9 +44,9 @@ from_slot size a k = number_in k >>= λ n. Ok (Num (number_part size a n))
 
 -- what a load finds at a place: numbers of the packet and of entries are not known
 abbrev pub found : List Kind → Size → Place → Result Kind Why
-found slots size InPacket = Ok (Num Unknown)
+found slots size InPacket = Ok (Num (any_bytes size))
 found slots size (InStack a) = readable (get_or slots (a / 8) Unset) >>= λ _. from_slot size (a % 8) (get_or slots (a / 8) Unset)
-found slots size InEntry = Ok (Num Unknown)
+found slots size InEntry = Ok (Num (any_bytes size))
 
 unfoldable pub loaded : List MapDecl → Kinds → Kind → ℤ → Size → Result Kind Why
 loaded decls k base offset size = accessed decls k.checked base offset size >>= λ place. found k.slots size place
@@ -74,7 +75,7 @@ loaded_signed decls k base offset size = if is_context base then Err why.Offset 
 abbrev pub underlying : Kind → Result Number Why
 underlying Mixed = Err why.Mixed
 underlying (Num n) = Ok n
-underlying Unset = Ok Unknown
+underlying Unset = Ok (any_number 64)
 underlying k = Ok (Known 0)
 
 -- a slot takes any kind whole, and of a number a part
@@ -103,8 +104,8 @@ comparand i k = if compares i then (number_in (register k 0) >>= λ _. passed) e
 -- where the old number goes: of CMPXCHG into R0, with FETCH into the source
 abbrev pub taking : Insn → Effect
 taking i =
-    if compares i then Register 0 (Num Unknown) else
-    if fetches (cast_unsigned w64 i.imm) then Register i.src (Num Unknown) else
+    if compares i then Register 0 (Num (any_number 64)) else
+    if fetches (cast_unsigned w64 i.imm) then Register i.src (Num (any_number 64)) else
     Nothing
 
 -- only entries are changed so

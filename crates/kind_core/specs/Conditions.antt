@@ -1,5 +1,5 @@
 -- Conditions of jumps: RFC 9669, section 4.3.
-use Rattle.std.specs.Prelude.{ℕ, zero, ◌+◌, Bool, true, false, not, Option, Some, None, Result, Ok, Err}
+use Rattle.std.specs.Prelude.{ℕ, ℤ, pos, zero, ◌+◌, ◌+ℤ◌, Bool, true, false, not, Option, Some, None, Result, Ok, Err}
 use Rattle.xdp_machine.specs.bpf_isa.declared.operation.Width.{Width}
 use Rattle.xdp_machine.specs.bpf_isa.declared.operation.Width.TheVariants.{Bits32, Bits64}
 use Rattle.xdp_machine.specs.bpf_isa.declared.operation.JumpCode.{JumpCode}
@@ -7,9 +7,9 @@ use Rattle.xdp_machine.specs.bpf_isa.declared.operation.JumpCode.TheVariants.{Je
 use Rattle.kind_core.specs.declared.number.Number.{Number}
 use Rattle.kind_core.specs.declared.number.Number.TheVariants.{Known}
 use Rattle.kind_core.specs.declared.kind.Kind.{Kind}
-use Rattle.kind_core.specs.declared.kind.Kind.TheVariants.{Num, Packet, End, Maybe, Entry}
+use Rattle.kind_core.specs.declared.kind.Kind.TheVariants.{Num, Packet, Var, End, Maybe, Entry}
 use Rattle.kind_core.specs.declared.conditions.Condition.{Condition}
-use Rattle.kind_core.specs.declared.conditions.Condition.TheVariants.{Decided, Open, NullTest, BoundsTest}
+use Rattle.kind_core.specs.declared.conditions.Condition.TheVariants.{Decided, Open, NullTest, BoundsTest, BaseTest}
 use Rattle.xdp_state.specs.declared.refusal.Why.{Why}
 use Rattle.xdp_state.specs.declared.refusal.Why.TheVariants as why
 use Rattle.kind_core.specs.Numbers.{number_holds}
@@ -25,6 +25,14 @@ bounds_test Jge o = Ok (BoundsTest false (o + 1))
 bounds_test Jlt o = Ok (BoundsTest true (o + 1))
 bounds_test Jle o = Ok (BoundsTest true o)
 bounds_test c o = Err why.Use
+
+-- the same of a place at a distance from a base
+abbrev pub base_test : JumpCode → ℕ → ℤ → Result Condition Why
+base_test Jgt node f = Ok (BaseTest false node f)
+base_test Jge node f = Ok (BaseTest false node (f +ℤ pos 1))
+base_test Jlt node f = Ok (BaseTest true node (f +ℤ pos 1))
+base_test Jle node f = Ok (BaseTest true node f)
+base_test c node f = Err why.Use
 
 -- the same condition with its sides exchanged
 abbrev pub mirrored : JumpCode → JumpCode
@@ -54,6 +62,8 @@ null_condition c a b = Err why.Use
 abbrev pub pointer_condition : JumpCode → Kind → Kind → Result Condition Why
 pointer_condition c (Packet o) End = bounds_test c o
 pointer_condition c End (Packet o) = bounds_test (mirrored c) o
+pointer_condition c (Var b f) End = base_test c b.node f
+pointer_condition c End (Var b f) = base_test (mirrored c) b.node f
 pointer_condition c a b = null_condition c a b
 
 -- the condition of a jump: pointers are compared by 64 bits alone

@@ -1,5 +1,5 @@
 -- Which values a kind describes, in the run of a packet.
-use Rattle.std.specs.Prelude.{ℕ, ℤ, pos, ◌≡◌, ◌<◌, ◌≤◌, ◌⊎◌, List, length, get_or, replicate, is_some, IsTrue}
+use Rattle.std.specs.Prelude.{ℕ, ℤ, pos, negsuc, ◌≡◌, ◌<◌, ◌≤◌, ◌+ℤ◌, ◌≤ℤ◌, ◌⊎◌, List, length, get_or, replicate, is_some, IsTrue}
 use Rattle.xdp_machine.specs.xdp_maps.State.{MapState, contents_at}
 use Rattle.xdp_machine.specs.xdp_maps.Calls.{lookup_of}
 use Rattle.xdp_machine.specs.Values.{Value}
@@ -7,14 +7,16 @@ use Rattle.xdp_machine.specs.Values as is
 use Rattle.xdp_machine.specs.State as machine
 use Rattle.xdp_machine.specs.State.{Machine}
 use Rattle.kind_core.specs.declared.number.Number.{Number}
-use Rattle.kind_core.specs.declared.number.Number.TheVariants.{Known, Unknown}
+use Rattle.kind_core.specs.declared.number.Number.TheVariants.{Known, Between}
+use Rattle.kind_core.specs.declared.base.Base.{Base}
 use Rattle.kind_core.specs.declared.kind.Kind.{Kind}
-use Rattle.kind_core.specs.declared.kind.Kind.TheVariants.{Unset, Num, Packet, End, Stack, Ctx, MapRef, Maybe, Entry, Stale, Mixed}
+use Rattle.kind_core.specs.declared.kind.Kind.TheVariants.{Unset, Num, Packet, Var, End, Stack, Ctx, MapRef, Maybe, Entry, Stale, Mixed}
 use Rattle.kind_core.specs.declared.kind.Kinds.{Kinds}
+use Rattle.kind_core.specs.declared.kind.Offsets.{Offsets}
 use Rattle.kind_core.specs.Kinds.{start}
 use Rattle.kind_core.specs.Joins.{joined}
 
--- the length of the frame, the number of the node, and what the lookups at the nodes before it gave
+-- the length of the frame, the number of the node, and what the lookups and the sums that make a base, at the nodes before it, gave
 pub record World : Type 0 where
   pub frame : ℕ
   pub node : ℕ
@@ -22,7 +24,20 @@ pub record World : Type 0 where
 
 abbrev pub DescribesNumber : Number → Value → Type 0
 DescribesNumber (Known n) v = v ≡ is.Number n
-DescribesNumber Unknown v = (n : ℕ) × (v ≡ is.Number n)
+DescribesNumber (Between lo hi) v = (n : ℕ) × (v ≡ is.Number n) × (lo ≤ n) × (n ≤ hi)
+
+-- a place at a distance from a base, which the sum at a node before gave, between its bounds; what is checked from the base on is there
+pub record IsFrom (w : World) (b : Base) (f : ℤ) (v : Value) : Type 0 where
+  pub place : ℕ
+  pub before : b.node < w.node
+  pub gave : w.gave b.node ≡ is.Packet (pos place)
+  pub low : b.bounds.low ≤ place
+  pub high : place ≤ b.bounds.high
+  pub inside : b.bounds.high ≤ 256
+  pub least : negsuc 255 ≤ℤ f
+  pub most : f ≤ℤ pos 256
+  pub checked : (pos place +ℤ b.checked) ≤ℤ pos w.frame
+  pub value : v ≡ is.Packet (pos place +ℤ f)
 
 -- a place in the value that a map holds under a key, which is there
 abbrev pub IsEntry : MapState → ℕ → ℕ → Value → Type 0
@@ -36,6 +51,7 @@ abbrev pub Describes : World → MapState → Kind → Value → Type 0
 Describes w maps Unset v = Unit {0}
 Describes w maps (Num n) v = DescribesNumber n v
 Describes w maps (Packet o) v = v ≡ is.Packet (pos o)
+Describes w maps (Var b f) v = IsFrom w b f v
 Describes w maps End v = v ≡ is.Packet (pos w.frame)
 Describes w maps (Stack o) v = v ≡ is.Stack o
 Describes w maps Ctx v = v ≡ is.Context
@@ -54,8 +70,8 @@ pub record DescribesMachine (w : World) (k : Kinds) (m : Machine) : Type 0 where
 
 -- The first kinds describe the start of every run: a machine with the first registers and a stack of zeros.
 abbrev pub StartIsDescribed : Type 0
-StartIsDescribed = (gave : ℕ → Value) (m : Machine) → m.registers ≡ machine.first_registers → m.stack ≡ replicate 64 (is.Number 0)
-    → DescribesMachine (record { frame = length m.frame; node = 0; gave = gave }) start m
+StartIsDescribed = (offsets : Offsets) (gave : ℕ → Value) (m : Machine) → m.registers ≡ machine.first_registers → m.stack ≡ replicate 64 (is.Number 0)
+    → DescribesMachine (record { frame = length m.frame; node = 0; gave = gave }) (start offsets) m
 
 -- Where edges meet, a machine that came along either is described.
 abbrev pub JoinDescribes : Type 0

@@ -7,6 +7,7 @@ use Rattle.kind_core.specs.declared.number.Number.TheVariants.{Known}
 use Rattle.kind_core.specs.declared.kind.Kind.{Kind}
 use Rattle.kind_core.specs.declared.kind.Kind.TheVariants.{Unset, Num, Stack, Ctx}
 use Rattle.kind_core.specs.declared.kind.Kinds.{Kinds}
+use Rattle.kind_core.specs.declared.kind.Offsets.{Offsets}
 
 abbrev pub register : Kinds → ℕ → Kind
 register k r = get_or k.registers r Unset
@@ -25,8 +26,8 @@ answering x k = record k { registers = x ∷ Unset ∷ Unset ∷ Unset ∷ Unset
 abbrev pub first_registers : List Kind
 first_registers = Unset ∷ Ctx ∷ Unset ∷ Unset ∷ Unset ∷ Unset ∷ Unset ∷ Unset ∷ Unset ∷ Unset ∷ Stack (pos 0) ∷ []
 
-abbrev pub start : Kinds
-start = record { registers = first_registers; slots = replicate 64 (Num (Known 0)); checked = 0 }
+abbrev pub start : Offsets → Kinds
+start offsets = record { registers = first_registers; slots = replicate 64 (Num (Known 0)); checked = 0; offsets = offsets }
 
 -- the bytes of a map's keys and values, and whether it is a hash; a map that is not declared has neither
 abbrev pub key_in : Option MapDecl → ℕ

@@ -1,7 +1,9 @@
+pub mod NumberBounds
 pub mod Numbers
 pub mod Kinds
 pub mod Joins
 pub mod Tests
+pub mod Bases
 pub mod Places
 pub mod Pointers
 pub mod Access
@@ -10,5 +12,6 @@ pub mod Calls
 pub mod Profile
 pub mod Effects
 pub mod Edges
+pub mod FixedOffsets
 pub mod Describes
 pub mod Soundness

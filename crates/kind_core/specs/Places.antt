@@ -1,10 +1,11 @@
 -- Where an access through a pointer lands.
-use Rattle.std.specs.Prelude.{ℕ, ℤ, pos, ◌+◌, ◌<◌, ◌≤◌, ◌+ℤ◌, ◌%◌, nat_le, if◌then◌else◌, Result, Ok, Err, List}
+use Rattle.std.specs.Prelude.{ℕ, ℤ, pos, ◌+◌, ◌<◌, ◌≤◌, ◌+ℤ◌, ◌%◌, nat_le, int_le, if◌then◌else◌, Result, Ok, Err, List}
 use Rattle.xdp_machine.specs.bpf_isa.declared.operation.Size.{Size}
 use Rattle.xdp_machine.specs.xdp_maps.declared.decl.MapDecl.{MapDecl}
 use Rattle.xdp_machine.specs.Memory.{bytes_in}
+use Rattle.kind_core.specs.declared.base.Base.{Base}
 use Rattle.kind_core.specs.declared.kind.Kind.{Kind}
-use Rattle.kind_core.specs.declared.kind.Kind.TheVariants.{Packet, Stack, Maybe, Entry}
+use Rattle.kind_core.specs.declared.kind.Kind.TheVariants.{Packet, Var, Stack, Maybe, Entry}
 use Rattle.kind_core.specs.declared.places.Place.{Place}
 use Rattle.kind_core.specs.declared.places.Place.TheVariants.{InPacket, InStack, InEntry}
 use Rattle.xdp_state.specs.declared.refusal.Why.{Why}
@@ -16,6 +17,13 @@ use Rattle.kind_core.specs.Tests.{◌>>=◌, within, aligned}
 abbrev pub in_packet : ℕ → ℤ → ℕ → Result Place Why
 in_packet checked z n = within z n 256 >>= λ a. if nat_le (a + n) checked then Ok InPacket else Err why.Unchecked
 
+-- bytes at a distance from a base: in the first 256, wherever the base lies, and among those that are checked
+abbrev pub past_base : Base → ℤ → ℕ → Result Place Why
+past_base b z n =
+    within (pos b.bounds.low +ℤ z) 0 256 >>= λ _.
+    within (pos b.bounds.high +ℤ z) n 256 >>= λ _.
+    if int_le (z +ℤ pos n) b.checked then Ok InPacket else Err why.Unchecked
+
 -- where an access from its lowest byte on begins in the stack, which is named by its end
 abbrev pub in_stack : ℤ → Size → Result Place Why
 in_stack z size = aligned (z +ℤ pos 512) (bytes_in size) 512 >>= λ a. Ok (InStack a)
@@ -26,6 +34,7 @@ in_value decls q z size = aligned z (bytes_in size) (value_bytes decls q) >>= λ
 -- an access at an offset from a pointer, but for the context
 abbrev pub accessed : List MapDecl → ℕ → Kind → ℤ → Size → Result Place Why
 accessed decls checked (Packet o) z size = in_packet checked (pos o +ℤ z) (bytes_in size)
+accessed decls checked (Var b f) z size = past_base b (f +ℤ z) (bytes_in size)
 accessed decls checked (Stack o) z size = in_stack (o +ℤ z) size
 accessed decls checked (Entry q o) z size = in_value decls q (pos o +ℤ z) size
 accessed decls checked (Maybe q n) z size = Err why.Null

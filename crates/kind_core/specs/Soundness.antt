@@ -15,6 +15,7 @@ use Rattle.xdp_machine.specs.bpf_isa.declared.operation.Op.TheVariants.{Ja, Jump
 use Rattle.xdp_machine.specs.bpf_isa.declared.instruction.Insn.{Insn}
 use Rattle.xdp_machine.specs.State as machine
 use Rattle.xdp_machine.specs.State.{Machine}
+use Rattle.xdp_machine.specs.Ranges.{IsInRange}
 use Rattle.xdp_machine.specs.Pointers.{compared}
 use Rattle.xdp_machine.specs.Step as step
 use Rattle.kind_core.specs.declared.kind.Kinds.{Kinds}
@@ -24,23 +25,34 @@ use Rattle.kind_core.specs.Effects.{effect_of, verdict}
 use Rattle.kind_core.specs.Edges.{changed, decided, decided_as, transferred}
 use Rattle.kind_core.specs.Describes.{World, DescribesMachine}
 
--- a machine that kinds describe, over maps whose values are within their limit
+-- a machine that kinds describe, with all that it holds in range, over maps whose values are within their limit
 pub record Stands (w : World) (k : Kinds) (m : Machine) : Type 0 where
   pub described : DescribesMachine w k m
   pub registers : length k.registers ≡ length m.registers
   pub slots : length k.slots ≡ length m.stack
   pub stack : length m.stack ≡ 64
+  pub range : IsInRange m
   pub values : (q : ℕ) → value_bytes m.maps.decls q ≤ 64
 
 -- whether the place of a machine is that of a reference to a map
 abbrev pub at_reference : List ℕ → Machine → Bool
 at_reference refs m = list_any (λ r. r == m.place) refs
 
--- Instructions that write their destination: arithmetic, constants and loads.
+-- a later node of the same run: what the lookups and sums before gave
+pub record IsLater (w v : World) : Type 0 where
+  pub frame : v.frame ≡ w.frame
+  pub node : w.node ≤ v.node
+  pub gave : (n : ℕ) → n < w.node → v.gave n ≡ w.gave n
+
+-- the same, where just what this node gave has been added
+abbrev pub IsNext : World → World → Type 0
+IsNext w v = IsLater w v × (v.node ≡ w.node + 1)
+
+-- Instructions that write their destination: arithmetic, constants and loads. A sum may give a base.
 abbrev pub RegistersAreSound : Type 0
 RegistersAreSound = (refs : List ℕ) (w : World) (k : Kinds) (m : Machine) (i : Insn)
-    → Stands w k m → writes_destination i.op ≡ true
-    → IfOk (effect_of m.maps.decls k i) (λ e. (n : Machine) × (step.effect refs m i i.op ≡ Some n) × DescribesMachine w (changed w.node (at_reference refs m) false k e) n)
+    → Stands w k m → IsInsn i → writes_destination i.op ≡ true
+    → IfOk (effect_of m.maps.decls k i) (λ e. (n : Machine) × (step.effect refs m i i.op ≡ Some n) × ((v : World) × IsNext w v × DescribesMachine v (changed w.node (at_reference refs m) false k e) n))
 
 -- ST and STX
 abbrev pub is_store : Op → Bool
@@ -59,16 +71,6 @@ abbrev pub AtomicsAreSound : Type 0
 AtomicsAreSound = (w : World) (k : Kinds) (m : Machine) (i : Insn) (size : Size)
     → Stands w k m → IsInsn i → i.op ≡ Atomic size
     → IfOk (effect_of m.maps.decls k i) (λ e. (n : Machine) × (atomic m i size ≡ Some n) × DescribesMachine w (changed w.node false false k e) n)
-
--- a later node of the same run: what the lookups before gave
-pub record IsLater (w v : World) : Type 0 where
-  pub frame : v.frame ≡ w.frame
-  pub node : w.node ≤ v.node
-  pub gave : (n : ℕ) → n < w.node → v.gave n ≡ w.gave n
-
--- the same, where just the lookup of this node has been added
-abbrev pub IsNext : World → World → Type 0
-IsNext w v = IsLater w v × (v.node ≡ w.node + 1)
 
 -- What describes a machine at a node describes it at each later one.
 abbrev pub LaterDescribes : Type 0

@@ -24,7 +24,7 @@ fn context_field(offset: i16) -> Result<Kind, Why>
     match offset {
         0 => Ok(Kind::Packet(0)),
         4 => Ok(Kind::End),
-        12 | 16 => Ok(Kind::Num(Number::Unknown)),
+        12 | 16 => Ok(Kind::Num(number::any(Width::Bits32))),
         _ => Err(Why::Offset),
     }
 }
@@ -63,7 +63,7 @@ fn found(slots: &[Kind; 64], size: Size, place: Place) -> Result<Kind, Why>
     ensures { result ≡ found slots.now size place }
 {
     match place {
-        Place::InPacket | Place::InEntry => Ok(Kind::Num(Number::Unknown)),
+        Place::InPacket | Place::InEntry => Ok(Kind::Num(number::any_bytes(size))),
         Place::InStack(at) => {
             let slot = slots[at / 8];
             readable(slot)?;
@@ -132,7 +132,7 @@ fn underlying(slot: Kind) -> Result<Number, Why>
     match slot {
         Kind::Mixed => Err(Why::Mixed),
         Kind::Num(n) => Ok(n),
-        Kind::Unset => Ok(Number::Unknown),
+        Kind::Unset => Ok(number::any(Width::Bits64)),
         _ => Ok(Number::Known(0)),
     }
 }
@@ -219,9 +219,9 @@ fn taking(insn: &Insn) -> Effect
     ensures inside { IsInside result }
 {
     if compares(insn) {
-        Effect::Register(0, Kind::Num(Number::Unknown))
+        Effect::Register(0, Kind::Num(number::any(Width::Bits64)))
     } else if fetches(insn.imm.cast_unsigned()) {
-        Effect::Register(insn.src, Kind::Num(Number::Unknown))
+        Effect::Register(insn.src, Kind::Num(number::any(Width::Bits64)))
     } else {
         Effect::Nothing
     }

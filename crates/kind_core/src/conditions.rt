@@ -3,6 +3,7 @@
 ghost use Rattle.std.specs.Prelude.{◌≡◌};
 ghost use Rattle.kind_core.specs.Conditions.{of_numbers, bounds_test, mirrored, null_test, against_number, null_condition, pointer_condition, condition_of};
 
+use crate::base::base_test;
 use crate::kind::Kind;
 use crate::number::{self, Number};
 use xdp_machine::bpf_isa::{JumpCode, Width};
@@ -19,6 +20,9 @@ pub(crate) enum Condition {
     NullTest(bool, u32),
     /// A place in the packet against its end: on the edge with this `taken` so many bytes are there.
     BoundsTest(bool, u32),
+    /// A place at a distance from a base against the packet's end: on the edge with this `taken` so many bytes from the base that a
+    /// node gave are there.
+    BaseTest(bool, u32, i32),
 }
 
 // A condition on numbers.
@@ -98,6 +102,8 @@ fn pointer_condition(code: JumpCode, a: Kind, b: Kind) -> Result<Condition, Why>
     match (a, b) {
         (Kind::Packet(o), Kind::End) => bounds_test(code, o),
         (Kind::End, Kind::Packet(o)) => bounds_test(mirrored(code), o),
+        (Kind::Var(base, f), Kind::End) => base_test(code, base.node, f),
+        (Kind::End, Kind::Var(base, f)) => base_test(mirrored(code), base.node, f),
         _ => null_condition(code, a, b),
     }
 }

@@ -6,12 +6,13 @@ ghost use Rattle.kind_core.specs.Kinds.{answering};
 ghost use Rattle.kind_core.specs.Effects.{effect_of, verdict, IsInside};
 ghost use Rattle.kind_core.specs.Edges.{agrees, on_edge, constant, changed, transferred, decision, decided};
 
+use crate::base::new_base;
 use crate::conditions::Condition;
 use crate::effects::{Effect, effect_of, jump};
 use crate::kind::{Kind, Kinds};
-use crate::number::Number;
+use crate::number::{self, Number};
 use crate::refinements::{Refinement, raise, refine};
-use xdp_machine::bpf_isa::{Insn, Op};
+use xdp_machine::bpf_isa::{Insn, Op, Width};
 use xdp_machine::xdp_maps::decl::MapDecl;
 use xdp_state::Why;
 
@@ -37,6 +38,11 @@ fn go_along(taken: bool, condition: Condition, kinds: &mut Kinds)
         Condition::BoundsTest(edge, bytes) => {
             if agrees(taken, edge) {
                 raise(bytes, kinds);
+            }
+        }
+        Condition::BaseTest(edge, node, bytes) => {
+            if agrees(taken, edge) {
+                refine(Refinement::IsChecked(node, bytes), kinds);
             }
         }
         Condition::Decided(_) | Condition::Open => {}
@@ -75,12 +81,15 @@ fn change(kinds: &mut Kinds, effect: Effect, node: u32, is_ref: bool, taken: boo
     match effect {
         Effect::Nothing => {}
         Effect::Register(r, kind) => kinds.registers[r as usize] = kind,
+        Effect::NewBase(r, bounds) => {
+            kinds.registers[r as usize] = Kind::Var(new_base(node, bounds), 0);
+        }
         Effect::Constant(r, imm) => kinds.registers[r as usize] = constant(is_ref, imm),
         Effect::Slot(s, kind) => kinds.slots[s] = kind,
         Effect::Lookup(q) => answer(kinds, Kind::Maybe(q, node)),
-        Effect::Answered => answer(kinds, Kind::Num(Number::Unknown)),
+        Effect::Answered => answer(kinds, Kind::Num(number::any(Width::Bits64))),
         Effect::Changed(q) => {
-            answer(kinds, Kind::Num(Number::Unknown));
+            answer(kinds, Kind::Num(number::any(Width::Bits64)));
             refine(Refinement::IsStale(q), kinds);
         }
         Effect::Compared(condition) => go_along(taken, condition, kinds),

@@ -5,13 +5,14 @@ ghost use Rattle.xdp_machine.specs.bpf_isa.Spelling.{IsInsn};
 ghost use Rattle.xdp_machine.specs.bpf_isa.Rules.{Allows};
 ghost use Rattle.xdp_machine.specs.bpf_isa.declared.fields.Rule.TheVariants.{SwapBits};
 ghost use Rattle.kind_core.specs.Kinds.{register};
-ghost use Rattle.kind_core.specs.Numbers.{number_negated, number_ordered};
-ghost use Rattle.kind_core.specs.Effects.{immediate, operand, assigned, renumbered, alu, jump, effect_as, effect_of, IsInside};
+ghost use Rattle.kind_core.specs.Numbers.{number_negated, end_bits, number_ordered};
+ghost use Rattle.kind_core.specs.Effects.{immediate, operand, assigned, renumbered, alu, based, if_based, jump, effect_as, effect_of, IsInside};
 
 use crate::access::{atomic, loaded_plain, loaded_signed, stored};
+use crate::base::{Bounds, base_sum};
 use crate::conditions::{Condition, condition_of};
 use crate::helpers::called;
-use crate::kind::{Kind, Kinds};
+use crate::kind::{Kind, Kinds, Offsets};
 use crate::number::{self, Number};
 use crate::pointers::combined;
 use crate::profile::profiled;
@@ -26,6 +27,8 @@ pub(crate) enum Effect {
     Nothing,
     /// A register gets a kind.
     Register(u8, Kind),
+    /// A register gets a new base between bounds.
+    NewBase(u8, Bounds),
     /// A register gets a number of 64 bits, or the map that it refers to.
     Constant(u8, i64),
     /// A slot of the stack gets a kind.
@@ -83,10 +86,21 @@ fn negate(kinds: &Kinds, insn: &Insn, width: Width) -> Result<Kind, Why>
 fn order(kinds: &Kinds, insn: &Insn, end: Src) -> Result<Kind, Why>
     requires dst { insn.now.dst ≤ 10 }
     requires bits { Allows SwapBits insn.now.imm }
-    ensures { result ≡ renumbered kinds.now insn.now (number_ordered end (unsigned_abs insn.now.imm)) }
+    ensures { result ≡ renumbered kinds.now insn.now (number_ordered (end_bits (unsigned_abs insn.now.imm)) end (unsigned_abs insn.now.imm)) }
 {
     let n = number_in(kinds.registers[insn.dst as usize])?;
-    Ok(Kind::Num(number::ordered(end, insn.imm as u32, n)))
+    let bits = insn.imm as u32;
+    Ok(Kind::Num(number::ordered(number::end_width(bits), end, bits, n)))
+}
+
+// The low bytes of the number in the destination reversed.
+fn swap(kinds: &Kinds, insn: &Insn) -> Result<Kind, Why>
+    requires dst { insn.now.dst ≤ 10 }
+    requires bits { Allows SwapBits insn.now.imm }
+    ensures { result ≡ renumbered kinds.now insn.now (number_ordered 64 Src.X (unsigned_abs insn.now.imm)) }
+{
+    let n = number_in(kinds.registers[insn.dst as usize])?;
+    Ok(Kind::Num(number::ordered(Width::Bits64, Src::X, insn.imm as u32, n)))
 }
 
 // Arithmetic with two operands.
@@ -105,7 +119,7 @@ fn combine(
 {
     let a = kinds.registers[insn.dst as usize];
     let b = operand(kinds, insn, src);
-    combined(decls, width, code, insn.offset, a, b)
+    combined(decls, width, code, insn.offset, src, a, b)
 }
 
 // What arithmetic leaves in the destination.
@@ -117,8 +131,41 @@ fn alu(decls: &[MapDecl], kinds: &Kinds, insn: &Insn) -> Result<Kind, Why>
         Op::Alu(width, code, src) => combine(decls, kinds, insn, width, code, src),
         Op::Neg(width) => negate(kinds, insn, width),
         Op::End(src) => order(kinds, insn, src),
-        Op::Swap => order(kinds, insn, Src::X),
+        Op::Swap => swap(kinds, insn),
         _ => Err(Why::Instruction),
+    }
+}
+
+// The bounds of a new base.
+fn based(offsets: Offsets, width: Width, code: AluCode, a: Kind, b: Kind) -> Option<Bounds>
+    ensures { result ≡ based offsets width code a b }
+{
+    match (offsets, width, code) {
+        (Offsets::Varying, Width::Bits64, AluCode::Add) => base_sum(a, b),
+        _ => None,
+    }
+}
+
+// Arithmetic with two operands, which may give a new base.
+fn arithmetic(
+    decls: &[MapDecl],
+    kinds: &Kinds,
+    insn: &Insn,
+    width: Width,
+    code: AluCode,
+    src: Src,
+) -> Result<Effect, Why>
+    requires dst { insn.now.dst ≤ 10 }
+    requires src { insn.now.src ≤ 10 }
+    requires offset { unsigned_abs insn.now.offset ≤ 32 }
+    ensures value { result ≡ effect_as decls.now kinds.now insn.now (Op.Alu width code src) }
+    ensures inside { IfOk result IsInside }
+{
+    let a = kinds.registers[insn.dst as usize];
+    let b = operand(kinds, insn, src);
+    match based(kinds.offsets, width, code, a, b) {
+        Some(bounds) => Ok(Effect::NewBase(insn.dst, bounds)),
+        None => assigned(insn, combine(decls, kinds, insn, width, code, src)),
     }
 }
 
@@ -148,6 +195,7 @@ fn effect_as(decls: &[MapDecl], kinds: &Kinds, insn: &Insn) -> Result<Effect, Wh
     let dst = kinds.registers[insn.dst as usize];
     let src = kinds.registers[insn.src as usize];
     match insn.op {
+        Op::Alu(width, code, s) => arithmetic(decls, kinds, insn, width, code, s),
         Op::Ja(_) => Ok(Effect::Nothing),
         Op::Jump(width, code, s) => Ok(Effect::Compared(jump(kinds, insn, width, code, s)?)),
         Op::Call => called(decls, kinds, insn.imm, Helper::of(insn.imm)),

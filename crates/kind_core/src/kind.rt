@@ -3,6 +3,7 @@
 ghost use Rattle.std.specs.Prelude.{◌≡◌};
 ghost use Rattle.kind_core.specs.Kinds.{start, register, key_bytes, value_bytes, is_hash};
 
+use crate::base::Base;
 use crate::number::Number;
 
 /// What is known of the value in a register or in a slot of the stack.
@@ -14,6 +15,8 @@ pub enum Kind {
     Num(Number),
     /// A place in the packet, from its first byte: 0 to 256.
     Packet(u16),
+    /// A place in the packet that is not known, by its base and the distance from it: -256 to 256.
+    Var(Base, i16),
     /// The end of the packet.
     End,
     /// A place in the stack, from its end: -512 to 0.
@@ -32,6 +35,15 @@ pub enum Kind {
     Mixed,
 }
 
+/// Whether offsets into the packet may vary.
+#[derive(Copy, Clone, Debug, PartialEq, Eq)]
+pub enum Offsets {
+    /// A pointer into the packet is moved by known numbers alone.
+    Fixed,
+    /// By others too, whose bounds keep it in the first 256 bytes.
+    Varying,
+}
+
 /// What is known at a point of a program.
 #[derive(Copy, Clone, Debug, PartialEq, Eq)]
 pub struct Kinds {
@@ -41,12 +53,14 @@ pub struct Kinds {
     pub slots: [Kind; 64],
     /// How many bytes the packet is known to have, 256 at most.
     pub checked: u16,
+    /// Whether sums with numbers that are not known are followed.
+    pub offsets: Offsets,
 }
 
 impl Kinds {
     /// The kinds at the start of a program.
-    pub fn start() -> Kinds
-        ensures { result ≡ start }
+    pub fn start(offsets: Offsets) -> Kinds
+        ensures { result ≡ start offsets }
     {
         let mut registers = [Kind::Unset; 11];
         registers[1] = Kind::Ctx;
@@ -55,6 +69,7 @@ impl Kinds {
             registers,
             slots: [Kind::Num(Number::Known(0)); 64],
             checked: 0,
+            offsets,
         }
     }
 }

@@ -1,5 +1,6 @@
 //! What holds of kinds. Each function's contract is a law; it computes nothing.
 
+ghost use Rattle.kind_core.specs.FixedOffsets.{StaysFixed};
 ghost use Rattle.kind_core.specs.Joins.{JoinIsCommutative, JoinIsIdempotent, JoinIsAssociative};
 ghost use Rattle.kind_core.specs.Describes.{StartIsDescribed, JoinDescribes};
 ghost use Rattle.kind_core.specs.Soundness.{RegistersAreSound, StoresAreSound, AtomicsAreSound, CallsAreSound, ConditionsAreSound, LaterDescribes, StepsAreSound};
@@ -17,6 +18,11 @@ pub fn join_is_idempotent()
 /// Any number of edges meet in any order.
 pub fn join_is_associative()
     ensures { JoinIsAssociative }
+{}
+
+/// Where offsets into the packet do not vary, no place in it is not known: at the start, where edges meet, and after each instruction.
+pub fn stays_fixed()
+    ensures { StaysFixed }
 {}
 
 /// The kinds at the start describe the start of every run.

@@ -8,6 +8,8 @@
 #![tactic(auto)]
 
 mod access;
+pub mod base;
+mod bounds;
 mod conditions;
 mod edges;
 mod effects;
@@ -22,9 +24,10 @@ mod profile;
 mod refinements;
 mod tests;
 
+pub use base::Base;
 pub use edges::{advance, allowed, decide, transfer};
 pub use joins::{join, join_into};
-pub use kind::{Kind, Kinds};
+pub use kind::{Kind, Kinds, Offsets};
 pub use number::Number;
 
 // Crates above name these through this one.

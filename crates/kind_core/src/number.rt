@@ -1,27 +1,92 @@
 //! What is known of a number of 64 bits.
 
-ghost use Rattle.std.specs.Prelude.{◌≡◌, ◌+◌, ◌≤◌, ◌⊎◌};
+ghost use Rattle.std.specs.Prelude.{◌≡◌, ◌+◌, ◌*◌, ◌≤◌, ◌⊎◌};
+ghost use Rattle.xdp_machine.specs.Arithmetic.{bits_in};
 ghost use Rattle.xdp_machine.specs.Memory.{bytes_in};
-ghost use Rattle.kind_core.specs.Numbers.{number_arithmetic, number_sum, number_difference, number_negated, number_extended, number_ordered, number_holds, number_part, number_patched, join_number};
+ghost use Rattle.kind_core.specs.NumberBounds.{lower, upper, unknown, any_number};
+ghost use Rattle.kind_core.specs.Numbers.{number_arithmetic, number_sum, number_difference, number_negated, moved_number, number_extended, end_bits, number_ordered, number_holds, any_bytes, number_part, number_patched, join_number};
 
+use crate::bounds;
 use xdp_machine::bpf_isa::{AluCode, JumpCode, Size, Src, Width};
 use xdp_state::{arithmetic, memory};
 
 #[derive(Copy, Clone, Debug, PartialEq, Eq)]
 pub enum Number {
+    /// This number.
     Known(u64),
-    Unknown,
+    /// One that is not known, between these two.
+    Between(u64, u64),
 }
 
-/// An operation on the low bits of two numbers.
-pub fn arithmetic(code: AluCode, signed: bool, width: Width, a: Number, b: Number) -> Number
-    ensures { result ≡ number_arithmetic code signed width a b }
+impl Number {
+    /// The least that it may be.
+    pub fn lower(self) -> u64
+        ensures { result ≡ lower self }
+    {
+        match self {
+            Number::Known(x) => x,
+            Number::Between(lo, _) => lo,
+        }
+    }
+
+    /// The greatest that it may be.
+    pub fn upper(self) -> u64
+        ensures { result ≡ upper self }
+    {
+        match self {
+            Number::Known(x) => x,
+            Number::Between(_, hi) => hi,
+        }
+    }
+}
+
+// A number of which the bounds alone are known.
+fn unknown(n: Number) -> Number
+    ensures { result ≡ unknown n }
+{
+    Number::Between(n.lower(), n.upper())
+}
+
+/// Any number of so many bits.
+pub fn any(width: Width) -> Number
+    ensures { result ≡ any_number (bits_in width) }
+{
+    match width {
+        Width::Bits32 => Number::Between(0, 0xffff_ffff),
+        Width::Bits64 => Number::Between(0, 0xffff_ffff_ffff_ffff),
+    }
+}
+
+/// What so many bytes can be.
+pub fn any_bytes(size: Size) -> Number
+    ensures { result ≡ any_bytes size }
+{
+    match size {
+        Size::B => Number::Between(0, 0xff),
+        Size::H => Number::Between(0, 0xffff),
+        Size::W => Number::Between(0, 0xffff_ffff),
+        Size::Dw => Number::Between(0, 0xffff_ffff_ffff_ffff),
+    }
+}
+
+/// An operation on the low bits of two numbers, the second from this source.
+pub fn arithmetic(
+    code: AluCode,
+    signed: bool,
+    width: Width,
+    src: Src,
+    a: Number,
+    b: Number,
+) -> Number
+    ensures { result ≡ number_arithmetic code signed width src a b }
 {
     match (a, b) {
         (Number::Known(x), Number::Known(y)) => {
             Number::Known(arithmetic::arithmetic(code, signed, width, x, y))
         }
-        _ => Number::Unknown,
+        (Number::Known(_), Number::Between(_, _)) | (Number::Between(_, _), _) => {
+            unknown(bounds::bounds(code, width, a, bounds::counted(width, src, b)))
+        }
     }
 }
 
@@ -31,7 +96,9 @@ pub fn sum(a: Number, b: Number) -> Number
 {
     match (a, b) {
         (Number::Known(x), Number::Known(y)) => Number::Known(x.wrapping_add(y)),
-        _ => Number::Unknown,
+        (Number::Known(_), Number::Between(_, _)) | (Number::Between(_, _), _) => {
+            unknown(bounds::sum(Width::Bits64, a, b))
+        }
     }
 }
 
@@ -41,7 +108,7 @@ pub fn difference(a: Number, b: Number) -> Number
 {
     match (a, b) {
         (Number::Known(x), Number::Known(y)) => Number::Known(x.wrapping_sub(y)),
-        _ => Number::Unknown,
+        _ => any(Width::Bits64),
     }
 }
 
@@ -51,7 +118,17 @@ pub fn negated(width: Width, n: Number) -> Number
 {
     match n {
         Number::Known(x) => Number::Known(arithmetic::negated(width, x)),
-        Number::Unknown => Number::Unknown,
+        Number::Between(_, _) => any(width),
+    }
+}
+
+// What MOV leaves of the bounds of a number that is not known.
+fn moved(width: Width, count: u64, n: Number) -> Number
+    ensures { result ≡ moved_number width count n }
+{
+    match count {
+        0 => bounds::in_bits(width, n),
+        _ => any(width),
     }
 }
 
@@ -62,18 +139,29 @@ pub fn extended(width: Width, count: u64, n: Number) -> Number
 {
     match n {
         Number::Known(x) => Number::Known(arithmetic::extended(width, count, x)),
-        Number::Unknown => Number::Unknown,
+        Number::Between(_, _) => unknown(moved(width, count, n)),
     }
 }
 
-/// The low 16, 32 or 64 bits of a number, with their bytes in an order.
-pub fn ordered(order: Src, bits: u32, n: Number) -> Number
+/// As many bits as END makes of so many.
+pub fn end_width(bits: u32) -> Width
+    ensures { bits_in result ≡ end_bits bits }
+{
+    if bits == 64 {
+        Width::Bits64
+    } else {
+        Width::Bits32
+    }
+}
+
+/// The low 16, 32 or 64 bits of a number, with their bytes in an order; `most` are the bits that may come out.
+pub fn ordered(most: Width, order: Src, bits: u32, n: Number) -> Number
     requires { (bits ≡ 16) ⊎ ((bits ≡ 32) ⊎ (bits ≡ 64)) }
-    ensures { result ≡ number_ordered order bits n }
+    ensures { result ≡ number_ordered (bits_in most) order bits n }
 {
     match n {
         Number::Known(x) => Number::Known(arithmetic::ordered(order, bits, x)),
-        Number::Unknown => Number::Unknown,
+        Number::Between(_, _) => any(most),
     }
 }
 
@@ -94,7 +182,7 @@ pub fn part(size: Size, at: usize, n: Number) -> Number
 {
     match n {
         Number::Known(x) => Number::Known(memory::number_at(&memory::bytes_of(x), at, size)),
-        Number::Unknown => Number::Unknown,
+        Number::Between(_, _) => any_bytes(size),
     }
 }
 
@@ -107,7 +195,7 @@ pub fn patched(size: Size, at: usize, old: Number, n: Number) -> Number
         (Number::Known(x), Number::Known(y)) => {
             Number::Known(memory::patched_number(x, at, size, y))
         }
-        _ => Number::Unknown,
+        _ => any(Width::Bits64),
     }
 }
 
@@ -120,9 +208,10 @@ pub fn join_number(a: Number, b: Number) -> Number
             if x == y {
                 Number::Known(x)
             } else {
-                Number::Unknown
+                Number::Between(x.min(y), x.max(y))
             }
         }
-        _ => Number::Unknown,
+        (Number::Known(x), Number::Between(lo, hi)) => Number::Between(x.min(lo), x.max(hi)),
+        (Number::Between(lo, hi), _) => Number::Between(lo.min(b.lower()), hi.max(b.upper())),
     }
 }

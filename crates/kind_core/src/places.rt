@@ -6,6 +6,7 @@ ghost use Rattle.xdp_machine.specs.Memory.{bytes_in};
 ghost use Rattle.kind_core.specs.Kinds.{key_bytes, value_bytes, is_hash};
 ghost use Rattle.kind_core.specs.Places.{in_packet, in_stack, in_value, accessed, FitsSlot};
 
+use crate::base::past_base;
 use crate::kind::Kind;
 use crate::tests::{aligned, within};
 use xdp_machine::bpf_isa::Size;
@@ -106,6 +107,7 @@ pub(crate) fn accessed(
     let distance = i128::from(offset);
     match base {
         Kind::Packet(o) => in_packet(checked, i128::from(o) + distance, bytes_in(size)),
+        Kind::Var(base, f) => past_base(base, i128::from(f) + distance, bytes_in(size)),
         Kind::Stack(o) => in_stack(i128::from(o) + distance, size),
         Kind::Entry(q, o) => in_value(decls, q, i128::from(o) + distance, size),
         Kind::Maybe(_, _) => Err(Why::Null),

@@ -3,11 +3,12 @@
 ghost use Rattle.std.specs.Prelude.{◌≡◌, map};
 ghost use Rattle.kind_core.specs.Edges.{refined, refined_all, raised};
 
+use crate::base::raised_base;
 use crate::kind::{Kind, Kinds};
 use crate::number::Number;
 use crate::places::WINDOW;
 
-/// What is learnt of pointers into maps.
+/// What is learnt of pointers.
 #[derive(Copy, Clone)]
 pub(crate) enum Refinement {
     /// The lookup at a node gave 0.
@@ -16,6 +17,8 @@ pub(crate) enum Refinement {
     IsEntry(u32),
     /// Entries of a map may be gone.
     IsStale(u32),
+    /// From the base that a node gave on the packet has so many bytes.
+    IsChecked(u32, i32),
 }
 
 // What becomes of one kind.
@@ -27,6 +30,9 @@ fn refined(refinement: Refinement, kind: Kind) -> Kind
         (Refinement::IsEntry(node), Kind::Maybe(q, n)) if n == node => Kind::Entry(q, 0),
         (Refinement::IsStale(map), Kind::Maybe(q, _)) if q == map => Kind::Stale,
         (Refinement::IsStale(map), Kind::Entry(q, _)) if q == map => Kind::Stale,
+        (Refinement::IsChecked(node, bytes), Kind::Var(base, f)) if base.node == node => {
+            Kind::Var(raised_base(bytes, base), f)
+        }
         _ => kind,
     }
 }

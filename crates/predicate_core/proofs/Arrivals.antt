@@ -7,9 +7,9 @@ use Rattle.std.proofs.Math.Seq.{get_or-append_seam}
 use Rattle.std.proofs.lemmas.Bool.{cases_lt, eqb-true, eq-eqb}
 use Rattle.std.proofs.lemmas.List.{length-map, get_or-map}
 use Rattle.xdp_machine.specs.Program.{XdpProgram}
-use Rattle.kind_core.specs.declared.number.Number.TheVariants.{Known, Unknown}
+use Rattle.kind_core.specs.declared.number.Number.TheVariants.{Known, Between}
 use Rattle.kind_core.specs.declared.kind.Kind.{Kind}
-use Rattle.kind_core.specs.declared.kind.Kind.TheVariants.{Unset, Num, Packet, End, Stack, Ctx, MapRef, Maybe, Entry, Stale, Mixed}
+use Rattle.kind_core.specs.declared.kind.Kind.TheVariants.{Unset, Num, Packet, Var, End, Stack, Ctx, MapRef, Maybe, Entry, Stale, Mixed}
 use Rattle.kind_core.specs.declared.kind.Kinds.{Kinds}
 use Rattle.unfold_core.specs.declared.edges.Point.{Point}
 use Rattle.unfold_core.specs.declared.links.Edge.{Edge}
@@ -110,11 +110,12 @@ along p u k e b some to (inr x) = record {
 
 -- ---- kinds
 pub closed : (row : ℕ → ℕ) (ps : List PointerView) (x : Kind) (c : ℕ) → is_open x ≡ false → value_row row ps x c ≡ 0
-closed row ps (Num Unknown) c h = cc
+closed row ps (Num (Between lo hi)) c h = cc
 closed row ps (Num (Known n)) c h = refl
 closed row ps (Maybe q n) c h = cc
 closed row ps (Entry q o) c h = cc
 closed row ps (Packet o) c h = refl
+closed row ps (Var b f) c h = refl
 closed row ps End c h = refl
 closed row ps (Stack o) c h = refl
 closed row ps Ctx c h = refl
@@ -124,11 +125,12 @@ closed row ps Stale c h = refl
 closed row ps Mixed c h = refl
 
 open_known : (x : Kind) → is_open x ≡ true → is_known x ≡ false
-open_known (Num Unknown) h = refl
+open_known (Num (Between lo hi)) h = refl
 open_known (Num (Known n)) h = cc
 open_known (Maybe q n) h = refl
 open_known (Entry q o) h = refl
 open_known (Packet o) h = refl
+open_known (Var b f) h = refl
 open_known End h = refl
 open_known (Stack o) h = refl
 open_known Ctx h = refl

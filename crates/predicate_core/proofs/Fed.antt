@@ -3,6 +3,7 @@ use Rattle.std.proofs.Common.{◌≡◌, ℕ, ◌+◌, ◌<◌, ◌≤◌, ◌�
 use Rattle.std.specs.Prelude.{All, Contains}
 use Rattle.std.proofs.lemmas.Bool.{cases_lt}
 use Rattle.std.proofs.lemmas.List.Elements.{All-nil, All-cons, All-append, All-contains, Contains-append_left, Contains-append_right}
+use Rattle.kind_core.specs.declared.kind.Offsets.TheVariants.{Fixed}
 use Rattle.kind_core.specs.Kinds as kinds
 use Rattle.operator_cells.specs.declared.held_cells.way.Way.{Way}
 use Rattle.operator_cells.specs.HeldCells.Paths.{EdgeView, GraphView, node_at}
@@ -15,7 +16,7 @@ module _ (g : GraphView) (sound : IsSoundGraph g) where
   leads_on : (x : EdgeView) → Contains g.edges x → (x.from < x.to) × (x.to < length g.nodes) × AreWider (node_at g.nodes x.to).kinds (known_on g x)
   leads_on x c = All-contains (λ y. (y.from < y.to) × (y.to < length g.nodes) × AreWider (node_at g.nodes y.to).kinds (known_on g y)) g.edges x sound.edges c
 
-  start : (e : Way) → e.to ≡ 0 → e.kinds ≡ kinds.start → AreFed g 0 (e ∷ [])
+  start : (e : Way) → e.to ≡ 0 → e.kinds ≡ kinds.start Fixed → AreFed g 0 (e ∷ [])
   start e first is = record {
     wider = All-cons (λ x. 0 ≤ x.to → AreWider (node_at g.nodes x.to).kinds x.kinds) e []
         (λ l. subst (λ (n : ℕ). AreWider (node_at g.nodes n).kinds e.kinds) (sym first) (subst (AreWider (node_at g.nodes 0).kinds) (sym is) sound.begins)) (All-nil (λ x. 0 ≤ x.to → AreWider (node_at g.nodes x.to).kinds x.kinds));

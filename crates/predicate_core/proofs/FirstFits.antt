@@ -7,6 +7,7 @@ use Rattle.xdp_machine.specs.Program.{XdpProgram}
 use Rattle.kind_core.specs.declared.number.Number.TheVariants.{Known}
 use Rattle.kind_core.specs.declared.kind.Kind.TheVariants.{Unset, Num}
 use Rattle.kind_core.specs.declared.kind.Kinds.{Kinds}
+use Rattle.kind_core.specs.declared.kind.Offsets.TheVariants.{Fixed}
 use Rattle.kind_core.specs.Kinds as kinds
 use Rattle.kind_core.specs.Kinds.{first_registers}
 use Rattle.unfold_core.specs.declared.unfolding.Unfolded.{Unfolded}
@@ -52,10 +53,10 @@ register_closed (suc (suc (suc (suc (suc (suc (suc (suc (suc zero))))))))) = ref
 register_closed (suc (suc (suc (suc (suc (suc (suc (suc (suc (suc zero)))))))))) = refl
 register_closed (suc (suc (suc (suc (suc (suc (suc (suc (suc (suc (suc r))))))))))) = refl
 
-pub start_closed : (place : ℕ) → place < first_byte → is_open (kind_at kinds.start place) ≡ false
+pub start_closed : (place : ℕ) → place < first_byte → is_open (kind_at (kinds.start Fixed) place) ≡ false
 start_closed place l = by (location_at place) refl (location_there place)
   where
-    by : (x : Location) → location_at place ≡ x → IsLocation x → is_open (kind_by kinds.start x) ≡ false
+    by : (x : Location) → location_at place ≡ x → IsLocation x → is_open (kind_by (kinds.start Fixed) x) ≡ false
     by (location.Register r) e there = register_closed r
     by (location.StackSlot s) e there = rw (get_or-replicate 64 s (Num (Known 0)) Unset there) refl
     by (location.PacketByte i) e there = let same : place ≡ first_byte + i = numbered_as place (location.PacketByte i) e in absurd (omega (arith, same, l))

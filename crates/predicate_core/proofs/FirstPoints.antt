@@ -5,6 +5,7 @@ use Rattle.std.proofs.lemmas.List.Elements.{All-nil, All-cons, All-contains}
 use Rattle.kind_core.specs.declared.kind.Kind.{Kind}
 use Rattle.kind_core.specs.declared.kind.Kind.TheVariants.{Maybe, Entry}
 use Rattle.kind_core.specs.declared.kind.Kinds.{Kinds}
+use Rattle.kind_core.specs.declared.kind.Offsets.TheVariants.{Fixed}
 use Rattle.kind_core.specs.Kinds as kinds
 use Rattle.cell_core.specs.Cells.{on}
 use Rattle.operator_cells.specs.row_rules.PlaceRows.Origins.{is_open}
@@ -21,7 +22,7 @@ pointer_open (Maybe q n) c x e = refl
 pointer_open (Entry q o) c x e = refl
 pointer_open a c x e = cc
 
-holds_none : (k : Kinds) (h : RegisterCells) (x : Pointing) → k ≡ kinds.start → HoldsPointer k h x → ⊥
+holds_none : (k : Kinds) (h : RegisterCells) (x : Pointing) → k ≡ kinds.start Fixed → HoldsPointer k h x → ⊥
 holds_none k h x is (place, e) =
     let closed : is_open (kind_at k place) ≡ false = ap (λ (j : Kinds). is_open (kind_at j place)) is ∙ start_closed place (low_place k h place x e) in
     let open_there = pointer_open (kind_at k place) (number_at h place) x e in

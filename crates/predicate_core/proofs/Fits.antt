@@ -264,10 +264,10 @@ edges_up p u sound i d l =
     omega (arith, y.0, ap (λ (x : EdgeView). x.from) e, ap (λ (x : EdgeView). x.to) e)
 
 pub arrivals_fit : GraphsAreSound → SoundGraphsFeed → ArrivalsFit
-arrivals_fit sounds feed p u k t cells cells2 ps here guard h waiting program unfolded inside ready lead joins grows gathers count fit = by (cases_lt 0 k)
+arrivals_fit sounds feed p u k t cells cells2 ps here guard h waiting program unfolded fixed inside ready lead joins grows gathers count fit = by (cases_lt 0 k)
   where
     sound : IsSoundGraph (graph_of p u)
-    sound = sounds p u program unfolded
+    sound = sounds p u program unfolded fixed
 
     lies : k < length (graph_of p u).nodes
     lies = omega (arith, inside, length-map u.nodes.items node_view)

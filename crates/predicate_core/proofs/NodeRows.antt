@@ -9,8 +9,8 @@ use Rattle.xdp_machine.specs.bpf_isa.Text.{insn_at}
 use Rattle.xdp_machine.specs.xdp_maps.declared.decl.MapDecl.{MapDecl}
 use Rattle.xdp_machine.specs.Program.{XdpProgram}
 use Rattle.kind_core.specs.declared.kind.Kind.{Kind}
-use Rattle.kind_core.specs.declared.number.Number.TheVariants.{Known, Unknown}
-use Rattle.kind_core.specs.declared.kind.Kind.TheVariants.{Unset, Num, Packet, End, Stack, Ctx, MapRef, Maybe, Entry, Stale, Mixed}
+use Rattle.kind_core.specs.declared.number.Number.TheVariants.{Known, Between}
+use Rattle.kind_core.specs.declared.kind.Kind.TheVariants.{Unset, Num, Packet, Var, End, Stack, Ctx, MapRef, Maybe, Entry, Stale, Mixed}
 use Rattle.kind_core.specs.declared.kind.Kinds.{Kinds}
 use Rattle.kind_core.specs.Edges.{transferred}
 use Rattle.unfold_core.specs.declared.unfolding.Unfolded.{Unfolded}
@@ -179,11 +179,12 @@ module _ (p : XdpProgram) (u : Unfolded) (k : ℕ) (i : Insn) (inside : k < leng
 
 -- ---- more pointers
 value_more : (row : ℕ → ℕ) (decls : List MapDecl) (n : ℕ) (ps qs : List PointerView) (x : Kind) (c : ℕ) → Extends ps qs → Counts decls n ps x c → value_row row qs x c ≡ value_row row ps x c
-value_more row decls n ps qs (Num Unknown) c e h = refl
+value_more row decls n ps qs (Num (Between lo hi)) c e h = refl
 value_more row decls n ps qs (Num (Known a)) c e h = refl
 value_more row decls n ps qs (Maybe q j) c e h = ap (λ (x : PointerView). greatest row (cells_of_pointer x)) (same_pointer ps qs c e h.0)
 value_more row decls n ps qs (Entry q o) c e h = ap (λ (x : PointerView). greatest row (cells_of_pointer x)) (same_pointer ps qs c e h.0)
 value_more row decls n ps qs (Packet o) c e h = refl
+value_more row decls n ps qs (Var b f) c e h = refl
 value_more row decls n ps qs End c e h = refl
 value_more row decls n ps qs (Stack o) c e h = refl
 value_more row decls n ps qs Ctx c e h = refl

@@ -4,6 +4,7 @@ use Rattle.std.specs.Prelude.{slice_index}
 use Rattle.std.proofs.lemmas.List.{length-map, get_or-map, get_or_default}
 use Rattle.operator_cells.specs.declared.held_cells.way.Way.{Way}
 use Rattle.edge_cells.specs.Joining.{LeadTo}
+use Rattle.kind_core.specs.declared.kind.Offsets.TheVariants.{Fixed}
 use Rattle.predicate_core.specs.Progress.{targets, AreNumbers}
 
 -- the first n of these edges
@@ -30,4 +31,4 @@ lead_at n ways numbers k here all at are = record {
 
 -- what stands for an edge past the last
 abbrev pub no_way : Way
-no_way = record { to = 0; bit = 0; kinds = record { registers = []; slots = []; checked = 0 }; held = record { registers = []; slots = []; window = []; target = 0 } }
+no_way = record { to = 0; bit = 0; kinds = record { registers = []; slots = []; checked = 0; offsets = Fixed }; held = record { registers = []; slots = []; window = []; target = 0 } }

@@ -14,6 +14,7 @@ use Rattle.kind_core.specs.declared.number.Number.TheVariants.{Known}
 use Rattle.kind_core.specs.declared.kind.Kind.{Kind}
 use Rattle.kind_core.specs.declared.kind.Kind.TheVariants.{Unset, Num, Stack, Ctx}
 use Rattle.kind_core.specs.declared.kind.Kinds.{Kinds}
+use Rattle.kind_core.specs.declared.kind.Offsets.TheVariants.{Fixed}
 use Rattle.kind_core.specs.Kinds as kinds
 use Rattle.kind_core.specs.Kinds.{value_bytes}
 use Rattle.kind_core.specs.Describes.{StartIsDescribed}
@@ -81,7 +82,7 @@ bytes_later a b n window g h = record { there = λ i l. omega (arith, h.there i 
 
 -- ---- the edge to the first node
 
-pub opened : (a b c d : List CellView) (bit target : ℕ) (k : Kinds) (held : RegisterCells) → k ≡ kinds.start → Makes a b bit (operated (Constant 1) [] 0 1) → Rises a b bit (λ row. 0) → AreBytes b c 256 held.window → Makes c d target (operated (Constant 0) [] 0 32) → Rises c d target (λ row. 0)
+pub opened : (a b c d : List CellView) (bit target : ℕ) (k : Kinds) (held : RegisterCells) → k ≡ kinds.start Fixed → Makes a b bit (operated (Constant 1) [] 0 1) → Rises a b bit (λ row. 0) → AreBytes b c 256 held.window → Makes c d target (operated (Constant 0) [] 0 32) → Rises c d target (λ row. 0)
     → held.target ≡ target → Opens a d (record { to = 0; bit = bit; kinds = k; held = held })
 opened a b c d bit target k held first one one_row bytes zeros zeros_row is = record {
   grows = grown one.grows (grown bytes.grows zeros.grows);
@@ -97,7 +98,7 @@ opened a b c d bit target k held first one one_row bytes zeros zeros_row is = re
 
 -- ---- what is known and held there
 
-start_register : (P : Kind → Type 0) → P Unset → P Ctx → P (Stack (pos 0)) → (r : ℕ) → P (get_or kinds.start.registers r Unset)
+start_register : (P : Kind → Type 0) → P Unset → P Ctx → P (Stack (pos 0)) → (r : ℕ) → P (get_or (kinds.start Fixed).registers r Unset)
 start_register P u c s zero = u
 start_register P u c s (suc zero) = c
 start_register P u c s (suc (suc zero)) = u
@@ -111,28 +112,30 @@ start_register P u c s (suc (suc (suc (suc (suc (suc (suc (suc (suc zero))))))))
 start_register P u c s (suc (suc (suc (suc (suc (suc (suc (suc (suc (suc zero)))))))))) = s
 start_register P u c s (suc (suc (suc (suc (suc (suc (suc (suc (suc (suc (suc r))))))))))) = u
 
-start_slot : (s : ℕ) → s < 64 → get_or kinds.start.slots s Unset ≡ Num (Known 0)
+start_slot : (s : ℕ) → s < 64 → get_or (kinds.start Fixed).slots s Unset ≡ Num (Known 0)
 start_slot s l = get_or-replicate 64 s (Num (Known 0)) Unset l
 
-inside_start : (decls : List MapDecl) (n : ℕ) (ps : List PointerView) (h : RegisterCells) → ((i : ℕ) → i < 256 → slice_index h.window i < n) → h.target < n → AreInside decls n ps h kinds.start
+inside_start : (decls : List MapDecl) (n : ℕ) (ps : List PointerView) (h : RegisterCells) → ((i : ℕ) → i < 256 → slice_index h.window i < n) → h.target < n → AreInside decls n ps h (kinds.start Fixed)
 inside_start decls n ps h window target = record {
   registers = λ r l. start_register (λ k. Counts decls n ps k (slice_index h.registers r)) tt tt tt r;
   slots = λ s l. subst (λ (k : Kind). Counts decls n ps k (slice_index h.slots s)) (sym (start_slot s l)) tt;
   window = window;
   target = target;
+  offsets = refl;
 }
 
 known_start : StartIsDescribed → StartsInRange → (g : GraphView) (packet : PacketIn) (maps : MapState) (v : ℕ → ℕ) (ps : List PointerView) (h : RegisterCells) → IsPacket packet → IsSound maps → maps.decls ≡ g.decls
     → ((q : ℕ) → value_bytes g.decls q ≤ 64) → ((i : ℕ) → i < 256 → v (slice_index h.window i) ≡ slice_index packet.frame i) → v h.target ≡ 0
-    → IsKnown g.decls packet v ps 0 kinds.start h (start packet maps)
+    → IsKnown g.decls packet v ps 0 (kinds.start Fixed) h (start packet maps)
 known_start described starts g packet maps v ps h came sound decls values window target = record {
   world = record { frame = length packet.frame; node = 0; gave = λ n. is.Unset };
   node_is = omega arith;
   stands = record {
-    described = described (λ n. is.Unset) (start packet maps) refl refl;
+    described = described Fixed (λ n. is.Unset) (start packet maps) refl refl;
     registers = refl;
     slots = refl;
     stack = refl;
+    range = starts packet maps came.bytes (omega (arith, came.short)) came.ifindex came.time sound;
     values = λ q. subst (λ (ds : List MapDecl). value_bytes ds q ≤ 64) (sym decls) (values q);
   };
   in_range = starts packet maps came.bytes (omega (arith, came.short)) came.ifindex came.time sound;

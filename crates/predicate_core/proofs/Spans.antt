@@ -1,8 +1,9 @@
 -- Which places an instruction writes, and in which rows its edges leave.
-use Rattle.std.proofs.Common.{◌≡◌, ℕ, ℤ, pos, negsuc, ◌+◌, ◌/◌, ◌%◌, ◌+ℤ◌, ◌≤◌, ◌==◌, nat_le, Bool, true, false, if◌then◌else◌, Option, Some, None, List, [], ◌∷◌, refl, ap, arith, subst}
+use Rattle.std.proofs.Common.{◌≡◌, ℕ, ℤ, pos, negsuc, ◌+◌, ◌/◌, ◌%◌, ◌+ℤ◌, ◌≤◌, ◌==◌, nat_le, Bool, true, false, if◌then◌else◌, Option, Some, None, List, [], ◌∷◌, refl, ap, ◌∙◌, arith, subst, unsigned_abs}
 use Rattle.std.specs.Prelude.{Result, Ok, Err}
 use Rattle.std.specs.List.{list_any}
 use Rattle.std.specs.Int.{w64, cast_unsigned}
+use Rattle.std.proofs.Math.IntN.{+ℤ_assoc}
 use Rattle.std.proofs.lemmas.Bool.{leb-true}
 use Rattle.xdp_machine.specs.bpf_isa.declared.operation.Op.{Op}
 use Rattle.xdp_machine.specs.bpf_isa.declared.operation.Op.TheVariants.{Alu, Neg, End, Swap, Ja, Jump, Call, Exit, LoadImm, Abs, Ind, Load, LoadSigned, StoreImm, Store, Atomic}
@@ -86,6 +87,12 @@ module _ (decls : List MapDecl) (checked place : ℕ) (far : first_pending ≤ p
       let x = bind_next (within (pos o +ℤ offset) (bytes_in size) 256) _ h in
       let y = within_is (pos o +ℤ offset) (bytes_in size) 256 x.0 x.1 in
       rw y.0 (not_beyond place (bytes_of x.0 (bytes_in size)) (omega (arith, far, y.1)))
+  region_inside (kind.Var b f) offset h =
+      let low = bind_next (within (pos b.bounds.low +ℤ (f +ℤ offset)) 0 256) _ h in
+      let x = bind_next (within (pos b.bounds.high +ℤ (f +ℤ offset)) (bytes_in size) 256) _ low.2 in
+      let y = within_is (pos b.bounds.high +ℤ (f +ℤ offset)) (bytes_in size) 256 x.0 x.1 in
+      let at : (pos b.bounds.high +ℤ f) +ℤ offset ≡ pos x.0 = +ℤ_assoc (pos b.bounds.high) f offset ∙ y.0 in
+      not_beyond place (region (kind.Var b f) offset (bytes_in size)) (omega (arith, far, y.1, ap unsigned_abs at))
   region_inside (kind.Stack o) offset h =
       let x = bind_next (aligned (o +ℤ offset +ℤ pos 512) (bytes_in size) 512) _ h in
       let w = bind_passed (within (o +ℤ offset +ℤ pos 512) (bytes_in size) 512) (λ a. if a % bytes_in size == 0 then Ok a else Err Why.Misaligned) x.0 x.1 in

@@ -3,6 +3,7 @@ use Rattle.std.specs.Prelude.{ℕ, ◌≡◌, ◌+◌, ◌<◌, Option, List, []
 use Rattle.xdp_machine.specs.bpf_isa.declared.instruction.Insn.{Insn}
 use Rattle.xdp_machine.specs.Program.{XdpProgram, IsProgram}
 use Rattle.unfold_core.specs.declared.unfolding.Unfolded.{Unfolded}
+use Rattle.kind_core.specs.declared.kind.Offsets.TheVariants.{Fixed}
 use Rattle.unfold_core.specs.Unfolding.{IsUnfolded}
 use Rattle.cell_core.specs.Cells.{CellView}
 use Rattle.operator_cells.specs.Making.{seen, Grows}
@@ -30,7 +31,7 @@ use Rattle.predicate_core.specs.Stages.{kinds_of, FitSoFar, ComesWithin}
 abbrev pub ArrivalsFit : Type 0
 ArrivalsFit =
     (p : XdpProgram) (u : Unfolded) (k : ℕ) (t : Progress) (cells cells2 : List CellView) (ps : List PointerView) (meeting : List Way) (guard : ℕ) (h : RegisterCells) (pending : List ℕ)
-    → IsProgram p → IsUnfolded p u → k < length u.nodes.items → IsReady (graph_of p u) k t → LeadTo k t.made.ways.items meeting
+    → IsProgram p → IsUnfolded p u → u.offsets ≡ Fixed → k < length u.nodes.items → IsReady (graph_of p u) k t → LeadTo k t.made.ways.items meeting
     → JoinsTo (seen t.made.cells.items) cells (pointed t.made.pointers.items) ps meeting (kinds_of u k) guard h → Grows cells cells2
     → GathersTo cells cells2 t.made.ways.items (pending_of t) (get_or (entries_of t) k []) (length p.decls) pending → length pending ≡ length p.decls
     → (fit : FitSoFar p u k t) → ComesWithin p u fit.named k (seen t.made.cells.items) cells2 ps guard h pending

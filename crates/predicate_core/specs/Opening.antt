@@ -1,6 +1,7 @@
 -- The cells of what a machine holds at the start.
 use Rattle.std.specs.Prelude.{ℕ, ◌≡◌, ◌<◌, ◌≤◌, List, [], ◌∷◌, length, slice_index, All}
 use Rattle.xdp_machine.specs.State.{PacketIn}
+use Rattle.kind_core.specs.declared.kind.Offsets.TheVariants.{Fixed}
 use Rattle.kind_core.specs.Kinds as kinds
 use Rattle.kind_core.specs.Kinds.{value_bytes}
 use Rattle.cell_core.specs.Cells.{CellView, IsRun}
@@ -25,7 +26,7 @@ pub record Opens (old new : List CellView) (e : Way) : Type 0 where
   pub grows : Grows old new
   pub no_row : AddsNoRow old new
   pub to_first : e.to ≡ 0
-  pub kinds_are : e.kinds ≡ kinds.start
+  pub kinds_are : e.kinds ≡ kinds.start Fixed
   pub bit_there : e.bit < length new
   pub bit : (packet : PacketIn) (v : ℕ → ℕ) → IsRun packet new v → v e.bit ≡ 1
   pub bytes : HaveBytes new 256 e.held.window

@@ -49,7 +49,7 @@ fn low_word(cells: &mut Vec<Cell>, number: Number, held: u32) -> Result<u32, All
             let c = constant(cells, n, 32)?;
             Ok(c)
         }
-        Number::Unknown => {
+        Number::Between(_, _) => {
             let c = slice(cells, held, 0, 32)?;
             Ok(c)
         }

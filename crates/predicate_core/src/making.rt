@@ -13,6 +13,7 @@ ghost use Rattle.edge_cells.specs.Joining.{LeadTo};
 ghost use Rattle.edge_cells.specs.NodeCells.Ends.{IsNode, HasEnds};
 ghost use Rattle.site_cells.specs.Sited.{sited};
 ghost use Rattle.predicate_core.specs.StepCells.Stepping.{made_of};
+ghost use Rattle.kind_core.specs.declared.kind.Offsets.TheVariants.{Fixed};
 ghost use Rattle.unfold_core.specs.Unfolding.{IsUnfolded};
 ghost use Rattle.predicate_core.specs.ProgramGraph.Graphs.{graph_of};
 ghost use Rattle.predicate_core.specs.Gathering.{arms_of, GathersTo, PassesTo};
@@ -186,6 +187,7 @@ fn arrive_at(
     node: u32,
 ) -> Result<Arrived, AllocError>
     requires unfolded { IsUnfolded program.now unfolded.now }
+    requires fixed { unfolded.now.offsets ≡ Fixed }
     requires node { node < length unfolded.now.nodes.items }
     requires ready { IsReady (graph_of program.now unfolded.now) node progress.old }
     ensures comes { IfOk result (λ arrived. Comes (graph_of program.now unfolded.now) node progress.old progress.new arrived.here arrived.pending.items) }
@@ -223,6 +225,7 @@ pub fn make_node(
     node: u32,
 ) -> Result<(), AllocError>
     requires unfolded { IsUnfolded program.now unfolded.now }
+    requires fixed { unfolded.now.offsets ≡ Fixed }
     requires node { node < length unfolded.now.nodes.items }
     requires insn { IsNode (graph_of program.now unfolded.now) node insn.now (node_at (graph_of program.now unfolded.now).nodes node).kinds }
     requires ends { HasEnds (graph_of program.now unfolded.now) node insn.now ends.next ends.jump }

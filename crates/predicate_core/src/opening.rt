@@ -6,7 +6,7 @@ ghost use Rattle.predicate_core.specs.Opening.{AreBytes, Opens};
 
 use cell_core::cell::Cell;
 use cell_core::operator::Operator;
-use kind_core::Kinds;
+use kind_core::{Kinds, Offsets};
 use operator_cells::cells::{constant, operate};
 use operator_cells::held_cells::machine_cells::RegisterCells;
 use operator_cells::held_cells::way::Way;
@@ -40,7 +40,7 @@ pub fn open(cells: &mut Vec<Cell>) -> Result<Way, AllocError>
     Ok(Way {
         to: 0,
         bit,
-        kinds: Kinds::start(),
+        kinds: Kinds::start(Offsets::Fixed),
         held,
     })
 }

@@ -4,6 +4,7 @@ ghost use Rattle.std.specs.Prelude.{ℕ, ◌≡◌, ◌<◌, ◌≤◌, true, is
 ghost use Rattle.cell_core.specs.View.{program_of};
 ghost use Rattle.operator_cells.specs.Making.{seen, Grows};
 ghost use Rattle.operator_cells.specs.HeldCells.Law.{IsLaw};
+ghost use Rattle.kind_core.specs.declared.kind.Offsets.TheVariants.{Fixed};
 ghost use Rattle.unfold_core.specs.Unfolding.{IsUnfolded};
 ghost use Rattle.predicate_core.specs.StepCells.Stepping.{made_of};
 ghost use Rattle.predicate_core.specs.ProgramGraph.Graphs.{graph_of};
@@ -79,7 +80,8 @@ fn first_entries(alloc: Global, nodes: usize) -> Result<Vec<Numbers>, AllocError
 
 // The edge to the first node, and nothing more.
 fn begin(alloc: Global, program: &Program, unfolded: &Unfolded) -> Result<Progress, AllocError>
-    requires { IsUnfolded program.now unfolded.now }
+    requires unfolded { IsUnfolded program.now unfolded.now }
+    requires fixed { unfolded.now.offsets ≡ Fixed }
     ensures ready { IfOk result (λ progress. IsReady (graph_of program.now unfolded.now) 0 progress) }
     ensures rows { IfOk result (λ progress. FitSoFar program.now unfolded.now 0 progress) }
     ensures points { IfOk result (λ progress. PointSoFar program.now.decls 0 (made_of progress.made)) }
@@ -121,6 +123,7 @@ fn make_nodes(
     progress: &mut Progress,
 ) -> Result<(), AllocError>
     requires unfolded { IsUnfolded program.now unfolded.now }
+    requires fixed { unfolded.now.offsets ≡ Fixed }
     requires ready { IsReady (graph_of program.now unfolded.now) 0 progress.old }
     requires fits { FitSoFar program.now unfolded.now 0 progress.old }
     requires points { PointSoFar program.now.decls 0 (made_of progress.old.made) }
@@ -149,7 +152,8 @@ pub fn to_cells(
     program: &Program,
     unfolded: &Unfolded,
 ) -> Result<CellProgram, AllocError>
-    requires { IsUnfolded program.now unfolded.now }
+    requires unfolded { IsUnfolded program.now unfolded.now }
+    requires fixed { unfolded.now.offsets ≡ Fixed }
     ensures law { IfOk result (λ cells. IsLaw (graph_of program.now unfolded.now) (program_of cells)) }
     ensures buildable { IfOk result (λ cells. IsBuildable (program_of cells)) }
     ensures stages { IfOk result (λ cells. FitStages program.now unfolded.now (program_of cells)) }

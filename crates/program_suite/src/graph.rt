@@ -2,6 +2,7 @@
 
 use crate::cases::refusal::push_refusal;
 use anyhow::Result;
+use kind_core::Offsets;
 use std::alloc::{AllocError, Global};
 use std::fmt::Write;
 use unfold_core::{Edge, Node, Unfolded, unfold};
@@ -14,7 +15,7 @@ pub(crate) fn answer(
     counted: bool,
     out: &mut String,
 ) -> Result<()> {
-    match unfold(alloc, program) {
+    match unfold(alloc, program, Offsets::Fixed) {
         Ok(graph) if counted => {
             let (nodes, edges) = (graph.nodes.len(), graph.edges.len());
             Ok(write!(out, "{nodes} nodes, {edges} edges")?)

@@ -5,6 +5,7 @@ ghost use Rattle.unfold_core.specs.Unfolding.{IsUnfolded};
 use crate::cases::refusal::push_refusal;
 use crate::cases::tables::push_maps;
 use anyhow::{Context, Result};
+use kind_core::Offsets;
 use row_plan::cell_core::program::PacketIn;
 use row_plan::cell_core::xdp_state::beat_core::{Frame, Meta};
 use row_plan::cell_core::xdp_state::xdp_maps::state::Maps;
@@ -23,7 +24,7 @@ pub(crate) fn answer(
     packets: &[PacketIn],
     out: &mut String,
 ) -> Result<()> {
-    match unfold(alloc, program) {
+    match unfold(alloc, program, Offsets::Fixed) {
         Ok(graph) => push_stages(alloc, program, &graph, out)?,
         Err(e) => return push_refusal(out, e),
     }

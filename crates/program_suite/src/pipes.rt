@@ -14,7 +14,7 @@ use crate::packets::{push_runs, push_stages};
 use crate::pipes::drive::{Given, drive};
 use crate::pipes::ways::{WAYS, Way};
 use anyhow::{Result, ensure};
-use kind_core::BuildError;
+use kind_core::{BuildError, Offsets};
 use pipe_core::bound::clock_bound;
 use predicate_core::program::to_cells;
 use row_plan::cell_core::program::{CellProgram, PacketIn};
@@ -34,7 +34,7 @@ pub(crate) fn answer(
     most: Option<u64>,
     out: &mut String,
 ) -> Result<()> {
-    let graph = match unfold(alloc, program) {
+    let graph = match unfold(alloc, program, Offsets::Fixed) {
         Ok(graph) => graph,
         Err(e) => return push_refusal(out, e),
     };

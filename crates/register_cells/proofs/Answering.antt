@@ -17,7 +17,7 @@ use Rattle.cell_core.specs.xdp_machine.Step.{effect}
 use Rattle.kind_core.proofs.xdp_machine_laws.CallLaws.{helper_called}
 use Rattle.kind_core.specs.declared.kind.Kind.{Kind}
 use Rattle.kind_core.specs.declared.kind.Kind.TheVariants.{Unset, Num}
-use Rattle.kind_core.specs.declared.number.Number.TheVariants.{Unknown}
+use Rattle.kind_core.specs.NumberBounds.{any_number}
 use Rattle.kind_core.specs.declared.kind.Kinds.{Kinds}
 use Rattle.kind_core.specs.Kinds.{answering}
 use Rattle.kind_core.specs.declared.number.Number.{Number}
@@ -58,7 +58,7 @@ answered_each P ks hs xs n c k y some one none all (suc (suc (suc (suc (suc (suc
     rw (get_or-drop 6 ks r Unset ∙ ap (λ (j : ℕ). get_or ks j Unset) e, h, get_or-drop 6 xs r is.Unset ∙ ap (λ (j : ℕ). get_or xs j is.Unset) e) (all (suc (suc (suc (suc (suc (suc r)))))) l)
 
 pub answer_carried : (decls : List MapDecl) (ps : List PointerView) (i : Insn) (node : ℕ) (is_ref : Bool) (k : Kinds) (h : RegisterCells) (old new : List CellView) (c t : ℕ) → Grows old new → c < length new → t < length new → length h.registers ≡ 11
-    → AreInside decls (length old) ps h k → transferred decls k i node is_ref false ≡ answering (Num Unknown) k
+    → AreInside decls (length old) ps h k → transferred decls k i node is_ref false ≡ answering (Num (any_number 64)) k
     → ((packet : PacketIn) (v : ℕ → ℕ) (m n : Machine) (refs : List ℕ) → IsRun packet new v → IsKnown decls packet v ps node k h m → effect refs m i i.op ≡ Some n
     → (y tg : ℕ) × (n ≡ helpers.answering (is.Number y) (record m { target = tg })) × (y ≡ v c) × (tg ≡ v t))
     → Carries decls ps i node is_ref false k h (record h { registers = slice_set h.registers 0 c; target = t }) old new
@@ -66,15 +66,16 @@ answer_carried decls ps i node is_ref k h old new c t grows there target hs insi
     let all = inside_more decls (length old) (length new) ps h k grows.longer inside in record {
       grows = grows;
       inside = rw after (record {
-        registers = λ r l. answered_each (λ a b y. Counts decls (length new) ps a b) k.registers h.registers [] 11 c (Num Unknown) is.Unset (omega (arith, hs)) there (λ a x. tt) (λ q s. all.registers q (omega (arith, s))) r (omega (arith, l));
+        registers = λ r l. answered_each (λ a b y. Counts decls (length new) ps a b) k.registers h.registers [] 11 c (Num (any_number 64)) is.Unset (omega (arith, hs)) there (λ a x. tt) (λ q s. all.registers q (omega (arith, s))) r (omega (arith, l));
         slots = all.slots;
         window = all.window;
         target = target;
+        offsets = all.offsets;
       });
       holds = λ packet v m n refs run known at e.
           let w = made packet v m n refs run known e in
           rw (after, w.2) (record {
-            registers = λ r l. answered_each (Holds decls v ps) k.registers h.registers m.registers 11 c (Num Unknown) (is.Number w.0) (omega (arith, hs)) (ap is.Number w.3) (λ a x. tt)
+            registers = λ r l. answered_each (Holds decls v ps) k.registers h.registers m.registers 11 c (Num (any_number 64)) (is.Number w.0) (omega (arith, hs)) (ap is.Number w.3) (λ a x. tt)
                 (λ q s. known.held.registers q (omega (arith, s))) r (omega (arith, l));
             slots = known.held.slots;
             length_is = known.held.length_is;
@@ -87,15 +88,15 @@ answer_carried decls ps i node is_ref k h old new c t grows there target hs insi
     }
 
 -- the kinds after a helper that gives a number and changes no map
-pub answer_is : (decls : List MapDecl) (k : Kinds) (i : Insn) (node : ℕ) (is_ref : Bool) (helper : Option Helper) → i.op ≡ Call → helper_of i.imm ≡ helper → ((e : _) → called decls k i.imm helper ≡ Ok e → changed_if node is_ref false k (Ok e) ≡ answering (Num Unknown) k) → verdict (effect_of decls k i) ≡ passed
-    → transferred decls k i node is_ref false ≡ answering (Num Unknown) k
+pub answer_is : (decls : List MapDecl) (k : Kinds) (i : Insn) (node : ℕ) (is_ref : Bool) (helper : Option Helper) → i.op ≡ Call → helper_of i.imm ≡ helper → ((e : _) → called decls k i.imm helper ≡ Ok e → changed_if node is_ref false k (Ok e) ≡ answering (Num (any_number 64)) k) → verdict (effect_of decls k i) ≡ passed
+    → transferred decls k i node is_ref false ≡ answering (Num (any_number 64)) k
 unfolding effect_of
 answer_is decls k i node is_ref helper op same plain allowed =
     let e = passed_ok (effect_of decls k i) allowed in
     let b = bind_passed (profile.profiled i k) (λ u. effect_as decls k i i.op) e.0 e.1 in
     ap (changed_if node is_ref false k) e.1 ∙ plain e.0 (sym (ap (effect_as decls k i) op ∙ ap (called decls k i.imm) same) ∙ b.2)
 
-pub time_answers : (decls : List MapDecl) (k : Kinds) (i : Insn) (node : ℕ) (is_ref : Bool) → i.op ≡ Call → helper_of i.imm ≡ Some Time → verdict (effect_of decls k i) ≡ passed → transferred decls k i node is_ref false ≡ answering (Num Unknown) k
+pub time_answers : (decls : List MapDecl) (k : Kinds) (i : Insn) (node : ℕ) (is_ref : Bool) → i.op ≡ Call → helper_of i.imm ≡ Some Time → verdict (effect_of decls k i) ≡ passed → transferred decls k i node is_ref false ≡ answering (Num (any_number 64)) k
 time_answers decls k i node is_ref op same allowed = answer_is decls k i node is_ref (Some Time) op same (λ e h. sym (ap (changed_if node is_ref false k) h)) allowed
 
 -- a helper that asks no map is one of these two
@@ -123,7 +124,7 @@ plain_is (Num n) u e = (n, refl)
 plain_is x u e = absurd cc
 
 redirect_fits : (decls : List MapDecl) (k : Kinds) (id : ℤ) (node : ℕ) (is_ref : Bool) (e : _) → called decls k id (Some Redirect) ≡ Ok e
-    → (changed_if node is_ref false k (Ok e) ≡ answering (Num Unknown) k) × (a : Number) × (kinds.register k 1 ≡ Num a) × (b : Number) × (kinds.register k 2 ≡ Num b)
+    → (changed_if node is_ref false k (Ok e) ≡ answering (Num (any_number 64)) k) × (a : Number) × (kinds.register k 1 ≡ Num a) × (b : Number) × (kinds.register k 2 ≡ Num b)
 redirect_fits decls k id node is_ref e h =
     let one = bind_passed (calls.plain (kinds.register k 1)) _ e h in
     let two = bind_passed (calls.plain (kinds.register k 2)) _ e one.2 in
@@ -132,7 +133,7 @@ redirect_fits decls k id node is_ref e h =
     (sym (ap (changed_if node is_ref false k) two.2), a.0, a.1, b.0, b.1)
 
 pub redirect_answers : (decls : List MapDecl) (k : Kinds) (i : Insn) (node : ℕ) (is_ref : Bool) → i.op ≡ Call → helper_of i.imm ≡ Some Redirect → verdict (effect_of decls k i) ≡ passed
-    → (transferred decls k i node is_ref false ≡ answering (Num Unknown) k) × (a : Number) × (kinds.register k 1 ≡ Num a) × (b : Number) × (kinds.register k 2 ≡ Num b)
+    → (transferred decls k i node is_ref false ≡ answering (Num (any_number 64)) k) × (a : Number) × (kinds.register k 1 ≡ Num a) × (b : Number) × (kinds.register k 2 ≡ Num b)
 unfolding effect_of
 redirect_answers decls k i node is_ref op same allowed =
     let e = passed_ok (effect_of decls k i) allowed in

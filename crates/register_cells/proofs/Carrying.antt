@@ -1,6 +1,8 @@
 -- A destination that is given a value carries what cells hold after the instruction.
 use Rattle.std.proofs.Common.{IfOk, ◌≡◌, ◌≢◌, ℕ, ◌<◌, ◌≤◌, ◌==◌, if◌then◌else◌, Bool, true, false, Option, Some, None, Result, Ok, Err, List, [], length, get_or, set as set_list, slice_index, slice_set, refl, sym, ◌∙◌, ap, subst, arith}
 use Rattle.std.proofs.lemmas.List.{get_or-set_same, get_or-set_other}
+use Rattle.cell_core.specs.bpf_isa.declared.operation.Width.{Width}
+use Rattle.cell_core.specs.bpf_isa.declared.operation.AluCode.{AluCode}
 use Rattle.cell_core.specs.bpf_isa.declared.operation.Op.{Op}
 use Rattle.cell_core.specs.bpf_isa.declared.operation.Op.TheVariants.{Alu, Neg, End, Swap, LoadImm, Load, LoadSigned}
 use Rattle.cell_core.specs.bpf_isa.declared.instruction.Insn.{Insn}
@@ -11,9 +13,12 @@ use Rattle.cell_core.specs.xdp_machine.State.{Machine, PacketIn, put, with_regis
 use Rattle.cell_core.specs.xdp_machine.Step.{effect}
 use Rattle.kind_core.specs.declared.kind.Kind.{Kind}
 use Rattle.xdp_state.specs.declared.refusal.Why.{Why}
-use Rattle.kind_core.specs.declared.kind.Kind.TheVariants.{Unset, Num, Maybe, Entry}
-use Rattle.kind_core.specs.declared.number.Number.TheVariants.{Known, Unknown}
+use Rattle.kind_core.specs.declared.kind.Kind.TheVariants.{Unset, Num, Var, Maybe, Entry}
+use Rattle.kind_core.specs.declared.number.Number.TheVariants.{Known, Between}
 use Rattle.kind_core.specs.declared.kind.Kinds.{Kinds}
+use Rattle.kind_core.specs.declared.kind.Offsets.{Offsets}
+use Rattle.kind_core.specs.declared.kind.Offsets.TheVariants.{Fixed, Varying}
+use Rattle.kind_core.specs.Kinds as kinds
 use Rattle.kind_core.specs.Kinds.{with_register, with_slot}
 use Rattle.kind_core.specs.Profile.{writes_destination}
 use Rattle.kind_core.specs.Profile as profile
@@ -30,10 +35,11 @@ use Rattle.kind_core.proofs.TestLaws.{bind_passed}
 use Rattle.operator_cells.proofs.HeldCells.PointerLaws.{pointer_later}
 
 pub counts_more : (decls : List MapDecl) (n m : ℕ) (ps : List PointerView) (x : Kind) (c : ℕ) → n ≤ m → Counts decls n ps x c → Counts decls m ps x c
-counts_more decls n m ps (Num Unknown) c l h = omega (arith, l, h)
+counts_more decls n m ps (Num (Between lo hi)) c l h = omega (arith, l, h)
 counts_more decls n m ps (Num (Known a)) c l h = tt
 counts_more decls n m ps (Maybe q j) c l h = (h.0, pointer_later decls n m q _ l h.1)
 counts_more decls n m ps (Entry q o) c l h = (h.0, pointer_later decls n m q _ l h.1)
+counts_more decls n m ps (Var b f) c l h = h
 counts_more decls n m ps x c l h = tt
 
 pub inside_more : (decls : List MapDecl) (n m : ℕ) (ps : List PointerView) (h : RegisterCells) (k : Kinds) → n ≤ m → AreInside decls n ps h k → AreInside decls m ps h k
@@ -42,6 +48,7 @@ inside_more decls n m ps h k l i = record {
   slots = λ r s. counts_more decls n m ps _ _ l (i.slots r s);
   window = λ j s. omega (arith, l, i.window j s);
   target = omega (arith, l, i.target);
+  offsets = i.offsets;
 }
 
 -- what holds of each place of lists holds of each where one place of all is set
@@ -100,24 +107,31 @@ pub passed_ok : (r : _) → verdict r ≡ passed → (e : _) × (r ≡ Ok e)
 passed_ok (Ok e) h = (e, refl)
 passed_ok (Err w) h = cc
 
-assigned_kind : (is_ref : Bool) (decls : List MapDecl) (k : Kinds) (i : Insn) (op : Op) (node : ℕ) (e : _) → writes_destination op ≡ true → effect_as decls k i op ≡ Ok e
-    → (x : Kind) × (given_kind is_ref decls k i op ≡ Ok x) × (changed_if node is_ref false k (Ok e) ≡ with_register k i.dst x)
-assigned_kind is_ref decls k i (Alu w c s) node e t h = let b = bind_passed (effects.alu decls k i (Alu w c s)) _ e h in (b.0, b.1, sym (ap (changed_if node is_ref false k) b.2))
-assigned_kind is_ref decls k i (Neg w) node e t h = let b = bind_passed (effects.alu decls k i (Neg w)) _ e h in (b.0, b.1, sym (ap (changed_if node is_ref false k) b.2))
-assigned_kind is_ref decls k i (End s) node e t h = let b = bind_passed (effects.alu decls k i (End s)) _ e h in (b.0, b.1, sym (ap (changed_if node is_ref false k) b.2))
-assigned_kind is_ref decls k i Swap node e t h = let b = bind_passed (effects.alu decls k i Swap) _ e h in (b.0, b.1, sym (ap (changed_if node is_ref false k) b.2))
-assigned_kind is_ref decls k i LoadImm node e t h = (_, refl, sym (ap (changed_if node is_ref false k) h))
-assigned_kind is_ref decls k i (Load size) node e t h = let b = bind_passed (given_kind is_ref decls k i (Load size)) _ e h in (b.0, b.1, sym (ap (changed_if node is_ref false k) b.2))
-assigned_kind is_ref decls k i (LoadSigned size) node e t h = let b = bind_passed (given_kind is_ref decls k i (LoadSigned size)) _ e h in (b.0, b.1, sym (ap (changed_if node is_ref false k) b.2))
-assigned_kind is_ref decls k i op node e t h = absurd (cc)
+-- where offsets do not vary a sum gives no base
+based_none : (o : Offsets) (w : Width) (c : AluCode) (a b : Kind) → o ≡ Fixed → effects.based o w c a b ≡ None
+based_none Fixed w c a b e = refl
+based_none Varying w c a b e = absurd (cc)
 
-pub kind_is : (is_ref : Bool) (decls : List MapDecl) (k : Kinds) (i : Insn) (node : ℕ) → writes_destination i.op ≡ true → verdict (effect_of decls k i) ≡ passed
+assigned_kind : (is_ref : Bool) (decls : List MapDecl) (k : Kinds) (i : Insn) (op : Op) (node : ℕ) (e : _) → k.offsets ≡ Fixed → writes_destination op ≡ true → effect_as decls k i op ≡ Ok e
+    → (x : Kind) × (given_kind is_ref decls k i op ≡ Ok x) × (changed_if node is_ref false k (Ok e) ≡ with_register k i.dst x)
+assigned_kind is_ref decls k i (Alu w c s) node e fixed t h =
+    let plain = rw (based_none k.offsets w c (kinds.register k i.dst) (effects.operand k i s) fixed) at h in
+    let b = bind_passed (effects.alu decls k i (Alu w c s)) _ e plain in (b.0, b.1, sym (ap (changed_if node is_ref false k) b.2))
+assigned_kind is_ref decls k i (Neg w) node e fixed t h = let b = bind_passed (effects.alu decls k i (Neg w)) _ e h in (b.0, b.1, sym (ap (changed_if node is_ref false k) b.2))
+assigned_kind is_ref decls k i (End s) node e fixed t h = let b = bind_passed (effects.alu decls k i (End s)) _ e h in (b.0, b.1, sym (ap (changed_if node is_ref false k) b.2))
+assigned_kind is_ref decls k i Swap node e fixed t h = let b = bind_passed (effects.alu decls k i Swap) _ e h in (b.0, b.1, sym (ap (changed_if node is_ref false k) b.2))
+assigned_kind is_ref decls k i LoadImm node e fixed t h = (_, refl, sym (ap (changed_if node is_ref false k) h))
+assigned_kind is_ref decls k i (Load size) node e fixed t h = let b = bind_passed (given_kind is_ref decls k i (Load size)) _ e h in (b.0, b.1, sym (ap (changed_if node is_ref false k) b.2))
+assigned_kind is_ref decls k i (LoadSigned size) node e fixed t h = let b = bind_passed (given_kind is_ref decls k i (LoadSigned size)) _ e h in (b.0, b.1, sym (ap (changed_if node is_ref false k) b.2))
+assigned_kind is_ref decls k i op node e fixed t h = absurd (cc)
+
+pub kind_is : (is_ref : Bool) (decls : List MapDecl) (k : Kinds) (i : Insn) (node : ℕ) → k.offsets ≡ Fixed → writes_destination i.op ≡ true → verdict (effect_of decls k i) ≡ passed
     → (x : Kind) × (given_kind is_ref decls k i i.op ≡ Ok x) × (transferred decls k i node is_ref false ≡ with_register k i.dst x)
 unfolding effect_of
-kind_is is_ref decls k i node t h =
+kind_is is_ref decls k i node fixed t h =
     let e = passed_ok (effect_of decls k i) h in
     let b = bind_passed (profile.profiled i k) (λ u. effect_as decls k i i.op) e.0 e.1 in
-    let a = assigned_kind is_ref decls k i i.op node e.0 t b.2 in
+    let a = assigned_kind is_ref decls k i i.op node e.0 fixed t b.2 in
     (a.0, a.1, ap (changed_if node is_ref false k) e.1 ∙ a.2)
 
 -- cells of the values with one register changed
@@ -128,6 +142,7 @@ register_inside decls n m ps h k r c x l dst ks hs inside counts = let all = ins
   slots = all.slots;
   window = all.window;
   target = all.target;
+  offsets = all.offsets;
 }
 
 pub register_held : (decls : List MapDecl) (packet : PacketIn) (v : ℕ → ℕ) (ps : List PointerView) (h : RegisterCells) (k : Kinds) (m : Machine) (r c : ℕ) (x : Kind) (y : Value) → r ≤ 10
@@ -153,6 +168,7 @@ slot_inside decls n m ps h k s c x l below ks hs inside counts = let all = insid
   slots = λ j t. set_two (Counts decls m ps) k.slots h.slots Unset s 64 x c (omega (arith, below, ks)) (omega (arith, below, hs)) counts (λ q u. all.slots q u) j t;
   window = all.window;
   target = all.target;
+  offsets = all.offsets;
 }
 
 pub slot_held : (decls : List MapDecl) (packet : PacketIn) (v : ℕ → ℕ) (ps : List PointerView) (h : RegisterCells) (k : Kinds) (m : Machine) (s c : ℕ) (x : Kind) (y : Value) → s < 64
@@ -189,6 +205,6 @@ pub carried_by : (decls : List MapDecl) (ps : List PointerView) (i : Insn) (node
     → ((refs : List ℕ) → IfOk (given_kind is_ref decls k i i.op) (λ x. Gives decls ps node k h old new x c (λ m. given refs m i i.op)))
     → Carries decls ps i node is_ref false k h (record h { registers = slice_set h.registers i.dst c }) old new
 carried_by decls ps i node is_ref k h old new c writes dst ks hs inside allowed gives =
-    let x = kind_is is_ref decls k i node writes allowed in
+    let x = kind_is is_ref decls k i node inside.offsets writes allowed in
     carried decls ps i node is_ref k h old new c x.0 writes dst ks hs inside x.2
     (λ refs. subst (λ (r : Result Kind Why). IfOk r (λ y. Gives decls ps node k h old new y c (λ m. given refs m i i.op))) x.1 (gives refs))

@@ -8,7 +8,7 @@ use Rattle.cell_core.specs.bpf_isa.declared.helper.Helper.{Helper}
 use Rattle.cell_core.specs.bpf_isa.declared.helper.Helper.TheVariants.{Time, Redirect}
 use Rattle.cell_core.specs.bpf_isa.Helpers.{helper_of}
 use Rattle.cell_core.specs.xdp_maps.declared.decl.MapDecl.{MapDecl}
-use Rattle.kind_core.specs.declared.number.Number.TheVariants.{Unknown}
+use Rattle.kind_core.specs.NumberBounds.{any_number}
 use Rattle.kind_core.specs.declared.kind.Kind.TheVariants.{Unset, Num}
 use Rattle.kind_core.specs.declared.kind.Kinds.{Kinds}
 use Rattle.kind_core.specs.Kinds.{register, answering}
@@ -41,7 +41,7 @@ answered h c t = record h { registers = slice_set h.registers 0 c; target = t }
 
 -- R1 to R5 hold nothing, and later registers what they held
 registers_kept : (row : ℕ → ℕ) (ps : List PointerView) (k : Kinds) (hs : List ℕ) (c r : ℕ) → r ≢ 0
-    → value_row row ps (get_or (Num Unknown ∷ Unset ∷ Unset ∷ Unset ∷ Unset ∷ Unset ∷ drop 6 k.registers) r Unset) (slice_index (set_list hs 0 c) r) ≤ value_row row ps (get_or k.registers r Unset) (slice_index hs r)
+    → value_row row ps (get_or (Num (any_number 64) ∷ Unset ∷ Unset ∷ Unset ∷ Unset ∷ Unset ∷ drop 6 k.registers) r Unset) (slice_index (set_list hs 0 c) r) ≤ value_row row ps (get_or k.registers r Unset) (slice_index hs r)
 registers_kept row ps k hs c zero other = absurd (other refl)
 registers_kept row ps k hs c (suc zero) other = zero_most
 registers_kept row ps k hs c (suc (suc zero)) other = zero_most
@@ -53,13 +53,13 @@ registers_kept row ps k hs c (suc (suc (suc (suc (suc (suc r)))))) other =
     rw (get_or-drop 6 k.registers r Unset ∙ ap (λ (j : ℕ). get_or k.registers j Unset) e, get_or-set_other hs 0 (suc (suc (suc (suc (suc (suc r)))))) c 0 other) same_most
 
 module _ (ps : List PointerView) (k : Kinds) (h : RegisterCells) (c t : ℕ) where
-  answer_row : (row : ℕ → ℕ) → 0 < length h.registers → held_row row ps (answered h c t) (answering (Num Unknown) k) 0 ≡ row c
-  answer_row row some = register_row row ps (answered h c t) (answering (Num Unknown) k) 0 (omega arith) ∙ ap (value_row row ps (Num Unknown)) (get_or-set_same h.registers 0 c 0 some) ∙ omega arith
+  answer_row : (row : ℕ → ℕ) → 0 < length h.registers → held_row row ps (answered h c t) (answering (Num (any_number 64)) k) 0 ≡ row c
+  answer_row row some = register_row row ps (answered h c t) (answering (Num (any_number 64)) k) 0 (omega arith) ∙ ap (value_row row ps (Num (any_number 64))) (get_or-set_same h.registers 0 c 0 some) ∙ omega arith
 
-  places_kept : (row : ℕ → ℕ) (place : ℕ) → place ≢ 0 → (place ≡ target_number → t ≡ h.target) → held_row row ps (answered h c t) (answering (Num Unknown) k) place ≤ held_row row ps h k place
+  places_kept : (row : ℕ → ℕ) (place : ℕ) → place ≢ 0 → (place ≡ target_number → t ≡ h.target) → held_row row ps (answered h c t) (answering (Num (any_number 64)) k) place ≤ held_row row ps h k place
   places_kept row place first last = by (location_at place) refl
     where
-      by : (l : Location) → location_at place ≡ l → located_row row ps (answered h c t) (answering (Num Unknown) k) l ≤ located_row row ps h k l
+      by : (l : Location) → location_at place ≡ l → located_row row ps (answered h c t) (answering (Num (any_number 64)) k) l ≤ located_row row ps h k l
       by (location.Register r) e = registers_kept row ps k h.registers c r (λ same. first (numbered_as place (location.Register r) e ∙ same))
       by (location.StackSlot s) e = same_most
       by (location.PacketByte i) e = same_most
@@ -101,7 +101,7 @@ in_second place s h = by (is_in place (one 0)) (is_in place s) h
 
 leaves_answer : {old new : List CellView} {made result : (ℕ → ℕ) → ℕ} (ps : List PointerView) (k : Kinds) (h : RegisterCells) (c t : ℕ) (s : Span) → 0 < length h.registers → Second t h s
     → GrowsTo old new made → ((row : ℕ → ℕ) → AreRows new row → row c ≤ result row) → ((row : ℕ → ℕ) → AreRows new row → s ≡ target → row t ≤ result row)
-    → LeavesTo (λ row. held_row row ps h k) ps h (answering (Num Unknown) k) (answered h c t) old new (one 0 ∷ s ∷ []) made result
+    → LeavesTo (λ row. held_row row ps h k) ps h (answering (Num (any_number 64)) k) (answered h c t) old new (one 0 ∷ s ∷ []) made result
 leaves_answer {new = new} {result = result} ps k h c t s some second grows first last = record {
   grows = grows;
   written = λ row rows place at. at_place row rows place (in_either place s at) second;
@@ -109,11 +109,11 @@ leaves_answer {new = new} {result = result} ps k h c t s some second grows first
   same = λ place within at. numbers_kept ps k h c t place within (not_first place 0 _ at) (λ e. stays place e (in_second place s at) second);
 }
   where
-    at_place : (row : ℕ → ℕ) → AreRows new row → (place : ℕ) → (place ≡ 0) ⊎ (is_in place s ≡ true) → Second t h s → held_row row ps (answered h c t) (answering (Num Unknown) k) place ≤ result row
-    at_place row rows place (inl e) two = subst (λ (p : ℕ). held_row row ps (answered h c t) (answering (Num Unknown) k) p ≤ result row) (sym e) (below (answer_row ps k h c t row some) (first row rows))
+    at_place : (row : ℕ → ℕ) → AreRows new row → (place : ℕ) → (place ≡ 0) ⊎ (is_in place s ≡ true) → Second t h s → held_row row ps (answered h c t) (answering (Num (any_number 64)) k) place ≤ result row
+    at_place row rows place (inl e) two = subst (λ (p : ℕ). held_row row ps (answered h c t) (answering (Num (any_number 64)) k) p ≤ result row) (sym e) (below (answer_row ps k h c t row some) (first row rows))
     at_place row rows place (inr e) (inl is) =
         let at : place ≡ target_number = in_one place target_number (ap (is_in place) (sym is) ∙ e) in
-        subst (λ (p : ℕ). held_row row ps (answered h c t) (answering (Num Unknown) k) p ≤ result row) (sym at) (below (target_row row ps (answered h c t) (answering (Num Unknown) k)) (last row rows is))
+        subst (λ (p : ℕ). held_row row ps (answered h c t) (answering (Num (any_number 64)) k) p ≤ result row) (sym at) (below (target_row row ps (answered h c t) (answering (Num (any_number 64)) k)) (last row rows is))
     at_place row rows place (inr e) (inr none) = let f : false ≡ true = sym (in_none place) ∙ ap (is_in place) (sym none.0) ∙ e in absurd (cc)
 
     at_target : (place : ℕ) → place ≡ target_number → is_in place target ≡ true
@@ -124,16 +124,16 @@ leaves_answer {new = new} {result = result} ps k h c t s some second grows first
     stays place e f (inr none) = none.1
 
 -- what a helper that takes a row of its own answers
-answers_to : {old new : List CellView} (decls : List MapDecl) (ps : List PointerView) (i : Insn) (k after : Kinds) (h : RegisterCells) (c t : ℕ) (s : Span) → writes_as k i i.op ≡ one 0 ∷ s ∷ [] → after ≡ answering (Num Unknown) k
+answers_to : {old new : List CellView} (decls : List MapDecl) (ps : List PointerView) (i : Insn) (k after : Kinds) (h : RegisterCells) (c t : ℕ) (s : Span) → writes_as k i i.op ≡ one 0 ∷ s ∷ [] → after ≡ answering (Num (any_number 64)) k
     → 0 < length h.registers → Second t h s → GrowsTo old new (λ row. result_row (held_row row ps h k) decls k after i)
     → ((row : ℕ → ℕ) → AreRows new row → row c ≤ result_row (held_row row ps h k) decls k after i) → ((row : ℕ → ℕ) → AreRows new row → s ≡ target → row t ≤ result_row (held_row row ps h k) decls k after i)
     → CarriesTo decls (λ row. held_row row ps h k) ps i k h after (answered h c t) old new
 answers_to {old} {new} decls ps i k after h c t s writes is some second grows first last =
     let result : (ℕ → ℕ) → ℕ = λ row. result_row (held_row row ps h k) decls k after i in
     let made : (ℕ → ℕ) → ℕ = λ row. made_row (held_row row ps h k) decls k after i in
-    let zero_is : register after 0 ≡ Num Unknown = ap (λ (j : Kinds). register j 0) is in
-    let is_some : list_any (is_open_in after) (writes_as k i i.op) ≡ true = ap (list_any (is_open_in after)) writes ∙ open_first after 0 (Num Unknown) _ (omega arith) zero_is refl in
-    let leaves : LeavesTo (λ row. held_row row ps h k) ps h (answering (Num Unknown) k) (answered h c t) old new (one 0 ∷ s ∷ []) made result =
+    let zero_is : register after 0 ≡ Num (any_number 64) = ap (λ (j : Kinds). register j 0) is in
+    let is_some : list_any (is_open_in after) (writes_as k i i.op) ≡ true = ap (list_any (is_open_in after)) writes ∙ open_first after 0 (Num (any_number 64)) _ (omega arith) zero_is refl in
+    let leaves : LeavesTo (λ row. held_row row ps h k) ps h (answering (Num (any_number 64)) k) (answered h c t) old new (one 0 ∷ s ∷ []) made result =
     leaves_answer ps k h c t s some second (grows_by grows (λ row. above (result row) _ _ is_some)) first last in
     subst (λ (ss : List Span). LeavesTo (λ row. held_row row ps h k) ps h after (answered h c t) old new ss made result) (sym writes)
     (subst (λ (a : Kinds). LeavesTo (λ row. held_row row ps h k) ps h a (answered h c t) old new (one 0 ∷ s ∷ []) made result) (sym is) leaves)
@@ -149,7 +149,7 @@ call_places : (k : Kinds) (i : Insn) (helper : Option Helper) → i.op ≡ Call 
 call_places k i helper op is = ap (writes_as k i) op ∙ ap (λ (h : Option Helper). one 0 ∷ call_writes h ∷ []) is
 
 -- the time
-pub time_to : {old new : List CellView} (decls : List MapDecl) (ps : List PointerView) (i : Insn) (k after : Kinds) (h : RegisterCells) (c : ℕ) → i.op ≡ Call → helper_of i.imm ≡ Some Time → after ≡ answering (Num Unknown) k → 0 < length h.registers
+pub time_to : {old new : List CellView} (decls : List MapDecl) (ps : List PointerView) (i : Insn) (k after : Kinds) (h : RegisterCells) (c : ℕ) → i.op ≡ Call → helper_of i.imm ≡ Some Time → after ≡ answering (Num (any_number 64)) k → 0 < length h.registers
     → Rises old new c (λ row. 1) → CarriesTo decls (λ row. held_row row ps h k) ps i k h after (answered h c h.target) old new
 time_to decls ps i k after h c op helper is some r =
     let least : (row : ℕ → ℕ) → 1 ≤ result_row (held_row row ps h k) decls k after i = λ row. later (spans_row (held_row row ps h k) (call_reads decls k (Some Time))) (call_row (held_row row ps h k) decls k after i (Some Time) op helper) in
@@ -162,7 +162,7 @@ time_to decls ps i k after h c op helper is some r =
     later m e = omega (arith, e)
 
 -- a redirect, of two numbers and the target
-pub redirect_to : {s0 s1 s2 s3 s4 s5 : List CellView} {a b sent : ℕ} (decls : List MapDecl) (ps : List PointerView) (i : Insn) (k after : Kinds) (h : RegisterCells) (c t : ℕ) → i.op ≡ Call → helper_of i.imm ≡ Some Redirect → after ≡ answering (Num Unknown) k
+pub redirect_to : {s0 s1 s2 s3 s4 s5 : List CellView} {a b sent : ℕ} (decls : List MapDecl) (ps : List PointerView) (i : Insn) (k after : Kinds) (h : RegisterCells) (c t : ℕ) → i.op ≡ Call → helper_of i.imm ≡ Some Redirect → after ≡ answering (Num (any_number 64)) k
     → 0 < length h.registers → Rises s0 s1 a (λ row. value_row row ps (register k 1) (slice_index h.registers 1)) → Rises s1 s2 b (λ row. value_row row ps (register k 2) (slice_index h.registers 2))
     → Rises s2 s3 sent (λ row. max (row b) (max (row a) (row h.target)) + 1) → Rises s3 s4 c (λ row. row sent) → Rises s4 s5 t (λ row. max (row sent) (max (row a) (row h.target)))
     → CarriesTo decls (λ row. held_row row ps h k) ps i k h after (answered h c t) s0 s5

@@ -12,7 +12,7 @@ use Rattle.cell_core.specs.xdp_machine.Values as is
 use Rattle.cell_core.specs.xdp_machine.State.{Machine, PacketIn, register}
 use Rattle.cell_core.specs.xdp_machine.Step as machine
 use Rattle.cell_core.specs.xdp_machine.Ranges.{InRange}
-use Rattle.kind_core.specs.declared.number.Number.TheVariants.{Known, Unknown}
+use Rattle.kind_core.specs.declared.number.Number.TheVariants.{Known, Between}
 use Rattle.kind_core.specs.declared.kind.Kind.{Kind}
 use Rattle.kind_core.specs.declared.kind.Kind.TheVariants.{Unset, Num, Packet, End, Maybe, Entry}
 use Rattle.kind_core.specs.declared.kind.Kinds.{Kinds}
@@ -47,7 +47,7 @@ imm_fits op z h = word_of z (omega (arith, h.sfits))
 read_of : (decls : List MapDecl) (packet : PacketIn) (v : ℕ → ℕ) (ps : List PointerView) (w : World) (maps : MapState) (ds : List MapDecl) (x : Kind) (c : ℕ) (t : Value)
     → Describes w maps x t → Holds decls v ps x c t → InRange ds t → w.frame ≡ length packet.frame → IsRead decls packet v ps x c t
 read_of decls packet v ps w maps ds (Num (Known n)) c t d h r e = (d, rw d at r)
-read_of decls packet v ps w maps ds (Num Unknown) c t d h r e = (h, rw h at r)
+read_of decls packet v ps w maps ds (Num (Between lo hi)) c t d h r e = (h, rw h at r)
 read_of decls packet v ps w maps ds (Packet o) c t d h r e = d
 read_of decls packet v ps w maps ds End c t d h r e = d ∙ ap (λ (n : ℕ). is.Packet (pos n)) e
 read_of decls packet v ps w maps ds (Maybe q n) c t d h r e = h
@@ -109,13 +109,13 @@ operand_counts decls n ps h k i X l inside = inside.registers i.src l
 -- arithmetic with two operands
 pub combine_gives : (decls : List MapDecl) (ps : List PointerView) (refs : List ℕ) (node : ℕ) (k : Kinds) (h : RegisterCells) (i : Insn) (w : Width) (code : AluCode) (s : Src) (old new : List CellView) (c : ℕ) (z : ℤ) (b : Kind)
     → i.dst ≤ 10 → i.src ≤ 10 → cast_unsigned w64 i.imm < 2 ^ 64 → z ≡ i.offset → b ≡ effects.operand k i s
-    → IfOk (kind.combined decls w code z (kinds.register k i.dst) b) (λ x. Yields decls ps (kinds.register k i.dst) (slice_index h.registers i.dst) b (slice_index h.registers i.src) old new x c (λ x y. pointers.combined w code z x y))
-    → IfOk (kind.combined decls w code i.offset (kinds.register k i.dst) (effects.operand k i s)) (λ x. Gives decls ps node k h old new x c (λ m. given refs m i (Alu w code s)))
+    → IfOk (kind.combined decls w code z s (kinds.register k i.dst) b) (λ x. Yields decls ps (kinds.register k i.dst) (slice_index h.registers i.dst) b (slice_index h.registers i.src) old new x c (λ x y. pointers.combined w code z x y))
+    → IfOk (kind.combined decls w code i.offset s (kinds.register k i.dst) (effects.operand k i s)) (λ x. Gives decls ps node k h old new x c (λ m. given refs m i (Alu w code s)))
 combine_gives decls ps refs node k h i w code s old new c z b dst src fits at is yields =
     let a : Kind = kinds.register k i.dst in let p : ℕ = slice_index h.registers i.dst in let q : ℕ = slice_index h.registers i.src in
-    let same = subst (λ (y : ℤ). IfOk (kind.combined decls w code y a (effects.operand k i s)) (λ x. Yields decls ps a p (effects.operand k i s) q old new x c (λ x t. pointers.combined w code y x t))) at
-    (subst (λ (y : Kind). IfOk (kind.combined decls w code z a y) (λ x. Yields decls ps a p y q old new x c (λ x t. pointers.combined w code z x t))) is yields) in
-    ok_map (kind.combined decls w code i.offset a (effects.operand k i s)) (λ x. Yields decls ps a p (effects.operand k i s) q old new x c (λ x t. pointers.combined w code i.offset x t))
+    let same = subst (λ (y : ℤ). IfOk (kind.combined decls w code y s a (effects.operand k i s)) (λ x. Yields decls ps a p (effects.operand k i s) q old new x c (λ x t. pointers.combined w code y x t))) at
+    (subst (λ (y : Kind). IfOk (kind.combined decls w code z s a y) (λ x. Yields decls ps a p y q old new x c (λ x t. pointers.combined w code z x t))) is yields) in
+    ok_map (kind.combined decls w code i.offset s a (effects.operand k i s)) (λ x. Yields decls ps a p (effects.operand k i s) q old new x c (λ x t. pointers.combined w code i.offset x t))
     (λ x. Gives decls ps node k h old new x c (λ m. given refs m i (Alu w code s)))
     (λ x y. gives_yielded decls ps node k h a p (effects.operand k i s) q old new x c (λ x t. pointers.combined w code i.offset x t) (λ m. register m.registers i.dst) (λ m. machine.operand m.registers i s)
     (λ packet v m known. (register_read decls packet v ps node k h m i.dst known dst, operand_read decls packet v ps node k h m i s fits known src)) y)

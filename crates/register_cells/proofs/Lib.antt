@@ -2,6 +2,7 @@ pub mod Growing
 pub mod ValueLaws
 pub mod Finding
 pub mod Yielding
+pub mod Moved
 pub mod MovingRows
 pub mod Known
 pub mod Carrying

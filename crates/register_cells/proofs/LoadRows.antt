@@ -1,5 +1,5 @@
 -- Rows of what is loaded.
-use Rattle.std.proofs.Common.{◌≡◌, ◌≢◌, ◌∙◌, ℕ, suc, ◌+◌, ◌*◌, ◌/◌, ◌%◌, ◌<◌, ◌≤◌, ℤ, pos, ◌+ℤ◌, unsigned_abs, true, false, Some, Result, Ok, IfOk, List, [], ◌∷◌, length, get_or, slice_index, slice_range, max, refl, sym, ap, subst, arith}
+use Rattle.std.proofs.Common.{◌≡◌, ◌≢◌, ◌∙◌, ℕ, suc, ◌+◌, ◌*◌, ◌/◌, ◌%◌, ◌<◌, ◌≤◌, ℤ, pos, ◌+ℤ◌, unsigned_abs, ◌||◌, true, false, Some, Result, Ok, IfOk, List, [], ◌∷◌, length, get_or, slice_index, slice_range, max, refl, sym, ap, subst, arith}
 use Rattle.cell_core.specs.bpf_isa.declared.operation.Size.{Size}
 use Rattle.cell_core.specs.bpf_isa.declared.operation.Size.TheVariants.{B, H, W, Dw}
 use Rattle.cell_core.specs.bpf_isa.declared.operation.Width.TheVariants.{Bits64}
@@ -10,13 +10,13 @@ use Rattle.byteorder.specs.Endian.{little_bytes}
 use Rattle.cell_core.specs.xdp_machine.Memory.{bytes_in, number_at, inside}
 use Rattle.cell_core.specs.xdp_machine.Memory as machine
 use Rattle.kind_core.specs.declared.number.Number.{Number}
-use Rattle.kind_core.specs.declared.number.Number.TheVariants.{Known, Unknown}
+use Rattle.kind_core.specs.declared.number.Number.TheVariants.{Known, Between}
 use Rattle.kind_core.specs.declared.kind.Kind.{Kind}
 use Rattle.kind_core.specs.declared.kind.Kind.TheVariants.{Unset, Num, Packet, Stack, Ctx}
 use Rattle.kind_core.specs.declared.kind.Kinds.{Kinds}
 use Rattle.xdp_state.specs.declared.refusal.Why.{Why}
 use Rattle.kind_core.specs.Kinds.{register}
-use Rattle.kind_core.specs.Numbers.{from_one, number_part, number_extended}
+use Rattle.kind_core.specs.Numbers.{any_bytes, number_part, number_extended}
 use Rattle.kind_core.specs.Tests.{◌>>=◌}
 use Rattle.kind_core.specs.Tests as tests
 use Rattle.kind_core.specs.Places as places
@@ -27,7 +27,7 @@ use Rattle.cell_core.specs.Rows.{greatest}
 use Rattle.operator_cells.specs.Rising.{Rises, RiseAll}
 use Rattle.operator_cells.proofs.RisingLaws.{Stand, stand_all, rises_then}
 use Rattle.operator_cells.specs.row_rules.PlaceRows.Spans.{no_place, one, region, slots_of, bytes_of, pending_of, is_in, span_row, spans_row}
-use Rattle.operator_cells.specs.row_rules.PlaceRows.Reading.{is_entry, result_as}
+use Rattle.operator_cells.specs.row_rules.PlaceRows.Reading.{is_entry, is_var, result_as}
 use Rattle.operator_cells.specs.row_rules.PlaceRows.Locations.{first_slot, first_byte}
 use Rattle.operator_cells.proofs.row_rules_laws.PlaceRows.SpanLaws.{is_inside, span_above}
 use Rattle.operator_cells.specs.declared.held_cells.machine_cells.RegisterCells.{RegisterCells}
@@ -45,17 +45,17 @@ use Rattle.register_cells.proofs.Signed.{number_there}
 -- ---- values that new cells make
 
 -- a copy of a number
-pub value_copied : (ps : List PointerView) (old new : List CellView) (x : Kind) (p c : ℕ) → x ≡ Num Unknown → Rises old new c (λ row. row p) → ValueTo old new ps x c (λ row. value_row row ps x p)
-value_copied ps old new x p c e r = subst (λ (k : Kind). ValueTo old new ps k c (λ row. value_row row ps k p)) (sym e) (value_risen ps r (λ row. omega arith))
+pub value_copied : (ps : List PointerView) (old new : List CellView) (x : Kind) (lo hi p c : ℕ) → x ≡ Num (Between lo hi) → Rises old new c (λ row. row p) → ValueTo old new ps x c (λ row. value_row row ps x p)
+value_copied ps old new x lo hi p c e r = subst (λ (k : Kind). ValueTo old new ps k c (λ row. value_row row ps k p)) (sym e) (value_risen ps r (λ row. omega arith))
 
 -- a number that is computed from one in a cell
-pub from_one_to : {old mid new : List CellView} {ps : List PointerView} {p c : ℕ} {F : (ℕ → ℕ) → ℕ} (f : ℕ → ℕ) (n : Number) → ValueTo old mid ps (Num n) p F → ValueTo mid new ps (Num (from_one f n)) c (λ row. number_row row n p)
-    → ValueTo old new ps (Num (from_one f n)) c F
-from_one_to {old} {mid} {new} {ps} {p} {c} {F} f Unknown v w =
-    let s : Stand old mid (λ row. number_row row Unknown p ≤ F row) F = record { grows = v.grows; known = v.value } in
-    let r : Rises mid new c (λ row. number_row row Unknown p) = record { grows = w.grows; result = λ row rows. omega (arith, w.value row rows) } in
+pub from_one_to : {old mid new : List CellView} {ps : List PointerView} {p c : ℕ} {F : (ℕ → ℕ) → ℕ} (size : Size) (n : Number) → ValueTo old mid ps (Num n) p F → ValueTo mid new ps (Num (number_extended Bits64 (8 * bytes_in size) n)) c (λ row. number_row row n p)
+    → ValueTo old new ps (Num (number_extended Bits64 (8 * bytes_in size) n)) c F
+from_one_to {old} {mid} {new} {ps} {p} {c} {F} size (Between lo hi) v w =
+    let s : Stand old mid (λ row. number_row row (Between lo hi) p ≤ F row) F = record { grows = v.grows; known = v.value } in
+    let r : Rises mid new c (λ row. number_row row (Between lo hi) p) = record { grows = w.grows; result = λ row rows. omega (arith, w.value row rows) } in
     value_risen {f = F} ps (rises_then s r (λ row h. h)) (λ row. same_most)
-from_one_to {old} {mid} {new} {ps} {p} {c} {F} f (Known a) v w =
+from_one_to {old} {mid} {new} {ps} {p} {c} {F} size (Known a) v w =
     let s : Stand old mid (λ row. Unit {0}) (λ row. 0) = record { grows = v.grows; known = λ row rows. tt } in
     let r : RiseAll mid new [] (λ row. 0) = record { grows = w.grows; results = λ row rows. omega arith } in
     record { grows = (stand_all s r (λ row h. omega arith)).grows; value = λ row rows. omega arith }
@@ -103,9 +103,9 @@ pub part_yields : (decls : List MapDecl) (ps : List PointerView) (old new : List
     → Finds old new (number_part size at n) c (λ packet v. number_at size at (little_bytes 8 (number_of v n p)))
     → IfOk (kind.from_slot size at (Num n)) (λ x. Yields decls ps (Num n) p (Num n) p old new x c (λ s t. machine.from_slot size at t))
 part_yields decls ps old new Dw at n p c other found = absurd (other refl)
-part_yields decls ps old new B at n p c other found = yields_one (λ m. number_at B at (little_bytes 8 m)) (λ m. number_at B at (little_bytes 8 m)) (λ s t. machine.from_slot B at t) decls ps old new (Num n) p n p c (λ s m h. refl) found
-part_yields decls ps old new H at n p c other found = yields_one (λ m. number_at H at (little_bytes 8 m)) (λ m. number_at H at (little_bytes 8 m)) (λ s t. machine.from_slot H at t) decls ps old new (Num n) p n p c (λ s m h. refl) found
-part_yields decls ps old new W at n p c other found = yields_one (λ m. number_at W at (little_bytes 8 m)) (λ m. number_at W at (little_bytes 8 m)) (λ s t. machine.from_slot W at t) decls ps old new (Num n) p n p c (λ s m h. refl) found
+part_yields decls ps old new B at n p c other found = yields_one (8 * bytes_in B) (8 * bytes_in B) (λ m. number_at B at (little_bytes 8 m)) (λ m. number_at B at (little_bytes 8 m)) (λ s t. machine.from_slot B at t) decls ps old new (Num n) p n p c (λ s m h. refl) found
+part_yields decls ps old new H at n p c other found = yields_one (8 * bytes_in H) (8 * bytes_in H) (λ m. number_at H at (little_bytes 8 m)) (λ m. number_at H at (little_bytes 8 m)) (λ s t. machine.from_slot H at t) decls ps old new (Num n) p n p c (λ s m h. refl) found
+part_yields decls ps old new W at n p c other found = yields_one (8 * bytes_in W) (8 * bytes_in W) (λ m. number_at W at (little_bytes 8 m)) (λ m. number_at W at (little_bytes 8 m)) (λ s t. machine.from_slot W at t) decls ps old new (Num n) p n p c (λ s m h. refl) found
 
 pub part_rows : (ps : List PointerView) (old new : List CellView) (size : Size) (at : ℕ) (n : Number) (c : ℕ) (last : (ℕ → ℕ) → ℕ) → size ≢ Dw → ValueTo old new ps (Num (number_part size at n)) c last
     → IfOk (kind.from_slot size at (Num n)) (λ x. ValueTo old new ps x c last)
@@ -143,7 +143,7 @@ packet_to decls ps k h old new o offset size at c bs whole e fits named r =
 -- ---- MEM and MEMSX
 
 load_above : (row : ℕ → ℕ) (decls : List MapDecl) (k after : Kinds) (i : Insn) (size : Size) → span_row row (region (register k i.src) i.offset (bytes_in size)) ≤ result_as row decls k after i (Load size)
-load_above row decls k after i size = by (span_row row (one i.src)) (span_row row (region (register k i.src) i.offset (bytes_in size))) (span_row row (pending_of (register k i.src))) (spans_row row (no_place ∷ [])) (bit (is_entry (register k i.src)))
+load_above row decls k after i size = by (span_row row (one i.src)) (span_row row (region (register k i.src) i.offset (bytes_in size))) (span_row row (pending_of (register k i.src))) (spans_row row (no_place ∷ [])) (bit (is_entry (register k i.src) || is_var (register k i.src)))
   where
     by : (a b c d e : ℕ) → b ≤ max a (max b (max c d)) + e
     by a b c d e = omega arith
@@ -186,14 +186,13 @@ load_signed_to decls ps k after h i old new base size c e at found =
 
 -- ---- with the sign extended
 
-pub sign_to : (ps : List PointerView) (old new : List CellView) (f : ℕ → ℕ) (x : Kind) (n : Number) (p c : ℕ) → x ≡ Num Unknown → x ≡ Num n → Rises old new c (λ row. row p) → ValueTo old new ps (Num (from_one f n)) c (λ row. number_row row n p)
-sign_to ps old new f x Unknown p c e g r = value_risen ps r (λ row. omega arith)
-sign_to ps old new f x (Known a) p c e g r = let q : Num Unknown ≡ Num (Known a) = sym e ∙ g in absurd cc
+pub sign_to : (ps : List PointerView) (old new : List CellView) (size : Size) (x : Kind) (n : Number) (lo hi p c : ℕ) → x ≡ Num (Between lo hi) → x ≡ Num n → Rises old new c (λ row. row p) → ValueTo old new ps (Num (number_extended Bits64 (8 * bytes_in size) n)) c (λ row. number_row row n p)
+sign_to ps old new size x (Between l h) lo hi p c e g r = value_risen ps r (λ row. omega arith)
+sign_to ps old new size x (Known a) lo hi p c e g r = let q : Num (Between lo hi) ≡ Num (Known a) = sym e ∙ g in absurd cc
 
-pub signed_unknown : (ps : List PointerView) (old new : List CellView) (f : ℕ → ℕ) (n : Number) (p c : ℕ) → n ≡ Unknown → ValueTo old new ps (Num (from_one f Unknown)) c (λ row. number_row row Unknown p)
-    → ValueTo old new ps (Num (from_one f n)) c (λ row. number_row row n p)
-signed_unknown ps old new f Unknown p c e v = v
-signed_unknown ps old new f (Known a) p c e v = absurd cc
+pub signed_unknown : (ps : List PointerView) (old new : List CellView) (size : Size) (n : Number) (p c : ℕ) → n ≡ any_bytes size → ValueTo old new ps (Num (number_extended Bits64 (8 * bytes_in size) (any_bytes size))) c (λ row. number_row row (any_bytes size) p)
+    → ValueTo old new ps (Num (number_extended Bits64 (8 * bytes_in size) n)) c (λ row. number_row row n p)
+signed_unknown ps old new size n p c e v = rw e v
 
 -- a number that is loaded, extended
 signed_found : (decls : List MapDecl) (k : Kinds) (base : Kind) (offset : ℤ) (size : Size) (P : Kind → Type 0) → kind.is_context base ≡ false
@@ -209,19 +208,20 @@ pub signed_to : (decls : List MapDecl) (ps : List PointerView) (k : Kinds) (old 
     → ((n : Number) → kind.loaded decls k base offset size ≡ Ok (Num n) → ValueTo mid new ps (Num (number_extended Bits64 (8 * bytes_in size) n)) c (λ row. number_row row n p))
     → IfOk (kind.loaded_signed decls k base offset size) (λ x. ValueTo old new ps x c last)
 signed_to decls ps k old mid new base offset size p c last plain found signed =
-    signed_found decls k base offset size _ plain (λ n e. from_one_to _ n (subst (λ r. IfOk r (λ x. ValueTo old mid ps x p last)) e found) (signed n e))
+    signed_found decls k base offset size _ plain (λ n e. from_one_to size n (subst (λ r. IfOk r (λ x. ValueTo old mid ps x p last)) e found) (signed n e))
 
 -- what holds of the number in a slot holds of a part of it
-of_part : (P : Number → Type 0) (size : Size) (at : ℕ) (i n : Number) → ((a b : ℕ) → P (Known a) → P (Known b)) → number_part size at i ≡ n → P i → P n
-of_part P size at (Known a) n known e h = subst P e (known a _ h)
-of_part P size at Unknown n known e h = subst P e h
+part_to : {mid new : List CellView} {ps : List PointerView} {c : ℕ} (p : ℕ) (size : Size) (at : ℕ) (i : Number) → ValueTo mid new ps (Num (number_extended Bits64 (8 * bytes_in size) i)) c (λ row. number_row row i p)
+    → ValueTo mid new ps (Num (number_extended Bits64 (8 * bytes_in size) (number_part size at i))) c (λ row. number_row row (number_part size at i) p)
+part_to p size at (Known a) v = record { grows = v.grows; value = v.value }
+part_to p size at (Between lo hi) v = record { grows = v.grows; value = v.value }
 
-of_slot : (P : Number → Type 0) (size : Size) (at : ℕ) (x : Kind) (n : Number) → ((a b : ℕ) → P (Known a) → P (Known b)) → kind.from_slot size at x ≡ Ok (Num n) → ((i : Number) → x ≡ Num i → P i) → P n
-of_slot P Dw at x n known e h = let f : x ≡ Num n = cc in h n f
-of_slot P B at (Num i) n known e h = let f : number_part B at i ≡ n = cc in of_part P B at i n known f (h i refl)
-of_slot P H at (Num i) n known e h = let f : number_part H at i ≡ n = cc in of_part P H at i n known f (h i refl)
-of_slot P W at (Num i) n known e h = let f : number_part W at i ≡ n = cc in of_part P W at i n known f (h i refl)
-of_slot P size at x n known e h = absurd cc
+of_slot : (P : Number → Type 0) (size : Size) (at : ℕ) (x : Kind) (n : Number) → ((i : Number) → P i → P (number_part size at i)) → kind.from_slot size at x ≡ Ok (Num n) → ((i : Number) → x ≡ Num i → P i) → P n
+of_slot P Dw at x n part e h = let f : x ≡ Num n = cc in h n f
+of_slot P B at (Num i) n part e h = let f : number_part B at i ≡ n = cc in subst P f (part i (h i refl))
+of_slot P H at (Num i) n part e h = let f : number_part H at i ≡ n = cc in subst P f (part i (h i refl))
+of_slot P W at (Num i) n part e h = let f : number_part W at i ≡ n = cc in subst P f (part i (h i refl))
+of_slot P size at x n part e h = absurd cc
 
 pub slot_signed : (decls : List MapDecl) (ps : List PointerView) (k : Kinds) (mid new : List CellView) (o offset : ℤ) (size : Size) (at p c : ℕ) → machine.in_stack (o +ℤ offset) (bytes_in size) ≡ Some at
     → ((i : Number) → get_or k.slots (at / 8) Unset ≡ Num i → ValueTo mid new ps (Num (number_extended Bits64 (8 * bytes_in size) i)) c (λ row. number_row row i p))
@@ -229,4 +229,4 @@ pub slot_signed : (decls : List MapDecl) (ps : List PointerView) (k : Kinds) (mi
 slot_signed decls ps k mid new o offset size at p c place signed n e =
     let x : Kind = get_or k.slots (at / 8) Unset in
     let b = bind_passed (tests.readable x) (λ u. kind.from_slot size (at % 8) x) (Num n) (sym (stack_is decls k o offset size at place) ∙ e) in
-    of_slot (λ i. ValueTo mid new ps (Num (number_extended Bits64 (8 * bytes_in size) i)) c (λ row. number_row row i p)) size (at % 8) x n (λ a b v. record { grows = v.grows; value = v.value }) b.2 signed
+    of_slot (λ i. ValueTo mid new ps (Num (number_extended Bits64 (8 * bytes_in size) i)) c (λ row. number_row row i p)) size (at % 8) x n (λ i v. part_to p size (at % 8) i v) b.2 signed

@@ -13,10 +13,12 @@ use Rattle.cell_core.specs.xdp_machine.Values as is
 use Rattle.cell_core.specs.xdp_machine.State.{Machine, PacketIn, register}
 use Rattle.cell_core.specs.xdp_machine.Memory.{bytes_in, number_at, inside, aligned}
 use Rattle.cell_core.specs.xdp_machine.Memory as machine
-use Rattle.kind_core.specs.declared.number.Number.TheVariants.{Unknown}
+use Rattle.kind_core.specs.declared.number.Number.TheVariants.{Between}
 use Rattle.kind_core.specs.declared.kind.Kind.{Kind}
-use Rattle.kind_core.specs.declared.kind.Kind.TheVariants.{Unset, Num, Packet, Stack, Ctx, Entry}
+use Rattle.kind_core.specs.declared.kind.Kind.TheVariants.{Unset, Num, Packet, Var, Stack, Ctx, Entry}
+use Rattle.kind_core.specs.declared.base.Base.{Base}
 use Rattle.kind_core.specs.declared.kind.Kinds.{Kinds}
+use Rattle.kind_core.specs.Numbers.{any_bytes}
 use Rattle.kind_core.specs.Tests.{◌>>=◌, within}
 use Rattle.kind_core.specs.Tests as tests
 use Rattle.kind_core.specs.Kinds as kinds
@@ -96,10 +98,10 @@ gives_as decls ps node k h old new x c f g same gives = record {
 }
 
 -- a number that cells have, in place of what is found
-gives_number_made : (decls : List MapDecl) (ps : List PointerView) (node : ℕ) (k : Kinds) (h : RegisterCells) (old new : List CellView) (c : ℕ) (f : Machine → Option Value)
+gives_number_made : {lo hi : ℕ} (decls : List MapDecl) (ps : List PointerView) (node : ℕ) (k : Kinds) (h : RegisterCells) (old new : List CellView) (c : ℕ) (f : Machine → Option Value)
     → Grows old new → c < length new
     → ((packet : PacketIn) (v : ℕ → ℕ) (m : Machine) (y : Value) → IsRun packet new v → IsKnown decls packet v ps node k h m → f m ≡ Some y → y ≡ is.Number (v c))
-    → Gives decls ps node k h old new (Num Unknown) c f
+    → Gives decls ps node k h old new (Num (Between lo hi)) c f
 gives_number_made decls ps node k h old new c f grows there value = record { grows = grows; counts = there; holds = value }
 
 frame_number : (frame : List ℕ) (a : ℕ) (size : Size) (y : Value) → machine.from_frame frame (pos a) size ≡ Some y → y ≡ is.Number (number_at size a frame)
@@ -118,7 +120,7 @@ inside_is (pos b) n len a e = by (nat_le (b + n) len) refl
 inside_is (negsuc b) n len a e = cc
 
 -- a number of the packet is not known
-pub in_packet_all : (P : Kind → Type 0) (slots : List Kind) (size : Size) (checked a : ℕ) → P (Num Unknown) → IfOk (places.in_packet checked (pos a) (bytes_in size) >>= (λ place. kind.found slots size place)) P
+pub in_packet_all : (P : Kind → Type 0) (slots : List Kind) (size : Size) (checked a : ℕ) → P (Num (any_bytes size)) → IfOk (places.in_packet checked (pos a) (bytes_in size) >>= (λ place. kind.found slots size place)) P
 in_packet_all P slots size checked a h = by (nat_le (a + bytes_in size) 256) refl (nat_le (a + bytes_in size) checked) refl
   where
     by : (s : Bool) → nat_le (a + bytes_in size) 256 ≡ s → (t : Bool) → nat_le (a + bytes_in size) checked ≡ t → IfOk (places.in_packet checked (pos a) (bytes_in size) >>= (λ place. kind.found slots size place)) P
@@ -246,11 +248,12 @@ load_context decls ps refs node k h i old new size c {z} e at gives =
     (subst (λ (y : ℤ). IfOk (kind.from_context y size) (λ x. Gives decls ps node k h old new x c (λ m. machine.loaded_plain m is.Context y size))) at gives))
 
 -- nothing is loaded through anything else
-pub load_other : (decls : List MapDecl) (k : Kinds) (b : Kind) (offset : ℤ) (size : Size) (P : Kind → Type 0) → b ≢ Ctx → ((o : ℕ) → b ≢ Packet o) → ((o : ℤ) → b ≢ Stack o) → ((q o : ℕ) → b ≢ Entry q o)
+pub load_other : (decls : List MapDecl) (k : Kinds) (b : Kind) (offset : ℤ) (size : Size) (P : Kind → Type 0) → b ≢ Ctx → ((o : ℕ) → b ≢ Packet o) → ((o : ℤ) → b ≢ Stack o) → ((q o : ℕ) → b ≢ Entry q o) → ((x : Base) (f : ℤ) → b ≢ Var x f)
     → IfOk (kind.loaded_plain decls k b offset size) P
 unfolding kind.loaded_plain kind.loaded
-load_other decls k Ctx offset size P e f g h = absurd (e refl)
-load_other decls k (Packet o) offset size P e f g h = absurd (f o refl)
-load_other decls k (Stack o) offset size P e f g h = absurd (g o refl)
-load_other decls k (Entry q o) offset size P e f g h = absurd (h q o refl)
-load_other decls k b offset size P e f g h = tt
+load_other decls k Ctx offset size P e f g h v = absurd (e refl)
+load_other decls k (Packet o) offset size P e f g h v = absurd (f o refl)
+load_other decls k (Stack o) offset size P e f g h v = absurd (g o refl)
+load_other decls k (Entry q o) offset size P e f g h v = absurd (h q o refl)
+load_other decls k (Var x z) offset size P e f g h v = absurd (v x z refl)
+load_other decls k b offset size P e f g h v = tt

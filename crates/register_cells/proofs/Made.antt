@@ -15,7 +15,7 @@ use Rattle.cell_core.specs.xdp_machine.State.{register}
 use Rattle.cell_core.specs.xdp_machine.Arithmetic.{low, ordered}
 use Rattle.cell_core.specs.xdp_machine.Memory.{bytes_in}
 use Rattle.kind_core.specs.declared.number.Number.{Number}
-use Rattle.kind_core.specs.declared.number.Number.TheVariants.{Known, Unknown}
+use Rattle.kind_core.specs.declared.number.Number.TheVariants.{Known, Between}
 use Rattle.kind_core.specs.declared.kind.Kind.{Kind}
 use Rattle.kind_core.specs.declared.kind.Kind.TheVariants.{Num}
 use Rattle.kind_core.specs.declared.kind.Kinds.{Kinds}
@@ -80,13 +80,13 @@ swapped z (inr (inl e)) = subst (λ (y : ℤ). unsigned_abs (to_z w64 (of_z w64 
 swapped z (inr (inr e)) = subst (λ (y : ℤ). unsigned_abs (to_z w64 (of_z w64 y)) ≡ unsigned_abs y) (sym e) refl
 
 -- its bytes in an order
-pub ordered_gives : (decls : List MapDecl) (ps : List PointerView) (node : ℕ) (k : Kinds) (h : RegisterCells) (i : Insn) (end : Src) (x : Number) (old new : List CellView) (c : ℕ)
+pub ordered_gives : (decls : List MapDecl) (ps : List PointerView) (node : ℕ) (k : Kinds) (h : RegisterCells) (i : Insn) (most : ℕ) (end : Src) (x : Number) (old new : List CellView) (c : ℕ)
     → Allows SwapBits i.imm → i.dst ≤ 10 → kinds.register k i.dst ≡ Num x
-    → Finds old new (number_ordered end (unsigned_abs (to_z w64 (of_z w64 i.imm))) x) c (λ packet v. ordered end (unsigned_abs (to_z w64 (of_z w64 i.imm))) (number_of v x (slice_index h.registers i.dst)))
-    → IfOk (renumbered k i (number_ordered end (unsigned_abs i.imm))) (λ y. Gives decls ps node k h old new y c (λ m. given_number m i (ordered end (unsigned_abs i.imm))))
-ordered_gives decls ps node k h i end x old new c legal dst kind found =
-    subst (λ (n : ℕ). IfOk (renumbered k i (number_ordered end n)) (λ y. Gives decls ps node k h old new y c (λ m. given_number m i (ordered end n)))) (swapped i.imm legal)
-    (let bits : ℕ = unsigned_abs (to_z w64 (of_z w64 i.imm)) in renumbered_gives decls ps node k h i (number_ordered end bits) (ordered end bits) x old new c dst kind found)
+    → Finds old new (number_ordered most end (unsigned_abs (to_z w64 (of_z w64 i.imm))) x) c (λ packet v. ordered end (unsigned_abs (to_z w64 (of_z w64 i.imm))) (number_of v x (slice_index h.registers i.dst)))
+    → IfOk (renumbered k i (number_ordered most end (unsigned_abs i.imm))) (λ y. Gives decls ps node k h old new y c (λ m. given_number m i (ordered end (unsigned_abs i.imm))))
+ordered_gives decls ps node k h i most end x old new c legal dst kind found =
+    subst (λ (n : ℕ). IfOk (renumbered k i (number_ordered most end n)) (λ y. Gives decls ps node k h old new y c (λ m. given_number m i (ordered end n)))) (swapped i.imm legal)
+    (let bits : ℕ = unsigned_abs (to_z w64 (of_z w64 i.imm)) in renumbered_gives decls ps node k h i (number_ordered most end bits) (ordered end bits) x old new c dst kind found)
 
 -- a part that is stored over a number, where not both are known
 pub part_finds : (old x y new : List CellView) (size : Size) (at : ℕ) (a : Kind) (p : ℕ) (m n : Number) (q l r c : ℕ) → ((i j : ℕ) → m ≡ Known i → n ≢ Known j)
@@ -104,8 +104,8 @@ part_finds old x y new size at a p m n q l r c other left part all = by m n othe
     by : (m g : Number) → ((i j : ℕ) → m ≡ Known i → g ≢ Known j) → Makes old new c (λ packet v. over (left_of v a p) (number_of v n q))
         → Finds old new (number_patched size at m g) c (λ packet v. over (left_of v a p) (number_of v n q))
     by (Known i) (Known j) f h = absurd (f i j refl refl)
-    by (Known i) Unknown f h = record { grows = h.grows; there = h.there; value = h.value }
-    by Unknown g f h = record { grows = h.grows; there = h.there; value = h.value }
+    by (Known i) (Between lo hi) f h = record { grows = h.grows; there = h.there; value = h.value }
+    by (Between lo hi) g f h = record { grows = h.grows; there = h.there; value = h.value }
 
 -- the bytes of a number whose cell was made before them
 pub bytes_after : {old mid new : List CellView} {c n : ℕ} {bytes : List ℕ} (f : (ℕ → ℕ) → ℕ) → Makes old mid c (λ packet v. f v) → MakesBytes mid new n bytes (λ v. little_bytes n (v c))

@@ -16,7 +16,8 @@ use Rattle.cell_core.specs.xdp_machine.Memory as machine
 use Rattle.cell_core.specs.xdp_machine.Values as is
 use Rattle.kind_core.specs.declared.kind.Kind.{Kind}
 use Rattle.kind_core.specs.declared.kind.Kind.TheVariants.{Unset, Num, Packet, End, Stack, Ctx}
-use Rattle.kind_core.specs.declared.number.Number.TheVariants.{Unknown}
+use Rattle.kind_core.specs.declared.kind.Offsets.TheVariants.{Fixed}
+use Rattle.kind_core.specs.NumberBounds.{any_number}
 use Rattle.kind_core.specs.declared.kind.Kinds.{Kinds}
 use Rattle.xdp_state.specs.declared.refusal.Why.TheVariants as why
 use Rattle.kind_core.specs.Kinds.{register, with_register, with_slot, answering}
@@ -79,9 +80,9 @@ module _ (k : Kinds) (h : RegisterCells) where
   pub window_keeps : (bytes : List ℕ) → KeepPointers k h k (record h { window = bytes })
   window_keeps bytes = keep_all k (record h { window = bytes }) held_register held_slot
 
-  pub answer_keeps : (c t : ℕ) → length h.registers ≡ 11 → KeepPointers k h (answering (Num Unknown) k) (answered h c t)
-  answer_keeps c t hs = keep_all (answering (Num Unknown) k) (answered h c t)
-      (answered_each (λ x j v. MovesHeld k h x j) k.registers h.registers [] 11 c (Num Unknown) is.Unset (omega (arith, hs)) (λ y e. absurd cc) (λ j v y e. absurd cc) held_register) held_slot
+  pub answer_keeps : (c t : ℕ) → length h.registers ≡ 11 → KeepPointers k h (answering (Num (any_number 64)) k) (answered h c t)
+  answer_keeps c t hs = keep_all (answering (Num (any_number 64)) k) (answered h c t)
+      (answered_each (λ x j v. MovesHeld k h x j) k.registers h.registers [] 11 c (Num (any_number 64)) is.Unset (omega (arith, hs)) (λ y e. absurd cc) (λ j v y e. absurd cc) held_register) held_slot
 
   -- ---- operands
   pub operand_held : (i : Insn) (s : Src) → i.src ≤ 10 → MovesHeld k h (operand k i s) (slice_index h.registers i.src)
@@ -96,11 +97,11 @@ module _ (k : Kinds) (h : RegisterCells) where
       by (inr f) = right y f
 
   pub combined_held : (decls : List MapDecl) (i : Insn) (w : Width) (code : AluCode) (s : Src) (z : ℤ) (b : Kind) (c : ℕ) → i.dst ≤ 10 → i.src ≤ 10 → z ≡ i.offset → b ≡ operand k i s
-      → IfOk (combined decls w code z (register k i.dst) b) (λ x. MovesEither (register k i.dst) (slice_index h.registers i.dst) b (slice_index h.registers i.src) x c)
-      → IfOk (combined decls w code i.offset (register k i.dst) (operand k i s)) (λ x. MovesHeld k h x c)
+      → IfOk (combined decls w code z s (register k i.dst) b) (λ x. MovesEither (register k i.dst) (slice_index h.registers i.dst) b (slice_index h.registers i.src) x c)
+      → IfOk (combined decls w code i.offset s (register k i.dst) (operand k i s)) (λ x. MovesHeld k h x c)
   combined_held decls i w code s z b c dst src at is points =
       let a : Kind = register k i.dst in let p : ℕ = slice_index h.registers i.dst in let q : ℕ = slice_index h.registers i.src in
-      ok_map (combined decls w code i.offset a (operand k i s)) _ _
+      ok_map (combined decls w code i.offset s a (operand k i s)) _ _
       (λ x v. either_held a p (operand k i s) q x c (held_register i.dst (omega (arith, dst))) (operand_held i s src) v)
       (rw (at, is) at points)
 
@@ -114,7 +115,7 @@ module _ (decls : List MapDecl) (k : Kinds) (h : RegisterCells) (c : ℕ) where
   from_context_held : (z : ℤ) (size : Size) → IfOk (access.from_context z size) (λ x. MovesHeld k h x c)
   from_context_held z W = by (int_eq z (pos 0)) (int_eq z (pos 4)) (int_eq z (pos 12)) (int_eq z (pos 16))
     where
-      by : (s t u v : Bool) → IfOk (if s then Ok (Packet 0) else if t then Ok End else if u then Ok (Num Unknown) else if v then Ok (Num Unknown) else Err why.Offset) (λ x. MovesHeld k h x c)
+      by : (s t u v : Bool) → IfOk (if s then Ok (Packet 0) else if t then Ok End else if u then Ok (Num (any_number 32)) else if v then Ok (Num (any_number 32)) else Err why.Offset) (λ x. MovesHeld k h x c)
       by true t u v = λ y e. absurd (cc)
       by false true u v = λ y e. absurd (cc)
       by false false true v = λ y e. absurd (cc)
@@ -153,10 +154,10 @@ module _ (decls : List MapDecl) (k : Kinds) (h : RegisterCells) (c : ℕ) where
       by false = bind_all (access.loaded decls k base z size) _ _ (λ x. bind_all (number_in x) _ _ (λ n y e. absurd cc))
 
 -- ---- instructions that write their destination
-pub given_keeps : (decls : List MapDecl) (k : Kinds) (h : RegisterCells) (i : Insn) (node : ℕ) (is_ref : Bool) (c : ℕ) (op : Op) → i.op ≡ op → writes_destination op ≡ true → i.dst ≤ 10 → length k.registers ≡ 11 → length h.registers ≡ 11
+pub given_keeps : (decls : List MapDecl) (k : Kinds) (h : RegisterCells) (i : Insn) (node : ℕ) (is_ref : Bool) (c : ℕ) (op : Op) → k.offsets ≡ Fixed → i.op ≡ op → writes_destination op ≡ true → i.dst ≤ 10 → length k.registers ≡ 11 → length h.registers ≡ 11
     → verdict (effect_of decls k i) ≡ passed → IfOk (given_kind is_ref decls k i op) (λ x. MovesHeld k h x c) → KeepPointers k h (transferred decls k i node is_ref false) (put_register h i.dst c)
-given_keeps decls k h i node is_ref c op is writes dst ks hs allowed given =
-    let x = kind_is is_ref decls k i node (ap writes_destination is ∙ writes) allowed in
+given_keeps decls k h i node is_ref c op fixed is writes dst ks hs allowed given =
+    let x = kind_is is_ref decls k i node fixed (ap writes_destination is ∙ writes) allowed in
     rw x.2 (register_keeps k h x.0 i.dst c dst ks hs (ok_at (given_kind is_ref decls k i op) (λ y. MovesHeld k h y c) x.0 (ap (given_kind is_ref decls k i) (sym is) ∙ x.1) given))
 
 -- ---- stores

@@ -4,7 +4,7 @@ use Rattle.std.specs.List.{list_any}
 use Rattle.std.proofs.lemmas.List.{get_or-set_same}
 use Rattle.cell_core.specs.bpf_isa.declared.operation.Width.{Width}
 use Rattle.cell_core.specs.bpf_isa.declared.operation.AluCode.{AluCode}
-use Rattle.cell_core.specs.bpf_isa.declared.operation.AluCode.TheVariants.{Mov, Lsh, Rsh, Arsh}
+use Rattle.cell_core.specs.bpf_isa.declared.operation.AluCode.TheVariants.{Add, Mov, Lsh, Rsh, Arsh}
 use Rattle.cell_core.specs.bpf_isa.declared.operation.Src.{Src}
 use Rattle.cell_core.specs.bpf_isa.declared.operation.Src.TheVariants.{K, X}
 use Rattle.cell_core.specs.bpf_isa.declared.operation.Op.{Op}
@@ -15,6 +15,7 @@ use Rattle.cell_core.specs.xdp_maps.declared.decl.MapDecl.{MapDecl}
 use Rattle.kind_core.specs.declared.kind.Kind.{Kind}
 use Rattle.kind_core.specs.declared.kind.Kind.TheVariants.{Unset, Num}
 use Rattle.kind_core.specs.declared.number.Number.{Number}
+use Rattle.kind_core.specs.declared.kind.Offsets.TheVariants.{Fixed}
 use Rattle.kind_core.specs.declared.kind.Kinds.{Kinds}
 use Rattle.kind_core.specs.Kinds.{register, with_register}
 use Rattle.kind_core.specs.Pointers.{combined}
@@ -26,7 +27,7 @@ use Rattle.kind_core.specs.Edges.{transferred}
 use Rattle.cell_core.specs.Cells.{CellView, bit}
 use Rattle.operator_cells.specs.row_rules.PlaceRows.Spans.{no_place, one, is_in, span_row}
 use Rattle.operator_cells.specs.row_rules.PlaceRows.Origins.{is_open, open_row, has_data, data_by}
-use Rattle.operator_cells.specs.row_rules.PlaceRows.Reading.{right_of, arithmetic_is_heavy, result_as, result_row}
+use Rattle.operator_cells.specs.row_rules.PlaceRows.Reading.{right_of, is_number, arithmetic_is_heavy, result_as, result_row}
 use Rattle.operator_cells.specs.row_rules.PlaceRows.Writing.{writes_as, is_open_in, made_row}
 use Rattle.operator_cells.specs.row_rules.declared.place_rows.location.Location.TheVariants as location
 use Rattle.operator_cells.proofs.row_rules_laws.PlaceRows.LocationLaws.{at_number}
@@ -52,16 +53,21 @@ module _ (row : ℕ → ℕ) (ps : List PointerView) (h : RegisterCells) (k : Ki
   right_row i K l = refl
   right_row i X l = one_register i.src l
 
-heavy_is : (k after : Kinds) (i : Insn) (code : AluCode) (s : Src) → is_late code (operand k i s) (register after i.dst) ≡ arithmetic_is_heavy k after i code s
-heavy_is k after i Lsh K = refl
-heavy_is k after i Lsh X = refl
-heavy_is k after i Rsh K = refl
-heavy_is k after i Rsh X = refl
-heavy_is k after i Arsh K = refl
-heavy_is k after i Arsh X = refl
-heavy_is k after i code s = refl
+either_above : (a b : Bool) → bit a ≤ bit (a || b)
+either_above true b = same_most
+either_above false b = zero_most
 
-sum_most : {a b l r late heavy : ℕ} → a ≡ l → b ≡ r → late ≡ heavy → max l r + late ≤ max a (max b (max 0 (max 0 0))) + heavy
+heavy_above : (k after : Kinds) (i : Insn) (code : AluCode) (s : Src) → bit (is_late code (operand k i s) (register after i.dst)) ≤ bit (arithmetic_is_heavy k after i code s)
+heavy_above k after i Add s = either_above (is_number (register after i.dst)) _
+heavy_above k after i Lsh K = same_most
+heavy_above k after i Lsh X = same_most
+heavy_above k after i Rsh K = same_most
+heavy_above k after i Rsh X = same_most
+heavy_above k after i Arsh K = same_most
+heavy_above k after i Arsh X = same_most
+heavy_above k after i code s = same_most
+
+sum_most : {a b l r late heavy : ℕ} → a ≡ l → b ≡ r → late ≤ heavy → max l r + late ≤ max a (max b (max 0 (max 0 0))) + heavy
 sum_most e f g = omega (arith, e, f, g)
 
 move_most : {b r : ℕ} → b ≡ r → r ≤ max 0 (max b (max 0 (max 0 0))) + 0
@@ -78,14 +84,14 @@ module _ (ps : List PointerView) (h : RegisterCells) (k : Kinds) (decls : List M
   combined_most : (row : ℕ → ℕ) (code : AluCode) (x : Kind) → register after i.dst ≡ x
       → combined_row code (operand k i s) x (value_row row ps (register k i.dst) (slice_index h.registers i.dst)) (value_row row ps (operand k i s) (slice_index h.registers i.src)) ≤ result_as (held_row row ps h k) decls k after i (Alu w code s)
   combined_most row Mov x is = move_most (right_row row ps h k i s src)
-  combined_most row code x is = sum_most (one_register row ps h k i.dst dst) (right_row row ps h k i s src) (ap (λ (y : Kind). bit (is_late code (operand k i s) y)) (sym is) ∙ ap bit (heavy_is k after i code s))
+  combined_most row code x is = sum_most (one_register row ps h k i.dst dst) (right_row row ps h k i s src) (subst (λ (y : Kind). bit (is_late code (operand k i s) y) ≤ bit (arithmetic_is_heavy k after i code s)) is (heavy_above k after i code s))
 
   pub combine_to : (old new : List CellView) (code : AluCode) (c : ℕ) (z : ℤ) (b : Kind) → z ≡ i.offset → b ≡ operand k i s
-      → IfOk (combined decls w code z (register k i.dst) b) (λ x. ValueTo old new ps x c (λ row. combined_row code b x (value_row row ps (register k i.dst) (slice_index h.registers i.dst)) (value_row row ps b (slice_index h.registers i.src))))
-      → IfOk (combined decls w code i.offset (register k i.dst) (operand k i s)) (λ x. register after i.dst ≡ x → ValueTo old new ps x c (λ row. result_as (held_row row ps h k) decls k after i (Alu w code s)))
+      → IfOk (combined decls w code z s (register k i.dst) b) (λ x. ValueTo old new ps x c (λ row. combined_row code b x (value_row row ps (register k i.dst) (slice_index h.registers i.dst)) (value_row row ps b (slice_index h.registers i.src))))
+      → IfOk (combined decls w code i.offset s (register k i.dst) (operand k i s)) (λ x. register after i.dst ≡ x → ValueTo old new ps x c (λ row. result_as (held_row row ps h k) decls k after i (Alu w code s)))
   combine_to old new code c z b at is rows =
       let same = rw (at, is) at rows in
-      ok_map (combined decls w code i.offset (register k i.dst) (operand k i s)) _ (λ x. register after i.dst ≡ x → ValueTo old new ps x c (λ row. result_as (held_row row ps h k) decls k after i (Alu w code s)))
+      ok_map (combined decls w code i.offset s (register k i.dst) (operand k i s)) _ (λ x. register after i.dst ≡ x → ValueTo old new ps x c (λ row. result_as (held_row row ps h k) decls k after i (Alu w code s)))
       (λ x v e. value_by v (λ row. combined_most row code x e)) same
 
 -- a number in the destination that is changed
@@ -194,11 +200,11 @@ leaves_register {result = result} ps k h x d c l ks hs v most = record {
 }
 
 pub carried_to : (old new : List CellView) (decls : List MapDecl) (ps : List PointerView) (i : Insn) (node : ℕ) (is_ref : Bool) (k : Kinds) (h : RegisterCells) (c : ℕ)
-    → writes_destination i.op ≡ true → i.dst ≤ 10 → length k.registers ≡ 11 → length h.registers ≡ 11 → verdict (effect_of decls k i) ≡ passed
+    → k.offsets ≡ Fixed → writes_destination i.op ≡ true → i.dst ≤ 10 → length k.registers ≡ 11 → length h.registers ≡ 11 → verdict (effect_of decls k i) ≡ passed
     → ((after : Kinds) → GivesAs old new ps h k decls is_ref after i c i.op)
     → CarriesTo decls (λ row. held_row row ps h k) ps i k h (transferred decls k i node is_ref false) (put_register h i.dst c) old new
-carried_to old new decls ps i node is_ref k h c writes dst ks hs allowed gives =
-    let x = kind_is is_ref decls k i node writes allowed in
+carried_to old new decls ps i node is_ref k h c fixed writes dst ks hs allowed gives =
+    let x = kind_is is_ref decls k i node fixed writes allowed in
     let after : Kinds = with_register k i.dst x.0 in
     let is : register after i.dst ≡ x.0 = get_or-set_same k.registers i.dst x.0 Unset (omega (arith, dst, ks)) in
     let result : (ℕ → ℕ) → ℕ = λ row. result_row (held_row row ps h k) decls k after i in

@@ -13,11 +13,12 @@ use Rattle.cell_core.specs.xdp_machine.Arithmetic.{extended}
 use Rattle.cell_core.specs.xdp_machine.Memory.{bytes_in}
 use Rattle.cell_core.specs.xdp_machine.Memory as machine
 use Rattle.kind_core.specs.declared.number.Number.{Number}
-use Rattle.kind_core.specs.declared.number.Number.TheVariants.{Known, Unknown}
+use Rattle.kind_core.specs.declared.number.Number.TheVariants.{Known, Between}
 use Rattle.kind_core.specs.declared.kind.Kind.{Kind}
-use Rattle.kind_core.specs.declared.kind.Kind.TheVariants.{Unset, Num, Packet, Stack, Entry}
+use Rattle.kind_core.specs.declared.kind.Kind.TheVariants.{Unset, Num, Packet, Var, Stack, Entry}
+use Rattle.kind_core.specs.declared.base.Base.{Base}
 use Rattle.kind_core.specs.declared.kind.Kinds.{Kinds}
-use Rattle.kind_core.specs.Numbers.{number_part, number_extended}
+use Rattle.kind_core.specs.Numbers.{any_bytes, number_part, number_extended}
 use Rattle.kind_core.specs.Tests.{◌>>=◌}
 use Rattle.kind_core.specs.Tests as tests
 use Rattle.kind_core.specs.Kinds as kinds
@@ -50,7 +51,7 @@ extended_gives : (decls : List MapDecl) (ps : List PointerView) (node : ℕ) (k 
     → Finds mid new (number_extended Bits64 (8 * bytes_in size) n) c (λ packet v. signed size (number_of v n p))
     → Gives decls ps node k h old new (Num (number_extended Bits64 (8 * bytes_in size) n)) c (λ m. machine.loaded_signed m (b m) offset size)
 extended_gives decls ps node k h old mid new offset size b (Known a) p c gives found = record { grows = grown gives.grows found.grows; counts = tt; holds = λ packet v m y run known e. tt }
-extended_gives decls ps node k h old mid new offset size b Unknown p c gives found = record {
+extended_gives decls ps node k h old mid new offset size b (Between lo hi) p c gives found = record {
   grows = grown gives.grows found.grows;
   counts = found.there;
   holds = λ packet v m y run known e.
@@ -91,15 +92,15 @@ signed_none decls k base offset size P plain none =
 
 -- ---- from the packet
 
-pub packet_unknown : (decls : List MapDecl) (k : Kinds) (o : ℕ) (offset : ℤ) (size : Size) (n : Number) → kind.loaded decls k (Packet o) offset size ≡ Ok (Num n) → n ≡ Unknown
+pub packet_unknown : (decls : List MapDecl) (k : Kinds) (o : ℕ) (offset : ℤ) (size : Size) (n : Number) → kind.loaded decls k (Packet o) offset size ≡ Ok (Num n) → n ≡ any_bytes size
 unfolding kind.loaded
 packet_unknown decls k o offset size n e = by (pos o +ℤ offset) e
   where
-    by : (z : ℤ) → (places.in_packet k.checked z (bytes_in size) >>= (λ place. kind.found k.slots size place)) ≡ Ok (Num n) → n ≡ Unknown
+    by : (z : ℤ) → (places.in_packet k.checked z (bytes_in size) >>= (λ place. kind.found k.slots size place)) ≡ Ok (Num n) → n ≡ any_bytes size
     by (negsuc a) f = absurd (cc)
     by (pos a) f = test (nat_le (a + bytes_in size) 256) refl (nat_le (a + bytes_in size) k.checked) refl
       where
-        test : (s : Bool) → nat_le (a + bytes_in size) 256 ≡ s → (t : Bool) → nat_le (a + bytes_in size) k.checked ≡ t → n ≡ Unknown
+        test : (s : Bool) → nat_le (a + bytes_in size) 256 ≡ s → (t : Bool) → nat_le (a + bytes_in size) k.checked ≡ t → n ≡ any_bytes size
         test true g true t = let h = rw (g, t) at f in cc
         test true g false t = let h = rw (g, t) at f in absurd (cc)
         test false g t r = let h = rw g at f in absurd (cc)
@@ -111,7 +112,7 @@ Extends mid new size p c n = Finds mid new (number_extended Bits64 (8 * bytes_in
 
 part_found : (mid new : List CellView) (size : Size) (at p c : ℕ) (i n : Number) → number_part size at i ≡ n → Extends mid new size p c i → Extends mid new size p c n
 part_found mid new size at p c (Known a) n e found = subst (Extends mid new size p c) e (record { grows = found.grows; there = tt; value = λ packet v run. refl })
-part_found mid new size at p c Unknown n e found = subst (Extends mid new size p c) e found
+part_found mid new size at p c (Between lo hi) n e found = subst (Extends mid new size p c) e (record { grows = found.grows; there = found.there; value = found.value })
 
 slot_found : (mid new : List CellView) (size : Size) (at p c : ℕ) (x : Kind) (n : Number) → kind.from_slot size at x ≡ Ok (Num n) → ((i : Number) → x ≡ Num i → Extends mid new size p c i) → Extends mid new size p c n
 slot_found mid new Dw at p c x n e found = let f : x ≡ Num n = cc in found n f
@@ -144,10 +145,11 @@ signed_as decls ps refs node k h i old new base b size c {z} e at read gives =
     (subst (λ (y : ℤ). IfOk (kind.loaded_signed decls k base y size) (λ x. Gives decls ps node k h old new x c (λ m. machine.loaded_signed m b y size))) at gives))
 
 -- nothing is loaded through anything else
-pub signed_other : (decls : List MapDecl) (k : Kinds) (b : Kind) (offset : ℤ) (size : Size) (P : Kind → Type 0) → ((o : ℕ) → b ≢ Packet o) → ((o : ℤ) → b ≢ Stack o) → ((q o : ℕ) → b ≢ Entry q o)
+pub signed_other : (decls : List MapDecl) (k : Kinds) (b : Kind) (offset : ℤ) (size : Size) (P : Kind → Type 0) → ((o : ℕ) → b ≢ Packet o) → ((o : ℤ) → b ≢ Stack o) → ((q o : ℕ) → b ≢ Entry q o) → ((x : Base) (f : ℤ) → b ≢ Var x f)
     → IfOk (kind.loaded_signed decls k b offset size) P
 unfolding kind.loaded_signed kind.loaded
-signed_other decls k (Packet o) offset size P f g h = absurd (f o refl)
-signed_other decls k (Stack o) offset size P f g h = absurd (g o refl)
-signed_other decls k (Entry q o) offset size P f g h = absurd (h q o refl)
-signed_other decls k b offset size P f g h = tt
+signed_other decls k (Packet o) offset size P f g h v = absurd (f o refl)
+signed_other decls k (Stack o) offset size P f g h v = absurd (g o refl)
+signed_other decls k (Entry q o) offset size P f g h v = absurd (h q o refl)
+signed_other decls k (Var x z) offset size P f g h v = absurd (v x z refl)
+signed_other decls k b offset size P f g h v = tt

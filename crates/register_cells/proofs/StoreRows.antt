@@ -16,7 +16,7 @@ use Rattle.cell_core.specs.xdp_maps.Calls.{patched}
 use Rattle.cell_core.specs.xdp_machine.Memory.{bytes_in, inside}
 use Rattle.cell_core.specs.xdp_machine.Memory as machine
 use Rattle.kind_core.specs.declared.number.Number.{Number}
-use Rattle.kind_core.specs.declared.number.Number.TheVariants.{Known, Unknown}
+use Rattle.kind_core.specs.declared.number.Number.TheVariants.{Known, Between}
 use Rattle.kind_core.specs.declared.kind.Kind.{Kind}
 use Rattle.kind_core.specs.declared.kind.Kind.TheVariants.{Unset, Num, Packet, Stack}
 use Rattle.kind_core.specs.declared.kind.Kinds.{Kinds}
@@ -29,14 +29,14 @@ use Rattle.kind_core.specs.Access as access
 use Rattle.kind_core.specs.Effects.{operand, effect_of, effect_as, verdict}
 use Rattle.kind_core.specs.Edges.{changed, transferred}
 use Rattle.kind_core.proofs.TestLaws.{bind_ok}
-use Rattle.cell_core.specs.Cells.{CellView}
+use Rattle.cell_core.specs.Cells.{CellView, bit}
 use Rattle.cell_core.specs.Rows.{greatest, numbers}
 use Rattle.operator_cells.specs.Rising.{Rises, RiseAll}
 use Rattle.operator_cells.proofs.RisingLaws.{stand_none, stand_more, rises_then}
 use Rattle.operator_cells.specs.row_rules.declared.place_rows.span.Span.{Span}
 use Rattle.operator_cells.specs.row_rules.PlaceRows.Spans.{no_place, one, region, slots_of, bytes_of, is_in, span_row, spans_row}
 use Rattle.operator_cells.specs.row_rules.PlaceRows.Origins.{is_open, open_row, has_data, data_by}
-use Rattle.operator_cells.specs.row_rules.PlaceRows.Reading.{in_slot, result_as}
+use Rattle.operator_cells.specs.row_rules.PlaceRows.Reading.{in_slot, is_var, pointer_read, result_as}
 use Rattle.operator_cells.specs.row_rules.PlaceRows.Writing.{is_open_in, writes_as, record_as, taken_row}
 use Rattle.operator_cells.specs.row_rules.declared.place_rows.location.Location.{Location}
 use Rattle.operator_cells.specs.row_rules.declared.place_rows.location.Location.TheVariants as location
@@ -72,8 +72,8 @@ part_to ps old x y new size at a p m n q l r c other left part all = by m n othe
     by : (m g : Number) → ((i j : ℕ) → m ≡ Known i → g ≢ Known j) → Rises old new c (λ row. max (value_row row ps a p) (number_row row n q))
         → ValueTo old new ps (Num (number_patched size at m g)) c (λ row. max (value_row row ps a p) (number_row row n q))
     by (Known i) (Known j) f h = absurd (f i j refl refl)
-    by (Known i) Unknown f h = value_risen ps h (λ row. same_most)
-    by Unknown g f h = value_risen ps h (λ row. same_most)
+    by (Known i) (Between lo hi) f h = value_risen ps h (λ row. same_most)
+    by (Between lo hi) g f h = value_risen ps h (λ row. same_most)
 
 pub part_fills_to : (ps : List PointerView) (old new : List CellView) (size : Size) (at : ℕ) (a : Kind) (p : ℕ) (n : Number) (q c : ℕ) → size ≢ Dw
     → ((m : Number) → underlying a ≡ Ok m → ValueTo old new ps (Num (number_patched size at m n)) c (λ row. max (value_row row ps a p) (number_row row n q)))
@@ -300,19 +300,19 @@ if_by false m n t h = omega arith
 
 imm_above : (row : ℕ → ℕ) (ps : List PointerView) (decls : List MapDecl) (k : Kinds) (h : RegisterCells) (after : Kinds) (i : Insn) (size : Size) (q : ℕ)
     → stored_row row ps h k (register k i.dst) i.offset size (operand k i K) q ≤ result_as (held_row row ps h k) decls k after i (StoreImm size)
-imm_above row ps decls k h after i size q = by (span_row (held_row row ps h k) (in_slot (register k i.dst) i.offset size)) (spans_row (held_row row ps h k) (no_place ∷ no_place ∷ no_place ∷ []))
+imm_above row ps decls k h after i size q = by (span_row (held_row row ps h k) (in_slot (register k i.dst) i.offset size)) (spans_row (held_row row ps h k) (pointer_read k i ∷ no_place ∷ no_place ∷ [])) (bit (is_var (register k i.dst)))
   where
-    by : (a b : ℕ) → max 0 a ≤ max a b + 0
-    by a b = omega arith
+    by : (a b t : ℕ) → max 0 a ≤ max a b + t
+    by a b t = omega arith
 
 src_above : (row : ℕ → ℕ) (ps : List PointerView) (decls : List MapDecl) (k : Kinds) (h : RegisterCells) (after : Kinds) (i : Insn) (size : Size) → i.src ≤ 10
     → stored_row row ps h k (register k i.dst) i.offset size (operand k i X) (slice_index h.registers i.src) ≤ result_as (held_row row ps h k) decls k after i (Store size)
 src_above row ps decls k h after i size src =
     by (value_row row ps (register k i.src) (slice_index h.registers i.src)) (span_row (held_row row ps h k) (one i.src)) (span_row (held_row row ps h k) (in_slot (register k i.dst) i.offset size))
-    (spans_row (held_row row ps h k) (no_place ∷ no_place ∷ [])) (one_row (held_row row ps h k) i.src ∙ register_row row ps h k i.src (omega (arith, src)))
+    (spans_row (held_row row ps h k) (pointer_read k i ∷ no_place ∷ [])) (bit (is_var (register k i.dst))) (one_row (held_row row ps h k) i.src ∙ register_row row ps h k i.src (omega (arith, src)))
   where
-    by : (v s a b : ℕ) → s ≡ v → max v a ≤ max s (max a b) + 0
-    by v s a b e = omega (arith, e)
+    by : (v s a b t : ℕ) → s ≡ v → max v a ≤ max s (max a b) + t
+    by v s a b t e = omega (arith, e)
 
 pub imm_carries : (decls : List MapDecl) (ps : List PointerView) (i : Insn) (k : Kinds) (h : RegisterCells) (after : Kinds) (next : RegisterCells) (old new : List CellView) (size : Size) → i.op ≡ StoreImm size
     → StoresTo ps k h after next (register k i.dst) i.offset size (operand k i K) (slice_index h.registers i.src) old new → CarriesTo decls (λ row. held_row row ps h k) ps i k h after next old new

@@ -82,6 +82,7 @@ window_inside decls n m ps h k a cs l fits whole there inside = let all = inside
   slots = all.slots;
   window = patched_two (λ c d. c < m) h.window h.window cs cs a 256 refl (omega (arith, fits, whole)) (omega (arith, fits, whole)) all.window (λ j s. there j 0 s);
   target = all.target;
+  offsets = all.offsets;
 }
 
 pub window_held : (decls : List MapDecl) (packet : PacketIn) (v : ℕ → ℕ) (ps : List PointerView) (h : RegisterCells) (k : Kinds) (m : Machine) (a : ℕ) (cs bs : List ℕ) → a + length cs ≤ 256 → length h.window ≡ 256

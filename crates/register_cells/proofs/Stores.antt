@@ -16,9 +16,10 @@ use Rattle.cell_core.specs.xdp_machine.Step as step
 use Rattle.cell_core.specs.xdp_machine.Memory.{bytes_in, inside}
 use Rattle.cell_core.specs.xdp_machine.Memory as machine
 use Rattle.kind_core.specs.declared.number.Number.{Number}
-use Rattle.kind_core.specs.declared.number.Number.TheVariants.{Known, Unknown}
+use Rattle.kind_core.specs.declared.number.Number.TheVariants.{Known, Between}
 use Rattle.kind_core.specs.declared.kind.Kind.{Kind}
-use Rattle.kind_core.specs.declared.kind.Kind.TheVariants.{Unset, Num, Packet, End, Stack, Ctx, MapRef, Maybe, Entry, Stale, Mixed}
+use Rattle.kind_core.specs.declared.kind.Kind.TheVariants.{Unset, Num, Packet, Var, End, Stack, Ctx, MapRef, Maybe, Entry, Stale, Mixed}
+use Rattle.kind_core.specs.declared.base.Base.{Base}
 use Rattle.kind_core.specs.declared.kind.Kinds.{Kinds}
 use Rattle.xdp_state.specs.declared.refusal.Why.{Why}
 use Rattle.kind_core.specs.Places as places
@@ -55,6 +56,7 @@ left_by decls packet v ps w maps (Num m) p x n d r some e = ap machine.underlyin
 left_by decls packet v ps w maps Unset p x n d r some e = absurd (some refl)
 left_by decls packet v ps w maps Mixed p x n d r some e = absurd (cc)
 left_by decls packet v ps w maps (Packet o) p x n d r some e = ap machine.underlying d
+left_by decls packet v ps w maps (Var b f) p x n d r some e = ap machine.underlying d.value
 left_by decls packet v ps w maps End p x n d r some e = ap machine.underlying d
 left_by decls packet v ps w maps (Stack o) p x n d r some e = ap machine.underlying d
 left_by decls packet v ps w maps Ctx p x n d r some e = ap machine.underlying d
@@ -75,11 +77,11 @@ left_is decls packet v ps node k h m s n known below e =
 
 pub counts_number : (decls : List MapDecl) (n : ℕ) (ps : List PointerView) (g : Number) (c : ℕ) → IsThere n g c → Counts decls n ps (Num g) c
 counts_number decls n ps (Known a) c h = tt
-counts_number decls n ps Unknown c h = h
+counts_number decls n ps (Between lo hi) c h = h
 
 pub holds_number : (decls : List MapDecl) (v : ℕ → ℕ) (ps : List PointerView) (g : Number) (c : ℕ) (y : Value) → y ≡ is.Number (number_of v g c) → Holds decls v ps (Num g) c y
 holds_number decls v ps (Known a) c y h = tt
-holds_number decls v ps Unknown c y h = h
+holds_number decls v ps (Between lo hi) c y h = h
 
 abbrev part : Size → ℕ → ℕ → ℕ → ℕ
 part size at old n = little_number 8 (patched (little_bytes 8 old) at (little_bytes (bytes_in size) n))
@@ -241,13 +243,14 @@ store_as r decls ps node is_ref k h next i old new base b size x y t {z} e at sa
     (subst (λ (w : Kind). IfOk (access.stored decls k base z size w) (λ e. OnOk r (Leaves decls ps node k h next old new (changed node is_ref false k e) (λ m. machine.stored m b z size (t m))))) same leaves)))
 
 -- nothing is stored through anything else
-pub store_refused : (decls : List MapDecl) (k : Kinds) (b : Kind) (offset : ℤ) (size : Size) (x : Kind) (P : _ → Type 0) → ((o : ℕ) → b ≢ Packet o) → ((o : ℤ) → b ≢ Stack o) → ((q o : ℕ) → b ≢ Entry q o)
+pub store_refused : (decls : List MapDecl) (k : Kinds) (b : Kind) (offset : ℤ) (size : Size) (x : Kind) (P : _ → Type 0) → ((o : ℕ) → b ≢ Packet o) → ((o : ℤ) → b ≢ Stack o) → ((q o : ℕ) → b ≢ Entry q o) → ((y : Base) (z : ℤ) → b ≢ Var y z)
     → IfOk (access.stored decls k b offset size x) P
 unfolding access.stored
-store_refused decls k (Packet o) offset size x P f g h = absurd (f o refl)
-store_refused decls k (Stack o) offset size x P f g h = absurd (g o refl)
-store_refused decls k (Entry q o) offset size x P f g h = absurd (h q o refl)
-store_refused decls k b offset size x P f g h = tt
+store_refused decls k (Packet o) offset size x P f g h v = absurd (f o refl)
+store_refused decls k (Stack o) offset size x P f g h v = absurd (g o refl)
+store_refused decls k (Entry q o) offset size x P f g h v = absurd (h q o refl)
+store_refused decls k (Var y z) offset size x P f g h v = absurd (v y z refl)
+store_refused decls k b offset size x P f g h v = tt
 
 -- what an allowed store leaves
 pub store_passed : (P : Kinds → Type 0) (decls : List MapDecl) (node : ℕ) (is_ref : Bool) (k : Kinds) (i : Insn) (size : Size) (s : Src)

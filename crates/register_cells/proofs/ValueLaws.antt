@@ -2,12 +2,14 @@
 use Rattle.std.proofs.Common.{◌≡◌, ℕ, ◌+◌, ◌≤◌, max, Bool, true, false, if◌then◌else◌, Result, Ok, Err, IfOk, List, refl, subst, arith}
 use Rattle.cell_core.specs.bpf_isa.declared.operation.AluCode.{AluCode}
 use Rattle.cell_core.specs.bpf_isa.declared.operation.AluCode.TheVariants.{Add, Lsh, Rsh, Arsh}
+use Rattle.cell_core.specs.bpf_isa.declared.operation.Src.{Src}
 use Rattle.cell_core.specs.bpf_isa.declared.operation.Width.{Width}
 use Rattle.xdp_state.specs.declared.refusal.Why.{Why}
 use Rattle.kind_core.specs.declared.number.Number.{Number}
-use Rattle.kind_core.specs.declared.number.Number.TheVariants.{Known, Unknown}
+use Rattle.kind_core.specs.declared.number.Number.TheVariants.{Known, Between}
 use Rattle.kind_core.specs.declared.kind.Kind.{Kind}
 use Rattle.kind_core.specs.declared.kind.Kind.TheVariants.{Num}
+use Rattle.kind_core.specs.NumberBounds.{lower, upper, unknown, any_number}
 use Rattle.kind_core.specs.Numbers.{number_arithmetic}
 use Rattle.cell_core.specs.xdp_machine.Arithmetic.{bits_in, low, arithmetic}
 use Rattle.cell_core.specs.Cells.{CellView, is_heavy, bit}
@@ -70,7 +72,7 @@ pub value_none : {a : List CellView} (ps : List PointerView) (x : Kind) (c : ℕ
 value_none ps x c result h = record { grows = stand_none.grows; value = λ row rows. h row }
 
 -- a cell that holds a number
-pub value_risen : {old new : List CellView} {c : ℕ} {f result : (ℕ → ℕ) → ℕ} (ps : List PointerView) → Rises old new c f → ((row : ℕ → ℕ) → f row ≤ result row) → ValueTo old new ps (Num Unknown) c result
+pub value_risen : {old new : List CellView} {c lo hi : ℕ} {f result : (ℕ → ℕ) → ℕ} (ps : List PointerView) → Rises old new c f → ((row : ℕ → ℕ) → f row ≤ result row) → ValueTo old new ps (Num (Between lo hi)) c result
 value_risen ps r h = record { grows = grows_by r.grows h; value = λ row rows. one_cell (trans_most (r.result row rows) (h row)) }
 
 pub if_rises : {E : Type 0} (old new : List CellView) {f g : (ℕ → ℕ) → ℕ} (r : Result ℕ E) → IfOk r (λ c. Rises old new c f) → ((row : ℕ → ℕ) → f row ≤ g row) → IfOk r (λ c. Rises old new c g)
@@ -83,60 +85,71 @@ ok_at r P x e h = subst (λ (s : Result Kind Why). IfOk s P) e h
 
 -- ---- arithmetic on numbers, not both known
 
-pub late_most : (code : AluCode) → bit (is_heavy (operator_of code)) ≤ bit (is_late code (Num Unknown) (Num Unknown))
+-- a number that is not known
+abbrev any : Number
+any = any_number 64
+
+pub late_most : (code : AluCode) → bit (is_heavy (operator_of code)) ≤ bit (is_late code (Num any) (Num any))
 late_most Add = omega arith
 late_most code = omega arith
 
 -- a shift by a known number stands apart
 abbrev pub AreOpen : AluCode → Number → Number → Type 0
 AreOpen code (Known m) (Known n) = ⊥
-AreOpen code Unknown (Known n) = is_shift code ≡ false
-AreOpen code x Unknown = Unit {0}
+AreOpen code (Between lo hi) (Known n) = is_shift code ≡ false
+AreOpen code x (Between lo hi) = Unit {0}
 
-pub open_right : (code : AluCode) (x y : Number) → y ≡ Unknown → AreOpen code x y
-open_right code x y e = rw e (by x)
+pub open_right : (code : AluCode) (x y : Number) (lo hi : ℕ) → y ≡ Between lo hi → AreOpen code x y
+open_right code x y lo hi e = rw e (by x)
   where
-    by : (x : Number) → AreOpen code x Unknown
+    by : (x : Number) → AreOpen code x (Between lo hi)
     by (Known m) = tt
-    by Unknown = tt
+    by (Between l h) = tt
 
-pub open_shift : (code : AluCode) (x y : Number) (n : ℕ) → x ≡ Unknown → y ≡ Known n → is_shift code ≡ false → AreOpen code x y
-open_shift code x y n e f h = rw (e, f) h
+pub open_shift : (code : AluCode) (x y : Number) (lo hi n : ℕ) → x ≡ Between lo hi → y ≡ Known n → is_shift code ≡ false → AreOpen code x y
+open_shift code x y lo hi n e f h = rw (e, f) h
 
-late_by : (code : AluCode) (x y : Number) → AreOpen code x y → bit (is_late code (Num Unknown) (Num Unknown)) ≤ bit (is_late code (Num y) (Num Unknown))
-late_by code (Known m) (Known n) h = absurd h
-late_by code Unknown (Known n) h = known code h
-  where
-    known : (code : AluCode) → is_shift code ≡ false → bit (is_late code (Num Unknown) (Num Unknown)) ≤ bit (is_late code (Num (Known n)) (Num Unknown))
-    known Lsh e = absurd (cc)
-    known Rsh e = absurd (cc)
-    known Arsh e = absurd (cc)
-    known code e = same_most
-late_by code (Known m) Unknown h = same_most
-late_by code Unknown Unknown h = same_most
+-- a row is late by the operation alone where the second operand is not known
+late_open : (code : AluCode) (lo hi l h : ℕ) → bit (is_late code (Num any) (Num any)) ≤ bit (is_late code (Num (Between lo hi)) (Num (Between l h)))
+late_open Add lo hi l h = same_most
+late_open code lo hi l h = same_most
 
-arithmetic_open : (code : AluCode) (signed : Bool) (w : Width) (x y : Number) → AreOpen code x y → number_arithmetic code signed w x y ≡ Unknown
-arithmetic_open code signed w (Known m) (Known n) h = absurd h
-arithmetic_open code signed w (Known m) Unknown h = refl
-arithmetic_open code signed w Unknown y h = refl
+late_known : (code : AluCode) (n l h : ℕ) → is_shift code ≡ false → bit (is_late code (Num any) (Num any)) ≤ bit (is_late code (Num (Known n)) (Num (Between l h)))
+late_known Lsh n l h e = absurd (cc)
+late_known Rsh n l h e = absurd (cc)
+late_known Arsh n l h e = absurd (cc)
+late_known code n l h e = same_most
 
-module _ {s0 s1 s2 s3 : List CellView} {l r c : ℕ} (code : AluCode) (signed : Bool) (w : Width) (x : Number) (p : ℕ) (y : Number) (q : ℕ) (open_both : AreOpen code x y) where
+late_by : (code : AluCode) (x y : Number) (l h : ℕ) → AreOpen code x y → bit (is_late code (Num any) (Num any)) ≤ bit (is_late code (Num y) (Num (Between l h)))
+late_by code (Known m) (Known n) l h are = absurd are
+late_by code (Between lo hi) (Known n) l h are = late_known code n l h are
+late_by code (Known m) (Between lo hi) l h are = late_open code lo hi l h
+late_by code (Between u v) (Between lo hi) l h are = late_open code lo hi l h
+
+arithmetic_open : (code : AluCode) (signed : Bool) (w : Width) (s : Src) (x y : Number) → AreOpen code x y → number_arithmetic code signed w s x y ≡ unknown (number_arithmetic code signed w s x y)
+arithmetic_open code signed w s (Known m) (Known n) h = absurd h
+arithmetic_open code signed w s (Known m) (Between lo hi) h = refl
+arithmetic_open code signed w s (Between lo hi) y h = refl
+
+module _ {s0 s1 s2 s3 : List CellView} {l r c : ℕ} (code : AluCode) (signed : Bool) (w : Width) (s : Src) (x : Number) (p : ℕ) (y : Number) (q : ℕ) (open_both : AreOpen code x y) where
   pub worked_finds : Makes s0 s1 l (λ packet v. number_of v x p) → Makes s1 s2 r (λ packet v. number_of v y q)
       → Makes s2 s3 c (λ packet v. arithmetic code signed (bits_in w) (low (bits_in w) (v l)) (low (bits_in w) (v r)))
-      → Finds s0 s3 (number_arithmetic code signed w x y) c (λ packet v. arithmetic code signed (bits_in w) (low (bits_in w) (number_of v x p)) (low (bits_in w) (number_of v y q)))
+      → Finds s0 s3 (number_arithmetic code signed w s x y) c (λ packet v. arithmetic code signed (bits_in w) (low (bits_in w) (number_of v x p)) (low (bits_in w) (number_of v y q)))
   worked_finds left right made =
       let all : Makes s0 s3 c (λ packet v. arithmetic code signed (bits_in w) (low (bits_in w) (number_of v x p)) (low (bits_in w) (number_of v y q))) =
       makes_after (grown left.grows right.grows) made (λ packet v run. rw (left.value packet v (right.grows.run packet v run), right.value packet v run) refl) in
-      rw (arithmetic_open code signed w x y open_both) (record { grows = all.grows; there = all.there; value = all.value })
+      rw (arithmetic_open code signed w s x y open_both) (record { grows = all.grows; there = all.there; value = all.value })
 
-  pub worked_to : (ps : List PointerView) → Rises s0 s1 l (λ row. number_row row x p) → Rises s1 s2 r (λ row. number_row row y q) → Rises s2 s3 c (λ row. worked_row code (Num Unknown) (Num Unknown) (row l) (row r))
-      → ValueTo s0 s3 ps (Num (number_arithmetic code signed w x y)) c (λ row. worked_row code (Num y) (Num (number_arithmetic code signed w x y)) (number_row row x p) (number_row row y q))
+  pub worked_to : (ps : List PointerView) → Rises s0 s1 l (λ row. number_row row x p) → Rises s1 s2 r (λ row. number_row row y q) → Rises s2 s3 c (λ row. worked_row code (Num any) (Num any) (row l) (row r))
+      → ValueTo s0 s3 ps (Num (number_arithmetic code signed w s x y)) c (λ row. worked_row code (Num y) (Num (number_arithmetic code signed w s x y)) (number_row row x p) (number_row row y q))
   worked_to ps left right made =
-      let all : Rises s0 s3 c (λ row. worked_row code (Num y) (Num Unknown) (number_row row x p) (number_row row y q)) =
-      rises_then (stand_more (stand_more stand_none left (λ row k. left_most (number_row row y q) (bit (is_late code (Num y) (Num Unknown))))) right (λ row k. right_most (number_row row x p) (bit (is_late code (Num y) (Num Unknown))))) made (λ row k. both_most k.0.1 k.1 (late_by code x y open_both)) in
-      rw (arithmetic_open code signed w x y open_both) (value_risen ps all (λ row. same_most))
+      let least : ℕ = lower (number_arithmetic code signed w s x y) in
+      let most : ℕ = upper (number_arithmetic code signed w s x y) in
+      let all : Rises s0 s3 c (λ row. worked_row code (Num y) (Num (Between least most)) (number_row row x p) (number_row row y q)) =
+      rises_then (stand_more (stand_more stand_none left (λ row k. left_most (number_row row y q) (bit (is_late code (Num y) (Num (Between least most)))))) right (λ row k. right_most (number_row row x p) (bit (is_late code (Num y) (Num (Between least most)))))) made (λ row k. both_most k.0.1 k.1 (late_by code x y least most open_both)) in
+      rw (arithmetic_open code signed w s x y open_both) (value_risen ps all (λ row. same_most))
 
 -- a shift by a known number
-pub shifted_to : {old new : List CellView} {c p : ℕ} (ps : List PointerView) (code : AluCode) (signed : Bool) (w : Width) (n q : ℕ) → Rises old new c (λ row. row p)
-    → ValueTo old new ps (Num (number_arithmetic code signed w Unknown (Known n))) c (λ row. worked_row code (Num (Known n)) (Num (number_arithmetic code signed w Unknown (Known n))) (number_row row Unknown p) (number_row row (Known n) q))
-shifted_to ps code signed w n q r = value_risen ps r (λ row. cell_left (bit (is_late code (Num (Known n)) (Num Unknown))))
+pub shifted_to : {old new : List CellView} {c p : ℕ} (ps : List PointerView) (code : AluCode) (signed : Bool) (w : Width) (s : Src) (lo hi n q : ℕ) → Rises old new c (λ row. row p)
+    → ValueTo old new ps (Num (number_arithmetic code signed w s (Between lo hi) (Known n))) c (λ row. worked_row code (Num (Known n)) (Num (number_arithmetic code signed w s (Between lo hi) (Known n))) (number_row row (Between lo hi) p) (number_row row (Known n) q))
+shifted_to ps code signed w s lo hi n q r = value_risen ps r (λ row. cell_left (bit (is_late code (Num (Known n)) (Num (number_arithmetic code signed w s (Between lo hi) (Known n))))))

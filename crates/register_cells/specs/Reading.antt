@@ -1,5 +1,5 @@
 -- What the cells of one instruction make of the values that it reads.
-use Rattle.std.specs.Prelude.{ℕ, pos, ◌≡◌, ◌<◌, ◌^◌, Option, Some, List, length}
+use Rattle.std.specs.Prelude.{ℕ, pos, ◌≡◌, ◌<◌, ◌^◌, Bool, true, false, Option, Some, List, length}
 use Rattle.cell_core.specs.xdp_maps.declared.decl.MapDecl.{MapDecl}
 use Rattle.cell_core.specs.xdp_machine.Values.{Value}
 use Rattle.cell_core.specs.xdp_machine.Values as is
@@ -26,6 +26,15 @@ pub record Finds (old new : List CellView) (x : Number) (c : ℕ) (is : PacketIn
 abbrev pub place_of : PacketIn → Kind → ℕ
 place_of packet (Packet o) = o
 place_of packet k = length packet.frame
+
+-- such a place is a number of 64 bits
+abbrev pub IsShort : Kind → Type 0
+IsShort k = (o : ℕ) → k ≡ Packet o → o < 2 ^ 64
+
+-- whether both are places in the packet that are known
+abbrev pub are_known : Kind → Kind → Bool
+are_known (Packet o) (Packet u) = true
+are_known a b = false
 
 -- What is known of a value that is read: a number is the known one or that of its cell, a place in the packet stands in the kind, and
 -- what a lookup answered is what cells hold.

@@ -1,13 +1,13 @@
 //! Operations on numbers, of which some are known.
 
-ghost use Rattle.std.specs.Prelude.{◌≡◌, ◌<◌, true, length, IfOk, List, max, ◌≤◌, ◌+◌, ◌⊎◌};
+ghost use Rattle.std.specs.Prelude.{◌≡◌, ◌<◌, true, ℕ, length, IfOk, List, max, ◌≤◌, ◌+◌, ◌⊎◌};
 ghost use Rattle.cell_core.specs.xdp_machine.Arithmetic.{bits_in, low, arithmetic, negated, extended, ordered};
 ghost use Rattle.cell_core.specs.xdp_machine.Memory.{bytes_in, number_at};
 ghost use Rattle.byteorder.specs.Endian.{little_bytes};
 ghost use Rattle.kind_core.specs.Numbers.{number_arithmetic, number_negated, number_extended, number_part, number_ordered};
 ghost use Rattle.cell_core.specs.Formed.{AreFormed};
 ghost use Rattle.operator_cells.specs.Making.{seen, Makes};
-ghost use Rattle.kind_core.specs.declared.number.Number.TheVariants.{Unknown};
+ghost use Rattle.kind_core.specs.NumberBounds.{any_number};
 ghost use Rattle.kind_core.specs.declared.kind.Kind.TheVariants.{Num};
 ghost use Rattle.operator_cells.specs.Rising.{Rises};
 ghost use Rattle.operator_cells.specs.HeldCells.RegisterCells.{PointerView, number_of, IsThere};
@@ -64,7 +64,7 @@ fn calculate(
     requires left { a < length (seen cells.old.items) }
     requires right { b < length (seen cells.old.items) }
     ensures makes { IfOk result (λ c. Makes (seen cells.old.items) (seen cells.new.items) c (λ packet v. arithmetic code signed (bits_in width) (low (bits_in width) (v a)) (low (bits_in width) (v b)))) }
-    ensures rises { IfOk result (λ c. Rises (seen cells.old.items) (seen cells.new.items) c (λ row. worked_row code (Num Unknown) (Num Unknown) (row a) (row b))) }
+    ensures rises { IfOk result (λ c. Rises (seen cells.old.items) (seen cells.new.items) c (λ row. worked_row code (Num (any_number 64)) (Num (any_number 64)) (row a) (row b))) }
 {
     match code {
         AluCode::Mov => cut(cells, width, b),
@@ -120,12 +120,12 @@ pub fn compute(
     requires formed { AreFormed (seen cells.old.items) }
     requires left { IsThere (length (seen cells.old.items)) x a }
     requires right { IsThere (length (seen cells.old.items)) y b }
-    ensures finds { IfOk result (λ c. Finds (seen cells.old.items) (seen cells.new.items) (number_arithmetic code signed width x y) c (λ packet v. arithmetic code signed (bits_in width) (low (bits_in width) (number_of v x a)) (low (bits_in width) (number_of v y b)))) }
-    ensures rows { (ps : List PointerView) → IfOk result (λ c. ValueTo (seen cells.old.items) (seen cells.new.items) ps (Num (number_arithmetic code signed width x y)) c (λ row. worked_row code (Num y) (Num (number_arithmetic code signed width x y)) (number_row row x a) (number_row row y b))) }
+    ensures finds { (s : Src) → IfOk result (λ c. Finds (seen cells.old.items) (seen cells.new.items) (number_arithmetic code signed width s x y) c (λ packet v. arithmetic code signed (bits_in width) (low (bits_in width) (number_of v x a)) (low (bits_in width) (number_of v y b)))) }
+    ensures rows { (s : Src) (ps : List PointerView) → IfOk result (λ c. ValueTo (seen cells.old.items) (seen cells.new.items) ps (Num (number_arithmetic code signed width s x y)) c (λ row. worked_row code (Num y) (Num (number_arithmetic code signed width s x y)) (number_row row x a) (number_row row y b))) }
 {
     match (x, y) {
         (Number::Known(_), Number::Known(_)) => Ok(0),
-        (Number::Unknown, Number::Known(n)) if is_shift(code) => {
+        (Number::Between(_, _), Number::Known(n)) if is_shift(code) => {
             let c = shift(cells, code, signed, width, a, n)?;
             Ok(c)
         }
@@ -147,7 +147,7 @@ pub fn negated(cells: &mut Vec<Cell>, width: Width, x: Number, a: u32) -> Result
 {
     match x {
         Number::Known(_) => Ok(0),
-        Number::Unknown => {
+        Number::Between(_, _) => {
             let c = negate(cells, width, a)?;
             Ok(c)
         }
@@ -170,7 +170,7 @@ pub fn extended(
 {
     match x {
         Number::Known(_) => Ok(0),
-        Number::Unknown => {
+        Number::Between(_, _) => {
             let c = extend(cells, width, count, a)?;
             Ok(c)
         }
@@ -192,7 +192,7 @@ pub fn parted(
 {
     match x {
         Number::Known(_) => Ok(0),
-        Number::Unknown => {
+        Number::Between(_, _) => {
             let c = part(cells, size, at, a)?;
             Ok(c)
         }
@@ -209,12 +209,12 @@ pub fn ordered(
 ) -> Result<u32, AllocError>
     requires there { IsThere (length (seen cells.old.items)) x a }
     requires bits { (bits ≡ 16) ⊎ ((bits ≡ 32) ⊎ (bits ≡ 64)) }
-    ensures finds { IfOk result (λ c. Finds (seen cells.old.items) (seen cells.new.items) (number_ordered end bits x) c (λ packet v. ordered end bits (number_of v x a))) }
-    ensures rows { (ps : List PointerView) → IfOk result (λ c. ValueTo (seen cells.old.items) (seen cells.new.items) ps (Num (number_ordered end bits x)) c (λ row. number_row row x a)) }
+    ensures finds { (most : ℕ) → IfOk result (λ c. Finds (seen cells.old.items) (seen cells.new.items) (number_ordered most end bits x) c (λ packet v. ordered end bits (number_of v x a))) }
+    ensures rows { (most : ℕ) (ps : List PointerView) → IfOk result (λ c. ValueTo (seen cells.old.items) (seen cells.new.items) ps (Num (number_ordered most end bits x)) c (λ row. number_row row x a)) }
 {
     match x {
         Number::Known(_) => Ok(0),
-        Number::Unknown => {
+        Number::Between(_, _) => {
             let c = order(cells, end, bits, a)?;
             Ok(c)
         }

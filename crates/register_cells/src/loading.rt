@@ -31,6 +31,7 @@ use cell_core::cell::Cell;
 use cell_core::operator::Operator;
 use cell_core::xdp_state::bpf_isa::{Insn, Op, Size, Width};
 use cell_core::xdp_state::memory::{aligned, bytes_in, inside};
+use kind_core::number::any_bytes;
 use kind_core::{Kind, Kinds, Number};
 use operator_cells::cells::{constant, operate};
 use operator_cells::held_cells::machine_cells::RegisterCells;
@@ -46,7 +47,7 @@ pub(crate) fn whole(cells: &mut Vec<Cell>, kind: Kind, p: u32) -> Result<u32, Al
     ensures points { IfOk result (λ c. MovesPointer kind p kind c) }
 {
     match kind {
-        Kind::Num(Number::Unknown) => {
+        Kind::Num(Number::Between(_, _)) => {
             let c = copy(cells, p)?;
             Ok(c)
         }
@@ -223,7 +224,7 @@ fn signed(cells: &mut Vec<Cell>, size: Size, kind: Kind, p: u32) -> Result<u32, 
     ensures rows { (ps : List PointerView) (n : Number) → kind ≡ kind_is.Num n → IfOk result (λ c. ValueTo (seen cells.old.items) (seen cells.new.items) ps (kind_is.Num (number_extended Width.Bits64 (8 * bytes_in size) n)) c (λ row. number_row row n p)) }
 {
     match kind {
-        Kind::Num(Number::Unknown) => {
+        Kind::Num(Number::Between(_, _)) => {
             let c = extend(cells, Width::Bits64, 8 * bytes_in(size) as u32, p)?;
             Ok(c)
         }
@@ -273,7 +274,7 @@ fn signed_from_packet(
     match packet_at(o, offset, size) {
         Some(at) => {
             let p = join_bytes(cells, &held.window[at..at + bytes_in(size)])?;
-            let c = signed(cells, size, Kind::Num(Number::Unknown), p)?;
+            let c = signed(cells, size, Kind::Num(any_bytes(size)), p)?;
             Ok(c)
         }
         None => Ok(0),

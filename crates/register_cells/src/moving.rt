@@ -2,6 +2,7 @@
 
 ghost use Rattle.std.specs.Prelude.{◌≡◌, ◌<◌, ◌≤◌, ◌+◌, ◌-◌, ◌^◌, ◌⊎◌, length, ℕ, pos, List, Some, Ok, IfOk, unsigned_abs};
 ghost use Rattle.std.specs.Ordering.{int_eq};
+ghost use Rattle.cell_core.specs.bpf_isa.declared.operation.Src.{Src};
 ghost use Rattle.cell_core.specs.xdp_maps.declared.decl.MapDecl.{MapDecl};
 ghost use Rattle.cell_core.specs.xdp_machine.Arithmetic.{low};
 ghost use Rattle.cell_core.specs.xdp_machine.Pointers as machine;
@@ -14,7 +15,7 @@ ghost use Rattle.operator_cells.specs.Making.{seen, Makes};
 ghost use Rattle.operator_cells.specs.Rising.{Rises};
 ghost use Rattle.operator_cells.specs.HeldCells.RegisterCells.{PointerView, Counts};
 ghost use Rattle.operator_cells.specs.HeldCells.Rows.{value_row};
-ghost use Rattle.register_cells.specs.Reading.{HasNumber, Yields, place_of};
+ghost use Rattle.register_cells.specs.Reading.{HasNumber, Yields, place_of, IsShort, are_known};
 ghost use Rattle.register_cells.specs.Combining.{worked_row, combined_row};
 ghost use Rattle.register_cells.specs.Rows.{ValueTo};
 ghost use Rattle.register_cells.specs.Pointing.{MovesPointer, MovesEither};
@@ -34,6 +35,7 @@ use std::alloc::AllocError;
 fn place(cells: &mut Vec<Cell>, kind: Kind) -> Result<u32, AllocError>
     ensures makes { IfOk result (λ c. Makes (seen cells.old.items) (seen cells.new.items) c (λ packet v. low 64 (place_of packet kind))) }
     ensures rises { IfOk result (λ c. Rises (seen cells.old.items) (seen cells.new.items) c (λ row. 0)) }
+    ensures small { IfOk result (λ c. IsShort kind) }
 {
     match kind {
         Kind::Packet(o) => {
@@ -52,6 +54,7 @@ fn distance(cells: &mut Vec<Cell>, a: Kind, b: Kind) -> Result<u32, AllocError>
     requires formed { AreFormed (seen cells.old.items) }
     ensures makes { IfOk result (λ c. Makes (seen cells.old.items) (seen cells.new.items) c (λ packet v. low 64 (low 64 (place_of packet a) + (2 ^ 64 - low 64 (place_of packet b))))) }
     ensures rises { IfOk result (λ c. Rises (seen cells.old.items) (seen cells.new.items) c (λ row. 1)) }
+    ensures small { IfOk result (λ c. IsShort a × IsShort b) }
 {
     let to = place(cells, a)?;
     let from = place(cells, b)?;
@@ -80,6 +83,13 @@ fn sum(cells: &mut Vec<Cell>, a: Kind, p: u32, b: Kind, q: u32) -> Result<u32, A
     }
 }
 
+// Whether both are places in the packet that are known.
+fn are_known(a: Kind, b: Kind) -> bool
+    ensures { result ≡ are_known a b }
+{
+    matches!((a, b), (Kind::Packet(_), Kind::Packet(_)))
+}
+
 // SUB of 64 bits: the distance of two places that are known has no cell.
 fn difference(cells: &mut Vec<Cell>, a: Kind, p: u32, b: Kind, q: u32) -> Result<u32, AllocError>
     requires formed { AreFormed (seen cells.old.items) }
@@ -89,13 +99,15 @@ fn difference(cells: &mut Vec<Cell>, a: Kind, p: u32, b: Kind, q: u32) -> Result
     ensures rows { (decls : List MapDecl) (ps : List PointerView) → IfOk (kind.difference decls a b) (λ x. IfOk result (λ c. ValueTo (seen cells.old.items) (seen cells.new.items) ps x c (λ row. worked_row alu.Sub b x (value_row row ps a p) (value_row row ps b q)))) }
     ensures points { (decls : List MapDecl) → IfOk (kind.difference decls a b) (λ x. IfOk result (λ c. MovesPointer a p x c)) }
 {
-    match (a, b) {
-        (Kind::Num(x), Kind::Num(y)) => {
-            let c = compute(cells, AluCode::Sub, false, Width::Bits64, x, p, y, q)?;
-            Ok(c)
-        }
-        (_, Kind::Num(_)) => Ok(p),
-        (Kind::Packet(_), Kind::Packet(_)) => Ok(0),
+    match b {
+        Kind::Num(y) => match a {
+            Kind::Num(x) => {
+                let c = compute(cells, AluCode::Sub, false, Width::Bits64, x, p, y, q)?;
+                Ok(c)
+            }
+            _ => Ok(p),
+        },
+        _ if are_known(a, b) => Ok(0),
         _ => {
             let c = distance(cells, a, b)?;
             Ok(c)
@@ -119,7 +131,7 @@ fn copied(
     ensures points { IfOk (kind.copied width count b) (λ x. IfOk result (λ c. MovesPointer b q x c)) }
 {
     match b {
-        Kind::Num(Number::Unknown) if width == Width::Bits64 && count == 0 => {
+        Kind::Num(Number::Between(_, _)) if width == Width::Bits64 && count == 0 => {
             let c = copy(cells, q)?;
             Ok(c)
         }
@@ -145,8 +157,8 @@ fn computed(
     requires formed { AreFormed (seen cells.old.items) }
     requires left { HasNumber (length (seen cells.old.items)) a p }
     requires right { HasNumber (length (seen cells.old.items)) b q }
-    ensures yields { (decls : List MapDecl) (ps : List PointerView) → IfOk (kind.computed width code signed a b) (λ x. IfOk result (λ c. Yields decls ps a p b q (seen cells.old.items) (seen cells.new.items) x c (λ s t. machine.computed width code signed s t))) }
-    ensures rows { (ps : List PointerView) → IfOk (kind.computed width code signed a b) (λ x. IfOk result (λ c. ValueTo (seen cells.old.items) (seen cells.new.items) ps x c (λ row. worked_row code b x (value_row row ps a p) (value_row row ps b q)))) }
+    ensures yields { (s : Src) (decls : List MapDecl) (ps : List PointerView) → IfOk (kind.computed width code signed s a b) (λ x. IfOk result (λ c. Yields decls ps a p b q (seen cells.old.items) (seen cells.new.items) x c (λ u t. machine.computed width code signed u t))) }
+    ensures rows { (s : Src) (ps : List PointerView) → IfOk (kind.computed width code signed s a b) (λ x. IfOk result (λ c. ValueTo (seen cells.old.items) (seen cells.new.items) ps x c (λ row. worked_row code b x (value_row row ps a p) (value_row row ps b q)))) }
 {
     match a {
         Kind::Num(x) => match b {
@@ -182,9 +194,9 @@ pub fn combined(
     requires left { HasNumber (length (seen cells.old.items)) a p }
     requires right { HasNumber (length (seen cells.old.items)) b q }
     requires offset { unsigned_abs offset ≤ 32 }
-    ensures yields { (decls : List MapDecl) (ps : List PointerView) → Counts decls (length (seen cells.old.items)) ps a p → Counts decls (length (seen cells.old.items)) ps b q → IfOk (kind.combined decls width code offset a b) (λ x. IfOk result (λ c. Yields decls ps a p b q (seen cells.old.items) (seen cells.new.items) x c (λ s t. machine.combined width code offset s t))) }
-    ensures rows { (decls : List MapDecl) (ps : List PointerView) → IfOk (kind.combined decls width code offset a b) (λ x. IfOk result (λ c. ValueTo (seen cells.old.items) (seen cells.new.items) ps x c (λ row. combined_row code b x (value_row row ps a p) (value_row row ps b q)))) }
-    ensures points { (decls : List MapDecl) → IfOk (kind.combined decls width code offset a b) (λ x. IfOk result (λ c. MovesEither a p b q x c)) }
+    ensures yields { (s : Src) (decls : List MapDecl) (ps : List PointerView) → Counts decls (length (seen cells.old.items)) ps a p → Counts decls (length (seen cells.old.items)) ps b q → IfOk (kind.combined decls width code offset s a b) (λ x. IfOk result (λ c. Yields decls ps a p b q (seen cells.old.items) (seen cells.new.items) x c (λ u t. machine.combined width code offset u t))) }
+    ensures rows { (s : Src) (decls : List MapDecl) (ps : List PointerView) → IfOk (kind.combined decls width code offset s a b) (λ x. IfOk result (λ c. ValueTo (seen cells.old.items) (seen cells.new.items) ps x c (λ row. combined_row code b x (value_row row ps a p) (value_row row ps b q)))) }
+    ensures points { (s : Src) (decls : List MapDecl) → IfOk (kind.combined decls width code offset s a b) (λ x. IfOk result (λ c. MovesEither a p b q x c)) }
 {
     let signed = is_signed(offset);
     match code {

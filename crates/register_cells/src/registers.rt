@@ -107,8 +107,8 @@ fn order(
     requires bits { Allows SwapBits insn.now.imm }
     requires formed { AreFormed (seen cells.old.items) }
     requires inside { (decls : List MapDecl) × (ps : List PointerView) × AreInside decls (length (seen cells.old.items)) ps held.now kinds.now }
-    ensures gives { (decls : List MapDecl) (ps : List PointerView) (node : ℕ) → IfOk (renumbered kinds.now insn.now (number_ordered end (unsigned_abs insn.now.imm))) (λ x. IfOk result (λ c. Gives decls ps node kinds.now held.now (seen cells.old.items) (seen cells.new.items) x c (λ m. given_number m insn.now (ordered end (unsigned_abs insn.now.imm))))) }
-    ensures rows { (ps : List PointerView) → IfOk (renumbered kinds.now insn.now (number_ordered end (unsigned_abs insn.now.imm))) (λ x. IfOk result (λ c. ValueTo (seen cells.old.items) (seen cells.new.items) ps x c (λ row. held_row row ps held.now kinds.now insn.now.dst))) }
+    ensures gives { (most : ℕ) (decls : List MapDecl) (ps : List PointerView) (node : ℕ) → IfOk (renumbered kinds.now insn.now (number_ordered most end (unsigned_abs insn.now.imm))) (λ x. IfOk result (λ c. Gives decls ps node kinds.now held.now (seen cells.old.items) (seen cells.new.items) x c (λ m. given_number m insn.now (ordered end (unsigned_abs insn.now.imm))))) }
+    ensures rows { (most : ℕ) (ps : List PointerView) → IfOk (renumbered kinds.now insn.now (number_ordered most end (unsigned_abs insn.now.imm))) (λ x. IfOk result (λ c. ValueTo (seen cells.old.items) (seen cells.new.items) ps x c (λ row. held_row row ps held.now kinds.now insn.now.dst))) }
 {
     match kinds.registers[insn.dst as usize] {
         Kind::Num(x) => {

@@ -38,8 +38,9 @@ use crate::registers::operand;
 use crate::sizes::are_whole;
 use cell_core::cell::Cell;
 use cell_core::operator::Operator;
-use cell_core::xdp_state::bpf_isa::{Insn, Op, Size, Src};
+use cell_core::xdp_state::bpf_isa::{Insn, Op, Size, Src, Width};
 use cell_core::xdp_state::memory::bytes_in;
+use kind_core::number::any;
 use kind_core::{Kind, Kinds, Number};
 use operator_cells::cells::{constant, operate};
 use operator_cells::held_cells::machine_cells::{Pointer, RegisterCells};
@@ -106,7 +107,7 @@ fn underlying(kind: Kind) -> Number
 {
     match kind {
         Kind::Num(n) => n,
-        Kind::Unset => Number::Unknown,
+        Kind::Unset => any(Width::Bits64),
         _ => Number::Known(0),
     }
 }

@@ -4,7 +4,7 @@ use Rattle.std.specs.List.{list_any}
 use Rattle.cell_core.specs.bpf_isa.declared.instruction.Insn.{Insn}
 use Rattle.cell_core.specs.xdp_maps.declared.decl.MapDecl.{MapDecl}
 use Rattle.kind_core.proofs.xdp_machine_laws.ChangeLaws.{some_inj}
-use Rattle.kind_core.specs.declared.number.Number.TheVariants.{Unknown}
+use Rattle.kind_core.specs.declared.number.Number.TheVariants.{Between}
 use Rattle.kind_core.specs.declared.kind.Kind.{Kind}
 use Rattle.kind_core.specs.declared.kind.Kind.TheVariants.{Num, Entry}
 use Rattle.kind_core.specs.declared.kind.Kinds.{Kinds}
@@ -56,16 +56,16 @@ module _ (decls : List MapDecl) (i : Insn) (here : Here) (k : Kinds) (h : Regist
   is_there p e = subst (λ (n : ℕ). n < length decls) (some_inj q p (sym used ∙ e)) there
 
   -- a register gets what is read
-  pub answer_rows : (after : Kinds) (old new : List CellView) (sites sites2 : List SiteView) (r answer : ℕ) → r ≤ 10 → length k.registers ≡ 11 → length h.registers ≡ 11 → after ≡ with_register k r (Num Unknown)
-      → register after r ≡ Num Unknown → writes_as k i i.op ≡ one r ∷ no_place ∷ [] → Rises old new answer (λ row. result_row (before row) decls k after i)
+  pub answer_rows : {lo hi : ℕ} (after : Kinds) (old new : List CellView) (sites sites2 : List SiteView) (r answer : ℕ) → r ≤ 10 → length k.registers ≡ 11 → length h.registers ≡ 11 → after ≡ with_register k r (Num (Between lo hi))
+      → register after r ≡ Num (Between lo hi) → writes_as k i i.op ≡ one r ∷ no_place ∷ [] → Rises old new answer (λ row. result_row (before row) decls k after i)
       → ((row : ℕ → ℕ) → AreRows new row → WriteWithin (record_as decls k i i.op) old new sites sites2 row (write_last row after))
       → OperatesTo decls i here.pending k h after (put_register h r answer) old new ps ps sites sites2
-  answer_rows after old new sites sites2 r answer small ks hs becomes is writes rises within =
-      let opened : list_any (is_open_in after) (writes_as k i i.op) ≡ true = ap (list_any (is_open_in after)) writes ∙ open_register after (Num Unknown) r small is refl in
+  answer_rows {lo} {hi} after old new sites sites2 r answer small ks hs becomes is writes rises within =
+      let opened : list_any (is_open_in after) (writes_as k i i.op) ≡ true = ap (list_any (is_open_in after)) writes ∙ open_register after (Num (Between lo hi)) r small is refl in
       let made : (ℕ → ℕ) → ℕ = λ row. made_row (before row) decls k after i in
       let result : (ℕ → ℕ) → ℕ = λ row. result_row (before row) decls k after i in
-      let own : (row : ℕ → ℕ) → AreRows new row → value_row row ps (Num Unknown) answer ≤ result row = λ row rows. omega (arith, rises.result row rows) in
-      let leaves = shed_leaves ps ps h k (with_register k r (Num Unknown)) r answer (Num Unknown) (map_used k i i.op) here.pending old new made result (written_sheds k r (Num Unknown) small ks) small hs (λ row place. omega arith) (grows_by rises.grows (λ row. made_result (before row) decls k after i opened)) own in
+      let own : (row : ℕ → ℕ) → AreRows new row → value_row row ps (Num (Between lo hi)) answer ≤ result row = λ row rows. omega (arith, rises.result row rows) in
+      let leaves = shed_leaves ps ps h k (with_register k r (Num (Between lo hi))) r answer (Num (Between lo hi)) (map_used k i i.op) here.pending old new made result (written_sheds k r (Num (Between lo hi)) small ks) small hs (λ row place. omega arith) (grows_by rises.grows (λ row. made_result (before row) decls k after i opened)) own in
       record {
         carries = subst (λ (ws : List Span). LeavesTo before ps h after (put_register h r answer) old new ws made result) (sym writes)
             (subst (λ (x : Kinds). LeavesTo before ps h x (put_register h r answer) old new (one r ∷ no_place ∷ []) made result) (sym becomes) leaves);

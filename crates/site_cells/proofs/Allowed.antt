@@ -4,7 +4,7 @@ use Rattle.std.proofs.lemmas.Bool.Decides.{nat_tests}
 use Rattle.cell_core.specs.bpf_isa.declared.operation.Size.{Size}
 use Rattle.cell_core.specs.bpf_isa.declared.operation.Op.TheVariants.{Call, Load, LoadSigned, Atomic}
 use Rattle.cell_core.specs.bpf_isa.declared.operation.Width.TheVariants.{Bits64}
-use Rattle.kind_core.specs.Numbers.{number_extended}
+use Rattle.kind_core.specs.Numbers.{any_bytes, number_extended}
 use Rattle.cell_core.specs.bpf_isa.declared.instruction.Insn.{Insn}
 use Rattle.cell_core.specs.bpf_isa.declared.helper.Helper.{Helper}
 use Rattle.cell_core.specs.bpf_isa.declared.helper.Helper.TheVariants.{Lookup, Update, Delete}
@@ -12,7 +12,7 @@ use Rattle.cell_core.specs.bpf_isa.Helpers.{helper_of}
 use Rattle.cell_core.specs.xdp_maps.declared.decl.MapDecl.{MapDecl}
 use Rattle.cell_core.specs.xdp_machine.Memory.{bytes_in}
 use Rattle.kind_core.specs.declared.number.Number.{Number}
-use Rattle.kind_core.specs.declared.number.Number.TheVariants.{Unknown}
+use Rattle.kind_core.specs.NumberBounds.{any_number}
 use Rattle.kind_core.specs.declared.kind.Kind.{Kind}
 use Rattle.kind_core.specs.declared.kind.Kind.TheVariants.{Num, MapRef, Maybe, Entry}
 use Rattle.kind_core.specs.declared.kind.Kinds.{Kinds}
@@ -82,24 +82,24 @@ lookup_allowed decls k i op helper allowed =
 -- ---- loads
 
 -- what is found in an entry
-entry_kind : (decls : List MapDecl) (k : Kinds) (q o : ℕ) (z : ℤ) (size : Size) → IfOk (access.loaded decls k (Entry q o) z size) (λ x. (Num Unknown ≡ x) × IsInPlace decls q (pos o +ℤ z) size)
+entry_kind : (decls : List MapDecl) (k : Kinds) (q o : ℕ) (z : ℤ) (size : Size) → IfOk (access.loaded decls k (Entry q o) z size) (λ x. (Num (any_bytes size) ≡ x) × IsInPlace decls q (pos o +ℤ z) size)
 unfolding access.loaded
 entry_kind decls k q o z size = by (tests.aligned (pos o +ℤ z) (bytes_in size) (value_bytes decls q)) refl
   where
-    by : (t : Result ℕ Why) → tests.aligned (pos o +ℤ z) (bytes_in size) (value_bytes decls q) ≡ t → IfOk (places.in_value decls q (pos o +ℤ z) size >>= (λ place. access.found k.slots size place)) (λ x. (Num Unknown ≡ x) × IsInPlace decls q (pos o +ℤ z) size)
+    by : (t : Result ℕ Why) → tests.aligned (pos o +ℤ z) (bytes_in size) (value_bytes decls q) ≡ t → IfOk (places.in_value decls q (pos o +ℤ z) size >>= (λ place. access.found k.slots size place)) (λ x. (Num (any_bytes size) ≡ x) × IsInPlace decls q (pos o +ℤ z) size)
     by (Ok a) e = rw e (refl, record { place = a; at = aligned_too (pos o +ℤ z) (bytes_in size) (value_bytes decls q) a e })
     by (Err w) e = rw e tt
 
 -- where it is allowed it is in its place, and the destination gets a number
 pub load_allowed : (decls : List MapDecl) (k : Kinds) (i : Insn) (size : Size) (q o : ℕ) → i.op ≡ Load size → kinds.register k i.src ≡ Entry q o → verdict (effect_of decls k i) ≡ passed
-    → IsInPlace decls q (pos o +ℤ i.offset) size × ((node : ℕ) (is_ref taken : Bool) → transferred decls k i node is_ref taken ≡ with_register k i.dst (Num Unknown))
+    → IsInPlace decls q (pos o +ℤ i.offset) size × ((node : ℕ) (is_ref taken : Bool) → transferred decls k i node is_ref taken ≡ with_register k i.dst (Num (any_bytes size)))
 unfolding effect_of access.loaded_plain
 load_allowed decls k i size q o op base allowed =
     let e = ok (effect_of decls k i) allowed in
     let b = bind_passed (profile.profiled i k) (λ u. effect_as decls k i i.op) e.0 e.1 in
     let r = bind_passed (access.loaded_plain decls k (kinds.register k i.src) i.offset size) _ e.0 (sym (ap (effect_as decls k i) op) ∙ b.2) in
     let l : access.loaded decls k (Entry q o) i.offset size ≡ Ok r.0 = sym (ap (λ (x : Kind). access.loaded_plain decls k x i.offset size) base) ∙ r.1 in
-    let found = subst (λ (w : Result Kind Why). IfOk w (λ x. (Num Unknown ≡ x) × IsInPlace decls q (pos o +ℤ i.offset) size)) l (entry_kind decls k q o i.offset size) in
+    let found = subst (λ (w : Result Kind Why). IfOk w (λ x. (Num (any_bytes size) ≡ x) × IsInPlace decls q (pos o +ℤ i.offset) size)) l (entry_kind decls k q o i.offset size) in
     (found.1, λ node is_ref taken. ap (changed_if node is_ref taken k) (e.1 ∙ sym r.2) ∙ ap (with_register k i.dst) (sym found.0))
   where
     ok : (r : _) → verdict r ≡ passed → (e : _) × (r ≡ Ok e)
@@ -108,15 +108,15 @@ load_allowed decls k i size q o op base allowed =
 
 -- the same where the sign is extended
 pub signed_allowed : (decls : List MapDecl) (k : Kinds) (i : Insn) (size : Size) (q o : ℕ) → i.op ≡ LoadSigned size → kinds.register k i.src ≡ Entry q o → verdict (effect_of decls k i) ≡ passed
-    → IsInPlace decls q (pos o +ℤ i.offset) size × ((node : ℕ) (is_ref taken : Bool) → transferred decls k i node is_ref taken ≡ with_register k i.dst (Num Unknown))
+    → IsInPlace decls q (pos o +ℤ i.offset) size × ((node : ℕ) (is_ref taken : Bool) → transferred decls k i node is_ref taken ≡ with_register k i.dst (Num (number_extended Bits64 (8 * bytes_in size) (any_bytes size))))
 unfolding effect_of access.loaded_signed
 signed_allowed decls k i size q o op base allowed =
     let e = ok (effect_of decls k i) allowed in
     let b = bind_passed (profile.profiled i k) (λ u. effect_as decls k i i.op) e.0 e.1 in
     let r = bind_passed (access.loaded_signed decls k (kinds.register k i.src) i.offset size) _ e.0 (sym (ap (effect_as decls k i) op) ∙ b.2) in
     let l = bind_passed (access.loaded decls k (Entry q o) i.offset size) _ r.0 (sym (ap (λ (x : Kind). access.loaded_signed decls k x i.offset size) base) ∙ r.1) in
-    let found = subst (λ (w : Result Kind Why). IfOk w (λ x. (Num Unknown ≡ x) × IsInPlace decls q (pos o +ℤ i.offset) size)) l.1 (entry_kind decls k q o i.offset size) in
-    let same : Ok (Num Unknown) ≡ Ok r.0 = ap (λ (x : Kind). tests.number_in x >>= (λ n. Ok (Num (number_extended Bits64 (8 * bytes_in size) n)))) found.0 ∙ l.2 in
+    let found = subst (λ (w : Result Kind Why). IfOk w (λ x. (Num (any_bytes size) ≡ x) × IsInPlace decls q (pos o +ℤ i.offset) size)) l.1 (entry_kind decls k q o i.offset size) in
+    let same : Ok (Num (number_extended Bits64 (8 * bytes_in size) (any_bytes size))) ≡ Ok r.0 = ap (λ (x : Kind). tests.number_in x >>= (λ n. Ok (Num (number_extended Bits64 (8 * bytes_in size) n)))) found.0 ∙ l.2 in
     (found.1, λ node is_ref taken. ap (changed_if node is_ref taken k) (e.1 ∙ sym r.2) ∙ ap (with_register k i.dst) (sym (ok_same same)))
   where
     ok : (r : _) → verdict r ≡ passed → (e : _) × (r ≡ Ok e)
@@ -207,7 +207,7 @@ pub record AtomicAllowed (decls : List MapDecl) (k : Kinds) (i : Insn) (size : S
   pub source : kinds.register k i.src ≡ Num number
   pub compared : compares i ≡ true → (r : Number) × (kinds.register k 0 ≡ Num r)
   pub placed : IsInPlace decls q (pos o +ℤ i.offset) size
-  pub taken : (node : ℕ) (is_ref edge : Bool) (r : ℕ) → taken_by i ≡ Some r → transferred decls k i node is_ref edge ≡ with_register k r (Num Unknown)
+  pub taken : (node : ℕ) (is_ref edge : Bool) (r : ℕ) → taken_by i ≡ Some r → transferred decls k i node is_ref edge ≡ with_register k r (Num (any_number 64))
   pub not_taken : (node : ℕ) (is_ref edge : Bool) → taken_by i ≡ None → transferred decls k i node is_ref edge ≡ k
 
 numbers_asked : (i : Insn) (y : Kind) (b : Bool) (z : Kind)
@@ -254,12 +254,12 @@ atomic_allowed decls k i size q o op base allowed =
     ok (Ok e) h = (e, refl)
     ok (Err w) h = absurd (cc)
 
-    kinds_taken : (node : ℕ) (is_ref edge : Bool) (r : ℕ) → taken_by i ≡ Some r → changed node is_ref edge k (access.taking i) ≡ with_register k r (Num Unknown)
+    kinds_taken : (node : ℕ) (is_ref edge : Bool) (r : ℕ) → taken_by i ≡ Some r → changed node is_ref edge k (access.taking i) ≡ with_register k r (Num (any_number 64))
     kinds_taken node is_ref edge r to = by (compares i) (fetches (code_of i)) refl refl to
       where
-        by : (b f : Bool) → compares i ≡ b → fetches (code_of i) ≡ f → (if b then Some 0 else (if f then Some i.src else None)) ≡ Some r → changed node is_ref edge k (access.taking i) ≡ with_register k r (Num Unknown)
-        by true f eb ef h = rw eb (ap (λ (j : ℕ). with_register k j (Num Unknown)) (some_inj 0 r h))
-        by false true eb ef h = rw (eb, ef) (ap (λ (j : ℕ). with_register k j (Num Unknown)) (some_inj i.src r h))
+        by : (b f : Bool) → compares i ≡ b → fetches (code_of i) ≡ f → (if b then Some 0 else (if f then Some i.src else None)) ≡ Some r → changed node is_ref edge k (access.taking i) ≡ with_register k r (Num (any_number 64))
+        by true f eb ef h = rw eb (ap (λ (j : ℕ). with_register k j (Num (any_number 64))) (some_inj 0 r h))
+        by false true eb ef h = rw (eb, ef) (ap (λ (j : ℕ). with_register k j (Num (any_number 64))) (some_inj i.src r h))
         by false false eb ef h = absurd (cc)
 
     kinds_kept : (node : ℕ) (is_ref edge : Bool) → taken_by i ≡ None → changed node is_ref edge k (access.taking i) ≡ k

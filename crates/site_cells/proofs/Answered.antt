@@ -6,9 +6,9 @@ use Rattle.cell_core.specs.xdp_machine.Values.{Value}
 use Rattle.cell_core.specs.xdp_machine.Values as is
 use Rattle.cell_core.specs.xdp_machine.State.{Machine, PacketIn}
 use Rattle.cell_core.specs.xdp_machine.Helpers as helpers
-use Rattle.kind_core.specs.declared.number.Number.TheVariants.{Known, Unknown}
+use Rattle.kind_core.specs.declared.number.Number.TheVariants.{Known, Between}
 use Rattle.kind_core.specs.declared.kind.Kind.{Kind}
-use Rattle.kind_core.specs.declared.kind.Kind.TheVariants.{Unset, Num, Maybe, Entry}
+use Rattle.kind_core.specs.declared.kind.Kind.TheVariants.{Unset, Num, Var, Maybe, Entry}
 use Rattle.kind_core.specs.declared.kind.Kinds.{Kinds}
 use Rattle.kind_core.specs.Kinds.{answering}
 use Rattle.operator_cells.specs.declared.held_cells.machine_cells.RegisterCells.{RegisterCells}
@@ -20,18 +20,20 @@ use Rattle.site_cells.proofs.Adding.{old_pointer}
 -- ---- more pointers
 
 pub counts_among : (decls : List MapDecl) (n m : ℕ) (ps more : List PointerView) (x : Kind) (c : ℕ) → n ≤ m → Counts decls n ps x c → Counts decls m (ps ++ more) x c
-counts_among decls n m ps more (Num Unknown) c l h = omega (arith, l, h)
+counts_among decls n m ps more (Num (Between lo hi)) c l h = omega (arith, l, h)
 counts_among decls n m ps more (Num (Known a)) c l h = tt
 counts_among decls n m ps more (Maybe q j) c l h =
     (omega (arith, h.0, length-append ps more), subst (IsPointer decls m q) (sym (old_pointer ps more c h.0)) (pointer_later decls n m q _ l h.1))
 counts_among decls n m ps more (Entry q o) c l h =
     (omega (arith, h.0, length-append ps more), subst (IsPointer decls m q) (sym (old_pointer ps more c h.0)) (pointer_later decls n m q _ l h.1))
+counts_among decls n m ps more (Var b f) c l h = h
 counts_among decls n m ps more x c l h = tt
 
 pub holds_among : (decls : List MapDecl) (n : ℕ) (v : ℕ → ℕ) (ps more : List PointerView) (x : Kind) (c : ℕ) (y : Value) → Counts decls n ps x c → Holds decls v ps x c y → Holds decls v (ps ++ more) x c y
-holds_among decls n v ps more (Num Unknown) c y h e = e
+holds_among decls n v ps more (Num (Between lo hi)) c y h e = e
 holds_among decls n v ps more (Maybe q j) c y h e = e ∙ ap (entry_or_null decls v q) (sym (old_pointer ps more c h.0))
 holds_among decls n v ps more (Entry q o) c y h e = subst (λ (p : PointerView). (on (v p.found) ≡ true) × (y ≡ is.Entry q (key_of decls v q p) (pos o))) (sym (old_pointer ps more c h.0)) e
+holds_among decls n v ps more (Var b f) c y h e = e
 holds_among decls n v ps more x c y h e = tt
 
 pub inside_among : (decls : List MapDecl) (n m : ℕ) (ps more : List PointerView) (h : RegisterCells) (k : Kinds) → n ≤ m → AreInside decls n ps h k → AreInside decls m (ps ++ more) h k
@@ -40,6 +42,7 @@ inside_among decls n m ps more h k l i = record {
   slots = λ r s. counts_among decls n m ps more _ _ l (i.slots r s);
   window = λ j s. omega (arith, l, i.window j s);
   target = omega (arith, l, i.target);
+  offsets = i.offsets;
 }
 
 pub held_among : (decls : List MapDecl) (packet : PacketIn) (n : ℕ) (v : ℕ → ℕ) (ps more : List PointerView) (h : RegisterCells) (k : Kinds) (m : Machine) → AreInside decls n ps h k → AreHeld decls packet v ps h k m
@@ -79,6 +82,7 @@ answered_inside decls n ps h k x c whole i one = record {
   slots = i.slots;
   window = i.window;
   target = i.target;
+  offsets = i.offsets;
 }
 
 pub answered_held : (decls : List MapDecl) (packet : PacketIn) (v : ℕ → ℕ) (ps : List PointerView) (h : RegisterCells) (k : Kinds) (m : Machine) (x : Kind) (c : ℕ) (y : Value) → length h.registers ≡ 11

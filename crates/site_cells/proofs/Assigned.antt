@@ -35,6 +35,7 @@ assigned_inside decls n ps h k i c x l ks hs inside one = record {
   slots = inside.slots;
   window = inside.window;
   target = inside.target;
+  offsets = inside.offsets;
 }
 
 pub assigned_held : (decls : List MapDecl) (packet : PacketIn) (v : ℕ → ℕ) (ps : List PointerView) (h : RegisterCells) (k : Kinds) (m : Machine) (i c : ℕ) (x : Kind) (y : Value) → i ≤ 10

@@ -8,7 +8,7 @@ use Rattle.cell_core.specs.bpf_isa.declared.instruction.Insn.{Insn}
 use Rattle.cell_core.specs.xdp_maps.declared.decl.MapDecl.{MapDecl}
 use Rattle.cell_core.specs.xdp_machine.Atomics.{fetches}
 use Rattle.kind_core.proofs.xdp_machine_laws.ChangeLaws.{some_inj}
-use Rattle.kind_core.specs.declared.number.Number.TheVariants.{Unknown}
+use Rattle.kind_core.specs.NumberBounds.{any_number}
 use Rattle.kind_core.specs.declared.kind.Kind.{Kind}
 use Rattle.kind_core.specs.declared.kind.Kind.TheVariants.{Unset, Num, Entry}
 use Rattle.kind_core.specs.declared.kind.Kinds.{Kinds}
@@ -120,7 +120,7 @@ module _ (decls : List MapDecl) (i : Insn) (here : Here) (is_ref : Bool) (k : Ki
   taken_rows r answer width small to ks hs reads =
       let last : (ℕ → ℕ) → ℕ = λ row. result_row (before row) decls k after i in
       let becomes = allowed.taken here.node is_ref false r to in
-      let is : register after r ≡ Num Unknown = ap (λ (x : Kinds). register x r) becomes ∙ get_or-set_same k.registers r (Num Unknown) Unset (omega (arith, small, ks)) in
+      let is : register after r ≡ Num (any_number 64) = ap (λ (x : Kinds). register x r) becomes ∙ get_or-set_same k.registers r (Num (any_number 64)) Unset (omega (arith, small, ks)) in
       let writes : writes_as k i i.op ≡ one r ∷ no_place ∷ [] = ap (writes_as k i) op ∙ ap (λ (x : Span). x ∷ no_place ∷ []) (goes_to i r to) in
       let under : (row : ℕ → ℕ) → spans_row (before row) takes + 1 ≤ last row = λ row. omega (arith, result row) in
       let waits : (row : ℕ → ℕ) → row here.pending + 1 ≤ last row = λ row.

@@ -8,7 +8,7 @@ use Rattle.cell_core.specs.bpf_isa.declared.helper.Helper.TheVariants.{Update, D
 use Rattle.cell_core.specs.bpf_isa.Helpers.{helper_of}
 use Rattle.cell_core.specs.xdp_maps.declared.decl.MapDecl.{MapDecl}
 use Rattle.kind_core.proofs.xdp_machine_laws.ChangeLaws.{some_inj}
-use Rattle.kind_core.specs.declared.number.Number.TheVariants.{Unknown}
+use Rattle.kind_core.specs.NumberBounds.{any_number}
 use Rattle.kind_core.specs.declared.kind.Kind.{Kind}
 use Rattle.kind_core.specs.declared.kind.Kind.TheVariants.{Num, MapRef}
 use Rattle.kind_core.specs.declared.kind.Kinds.{Kinds}
@@ -81,8 +81,8 @@ module _ (decls : List MapDecl) (i : Insn) (here : Here) (is_ref : Bool) (k : Ki
       → ((row : ℕ → ℕ) → AreRows new row → greatest row (key ++ operands) ≤ max (last row) (taken row)) → sites2 ≡ sites ++ change_site here q a key operands ∷ []
       → OperatesTo decls i here.pending k h after (put_register h 0 c) old new ps ps sites sites2
   change_rows old new sites sites2 a key operands c takes write whole grows own taken_low sites_are =
-      let sheds : Sheds k after 0 (Num Unknown) = subst (λ (x : Kinds). Sheds k x 0 (Num Unknown)) (sym is) (changed_sheds decls q here.node is_ref false k) in
-      let opened : list_any (is_open_in after) (writes_as k i i.op) ≡ true = ap (list_any (is_open_in after)) writes ∙ open_register after (Num Unknown) 0 (omega arith) sheds.answer refl in
+      let sheds : Sheds k after 0 (Num (any_number 64)) = subst (λ (x : Kinds). Sheds k x 0 (Num (any_number 64))) (sym is) (changed_sheds decls q here.node is_ref false k) in
+      let opened : list_any (is_open_in after) (writes_as k i i.op) ≡ true = ap (list_any (is_open_in after)) writes ∙ open_register after (Num (any_number 64)) 0 (omega arith) sheds.answer refl in
       let some : is_some_place (writes_as k i i.op) ≡ true = ap is_some_place writes ∙ some_place 0 in
       let made : (ℕ → ℕ) → ℕ = λ row. made_row (before row) decls k after i in
       let all : (ℕ → ℕ) → ℕ = λ row. written_row (before row) decls k after i in
@@ -90,7 +90,7 @@ module _ (decls : List MapDecl) (i : Insn) (here : Here) (is_ref : Bool) (k : Ki
       let written : (row : ℕ → ℕ) → max (last row) (taken row) ≤ all row = λ row. let a = written_result (before row) decls k after i some in let b = written_taken (before row) decls k after i in omega (arith, a, b) in
       record {
         carries = subst (λ (ws : List Span). LeavesTo before ps h after (put_register h 0 c) old new ws made last) (sym writes)
-            (shed_leaves ps ps h k after 0 c (Num Unknown) (map_used k i i.op) here.pending old new made last sheds (omega arith) whole (λ row place. omega arith) (grows_by grows makes) (λ row rows. let r = own row rows in omega (arith, r)));
+            (shed_leaves ps ps h k after 0 c (Num (any_number 64)) (map_used k i i.op) here.pending old new made last sheds (omega arith) whole (λ row place. omega arith) (grows_by grows makes) (λ row rows. let r = own row rows in omega (arith, r)));
         writes = λ row rows. one_write (record_as decls k i i.op) old new sites sites2 (change_site here q a key operands) row (all row) sites_are (record { map = q; takes = takes }) write refl (trans_le (taken_low row rows) (written row))
             (λ cell j behind before_end e. trans_le (grows.each row rows cell behind before_end) (written row));
         declared = λ p e. subst (λ (n : ℕ). n < length decls) (some_inj q p (sym used ∙ e)) there;

@@ -25,7 +25,7 @@ use Rattle.cell_core.specs.xdp_machine.Touched as touched
 use Rattle.cell_core.specs.xdp_machine.Touched.{answers_old}
 use Rattle.kind_core.proofs.xdp_machine_laws.ChangeLaws.{some_inj}
 use Rattle.kind_core.proofs.xdp_machine_laws.PartLaws.{at_or, bytes_in_slice}
-use Rattle.kind_core.specs.declared.number.Number.TheVariants.{Unknown}
+use Rattle.kind_core.specs.NumberBounds.{any_number}
 use Rattle.kind_core.specs.declared.kind.Kind.TheVariants.{Num, Entry}
 use Rattle.kind_core.specs.declared.kind.Kinds.{Kinds}
 use Rattle.kind_core.specs.Kinds as kinds
@@ -213,7 +213,7 @@ module _ (decls : List MapDecl) (i : Insn) (here : Here) (k : Kinds) (h : Regist
       let becomes = made.allowed.taken here.node is_ref edge r to in
       let none : ps ≡ ps ++ [] = sym (append-nil ps) in
       operates is_ref edge (record h { registers = slice_set h.registers r answer })
-      (rw becomes (assigned_inside decls (length new) ps h k r answer (Num Unknown) small ks hs
+      (rw becomes (assigned_inside decls (length new) ps h k r answer (Num (any_number 64)) small ks hs
       (subst (λ (xs : List PointerView). AreInside decls (length new) xs h k) (sym none) (inside_among decls (length old) (length new) ps [] h k (omega (arith, made.operands.grows.longer, reads.grows.longer)) made.inside)) reads.reads.there))
       (λ packet maps v m n run read guard after_is known d.
       let left : Machine = record m { maps = with_contents m.maps q (changed (contents_at m.maps q) (key_of decls v q p) a d.x) } in
@@ -229,7 +229,7 @@ module _ (decls : List MapDecl) (i : Insn) (here : Here) (k : Kinds) (h : Regist
         ifindex = known.held.ifindex;
         time = known.held.time;
       } in (
-        rw (becomes, gone) (assigned_held decls packet v ps h k left r answer (Num Unknown) (is.Number d.old) small ks hs ms held (ap is.Number (sym (answered packet maps v m n answer width read guard after_is known d width_is reads)))),
+        rw (becomes, gone) (assigned_held decls packet v ps h k left r answer (Num (any_number 64)) (is.Number d.old) small ks hs ms held (ap is.Number (sym (answered packet maps v m n answer width read guard after_is known d width_is reads)))),
         ap (λ (y : Machine). y.maps) gone,
       ))
     where

@@ -22,7 +22,7 @@ use Rattle.cell_core.specs.xdp_machine.Touched as touched
 use Rattle.kind_core.proofs.xdp_machine_laws.ChangeLaws.{some_inj}
 use Rattle.kind_core.proofs.xdp_machine_laws.NumberLaws.{word_of, delete_number_fits, update_number_fits}
 use Rattle.kind_core.specs.declared.number.Number.{Number}
-use Rattle.kind_core.specs.declared.number.Number.TheVariants.{Unknown}
+use Rattle.kind_core.specs.NumberBounds.{any_number}
 use Rattle.kind_core.specs.declared.kind.Kind.{Kind}
 use Rattle.kind_core.specs.declared.kind.Kind.TheVariants.{Num, MapRef}
 use Rattle.kind_core.specs.declared.kind.Kinds.{Kinds}
@@ -87,7 +87,7 @@ change_operates decls i here is_ref taken k h old mid new ps sites sites2 q c a 
       own = adds.own;
       fits = adds.fits;
       below = adds.below;
-      inside = rw becomes (changed_inside decls (length new) ps (record h { registers = slice_set h.registers 0 c }) q here.node is_ref taken k (answered_inside decls (length new) ps h k (Num Unknown) c whole
+      inside = rw becomes (changed_inside decls (length new) ps (record h { registers = slice_set h.registers 0 c }) q here.node is_ref taken k (answered_inside decls (length new) ps h k (Num (any_number 64)) c whole
           (subst (λ (xs : List PointerView). AreInside decls (length new) xs h k) (sym none) (inside_among decls (length old) (length new) ps [] h k adds.grows.longer inside)) made.reads.there));
       holds = λ packet maps v m n refs run read guard after_is known at_ref e.
           let w = helps packet v m n refs run known e in
@@ -107,7 +107,7 @@ change_operates decls i here is_ref taken k h old mid new ps sites sites2 q c a 
             time = known.held.time;
           } in (
             rw (becomes, w.leaves) (changed_held decls packet v ps (record h { registers = slice_set h.registers 0 c }) q here.node is_ref taken k _
-                (answered_held decls packet v ps h k (record m { maps = operated m.maps q w.op }) (Num Unknown) c (is.Number w.number) whole held (ap is.Number (sym value)))),
+                (answered_held decls packet v ps h k (record m { maps = operated m.maps q w.op }) (Num (any_number 64)) c (is.Number w.number) whole held (ap is.Number (sym value)))),
             written v maps m.maps sites sites2 site w.op made.sites_are after_is writes guard w.site_is ∙ sym (ap (λ (y : Machine). y.maps) w.leaves),
             w.does ∙ ap (λ (o : Operation). Some (q, o)) (sym w.site_is),
           );

@@ -17,7 +17,7 @@ use Rattle.cell_core.specs.xdp_machine.Memory.{bytes_in, number_at, aligned}
 use Rattle.cell_core.specs.xdp_machine.Memory as machine
 use Rattle.cell_core.specs.xdp_machine.Step.{effect}
 use Rattle.cell_core.specs.xdp_machine.Touched as touched
-use Rattle.kind_core.specs.declared.number.Number.TheVariants.{Unknown}
+use Rattle.kind_core.specs.declared.number.Number.TheVariants.{Between}
 use Rattle.kind_core.specs.declared.kind.Kind.TheVariants.{Num, Entry}
 use Rattle.kind_core.specs.declared.kind.Kinds.{Kinds}
 use Rattle.kind_core.specs.Kinds as kinds
@@ -72,14 +72,14 @@ abbrev Loaded : Insn → ℕ → ℕ → Size → (ℕ → ℕ) → Type 0
 Loaded i q o size f = (refs : List ℕ) (m n : Machine) (key : List ℕ) → register m.registers i.src ≡ is.Entry q key (pos o) → effect refs m i i.op ≡ Some n
     → (y : Value) × (machine.loaded m (is.Entry q key (pos o)) i.offset size ≡ Some y) × ((x : ℕ) → y ≡ is.Number x → n ≡ record m { registers = slice_set m.registers i.dst (is.Number (f x)) })
 
-load_operates : (decls : List MapDecl) (i : Insn) (here : Here) (is_ref taken : Bool) (k : Kinds) (h : RegisterCells) (old mid new : List CellView) (ps : List PointerView) (sites sites2 : List SiteView) (size : Size) (q o a answer c : ℕ) (f : ℕ → ℕ)
+load_operates : (lo hi : ℕ) (decls : List MapDecl) (i : Insn) (here : Here) (is_ref taken : Bool) (k : Kinds) (h : RegisterCells) (old mid new : List CellView) (ps : List PointerView) (sites sites2 : List SiteView) (size : Size) (q o a answer c : ℕ) (f : ℕ → ℕ)
     → Loaded i q o size f → ((m : Machine) → touched.operation_as m i i.op ≡ touched.accesses m.maps (register m.registers i.src) i.offset size (λ key b. map.Load key))
-    → i.src ≤ 10 → i.dst ≤ 10 → kinds.register k i.src ≡ Entry q o → here.guard < length old → IsInPlace decls q (pos o +ℤ i.offset) size → transferred decls k i here.node is_ref taken ≡ with_register k i.dst (Num Unknown)
+    → i.src ≤ 10 → i.dst ≤ 10 → kinds.register k i.src ≡ Entry q o → here.guard < length old → IsInPlace decls q (pos o +ℤ i.offset) size → transferred decls k i here.node is_ref taken ≡ with_register k i.dst (Num (Between lo hi))
     → length k.registers ≡ 11 → length h.registers ≡ 11 → AreInside decls (length old) ps h k
     → ((b : ℕ) → aligned (pos o +ℤ i.offset) (bytes_in size) (value_bytes decls q) ≡ Some b → a ≡ b)
     → Accesses old mid sites sites2 here q (act.Load a size) (pointer_at ps (slice_index h.registers i.src)) [] answer (8 * bytes_in size) → Makes mid new c (λ packet v. f (v answer))
     → Operates decls i here.node here.guard is_ref taken k h (record h { registers = slice_set h.registers i.dst c }) old new ps ps sites sites2
-load_operates decls i here is_ref taken k h old mid new ps sites sites2 size q o a answer c f given operates src dst base guard_there placed becomes ks hs inside at made makes =
+load_operates lo hi decls i here is_ref taken k h old mid new ps sites sites2 size q o a answer c f given operates src dst base guard_there placed becomes ks hs inside at made makes =
     let p : PointerView = pointer_at ps (slice_index h.registers i.src) in
     let site : SiteView = access_site here q (act.Load a size) p [] in
     let none : ps ≡ ps ++ [] = sym (append-nil ps) in
@@ -98,7 +98,7 @@ load_operates decls i here is_ref taken k h old mid new ps sites sites2 size q o
       own = adds.own;
       fits = adds.fits;
       below = adds.below;
-      inside = rw becomes (assigned_inside decls (length new) ps h k i.dst c (Num Unknown) dst ks hs
+      inside = rw becomes (assigned_inside decls (length new) ps h k i.dst c (Num (Between lo hi)) dst ks hs
           (subst (λ (xs : List PointerView). AreInside decls (length new) xs h k) (sym none) (inside_among decls (length old) (length new) ps [] h k grows.longer inside)) makes.there);
       holds = λ packet maps v m n refs run read guard after_is known at_ref e.
           let r = entry_held decls packet v ps here.node k h m i.src q o known src base in
@@ -116,7 +116,7 @@ load_operates decls i here is_ref taken k h old mid new ps sites sites2 size q o
           let leaves = y.2 (number_at size l.1 l.2) l.5 in
           let holds : is.Number (f (number_at size l.1 l.2)) ≡ is.Number (v c) =
           ap is.Number (ap f (ap (λ (j : ℕ). number_at size j l.2) (sym same_place) ∙ sym value) ∙ sym (makes.value packet v run)) in (
-            rw (becomes, leaves) (assigned_held decls packet v ps h k m i.dst c (Num Unknown) (is.Number (f (number_at size l.1 l.2))) dst ks hs ms known.held holds),
+            rw (becomes, leaves) (assigned_held decls packet v ps h k m i.dst c (Num (Between lo hi)) (is.Number (f (number_at size l.1 l.2))) dst ks hs ms known.held holds),
             ap (after v maps) made.sites_are ∙ after_one v maps sites site ∙ after_is ∙ sym (ap (λ (x : Machine). x.maps) leaves),
             operates m ∙ placed_operation m q o key i.offset size d l.1 (register m.registers i.src) (λ x b. map.Load x) r found ∙ ap (λ (x : List ℕ). Some (q, map.Load x)) (sym keys),
           );
@@ -146,7 +146,7 @@ pub load_made : (decls : List MapDecl) (i : Insn) (here : Here) (is_ref taken : 
     → Operates decls i here.node here.guard is_ref taken k h (record h { registers = slice_set h.registers i.dst c }) old new ps ps sites sites2
 load_made decls i here is_ref taken k h old new ps sites sites2 size q o a c width p z op src dst base guard_there allowed ks hs inside offset at p_is width_is made =
     let f = load_allowed decls k i size q o op base allowed in
-    load_operates decls i here is_ref taken k h old new new ps sites sites2 size q o a c c (λ x. x) (plain_loaded i q o size op) (λ m. ap (touched.operation_as m i) op) src dst base guard_there f.0 (f.1 here.node is_ref taken) ks hs inside
+    load_operates _ _ decls i here is_ref taken k h old new new ps sites sites2 size q o a c c (λ x. x) (plain_loaded i q o size op) (λ m. ap (touched.operation_as m i) op) src dst base guard_there f.0 (f.1 here.node is_ref taken) ks hs inside
     (λ b e. at b (ap (λ (y : ℤ). aligned (pos o +ℤ y) (bytes_in size) (value_bytes decls q)) offset ∙ e))
     (subst (λ (x : PointerView). Accesses old new sites sites2 here q (act.Load a size) x [] c (8 * bytes_in size)) p_is (subst (λ (j : ℕ). Accesses old new sites sites2 here q (act.Load a size) p [] c j) width_is made))
     (record { grows = grown_none; there = made.reads.there; value = λ packet v run. refl })
@@ -158,7 +158,7 @@ pub signed_made : (decls : List MapDecl) (i : Insn) (here : Here) (is_ref taken 
     → Operates decls i here.node here.guard is_ref taken k h (record h { registers = slice_set h.registers i.dst c }) old new ps ps sites sites2
 signed_made decls i here is_ref taken k h old mid new ps sites sites2 size q o a answer c width p z op src dst base guard_there allowed ks hs inside offset at p_is width_is made makes =
     let f = signed_allowed decls k i size q o op base allowed in
-    load_operates decls i here is_ref taken k h old mid new ps sites sites2 size q o a answer c (extended 64 (8 * bytes_in size)) (signed_loaded i q o size op) (λ m. ap (touched.operation_as m i) op) src dst base
+    load_operates _ _ decls i here is_ref taken k h old mid new ps sites sites2 size q o a answer c (extended 64 (8 * bytes_in size)) (signed_loaded i q o size op) (λ m. ap (touched.operation_as m i) op) src dst base
     guard_there f.0 (f.1 here.node is_ref taken) ks hs inside (λ b e. at b (ap (λ (y : ℤ). aligned (pos o +ℤ y) (bytes_in size) (value_bytes decls q)) offset ∙ e))
     (subst (λ (x : PointerView). Accesses old mid sites sites2 here q (act.Load a size) x [] answer (8 * bytes_in size)) p_is (subst (λ (j : ℕ). Accesses old mid sites sites2 here q (act.Load a size) p [] answer j) width_is made))
     (subst (λ (j : ℕ). Makes mid new c (λ packet v. extended 64 j (v answer))) width_is makes)

@@ -6,7 +6,8 @@ use Rattle.cell_core.specs.bpf_isa.declared.operation.Op.TheVariants.{Call}
 use Rattle.cell_core.specs.bpf_isa.declared.instruction.Insn.{Insn}
 use Rattle.cell_core.specs.xdp_maps.declared.decl.MapDecl.{MapDecl}
 use Rattle.kind_core.proofs.xdp_machine_laws.ChangeLaws.{some_inj}
-use Rattle.kind_core.specs.declared.number.Number.TheVariants.{Unknown}
+use Rattle.kind_core.specs.declared.number.Number.TheVariants.{Between}
+use Rattle.kind_core.specs.NumberBounds.{any_number}
 use Rattle.kind_core.specs.declared.kind.Kind.{Kind}
 use Rattle.kind_core.specs.declared.kind.Kind.TheVariants.{Unset, Num, MapRef, Maybe, Entry, Stale}
 use Rattle.kind_core.specs.declared.kind.Kinds.{Kinds}
@@ -64,8 +65,8 @@ shed_points k after h r c x y sheds small whole held = by (cases_eq held.0 r)
     )
 
 -- a number is no pointer
-keep_points : (k after : Kinds) (h : RegisterCells) (r c : ℕ) → Sheds k after r (Num Unknown) → r ≤ 10 → length h.registers ≡ 11 → KeepPointers k h after (put_register h r c)
-keep_points k after h r c sheds small whole y held = by (shed_points k after h r c (Num Unknown) y sheds small whole held)
+keep_points : {lo hi : ℕ} (k after : Kinds) (h : RegisterCells) (r c : ℕ) → Sheds k after r (Num (Between lo hi)) → r ≤ 10 → length h.registers ≡ 11 → KeepPointers k h after (put_register h r c)
+keep_points {lo} {hi} k after h r c sheds small whole y held = by (shed_points k after h r c (Num (Between lo hi)) y sheds small whole held)
   where
     by : (None ≡ Some y) ⊎ HoldsPointer k h y → HoldsPointer k h y
     by (inl e) = absurd (cc)
@@ -80,8 +81,8 @@ pub entry_used : (k : Kinds) (i : Insn) (o : Op) (r q n : ℕ) → i.op ≡ o �
 entry_used k i o r q n op at base = ap (λ (x : Op). map_used k i x) op ∙ at ∙ ap map_of base
 
 -- ---- accesses
-pub read_keeps : (k after : Kinds) (h : RegisterCells) (r c : ℕ) → after ≡ with_register k r (Num Unknown) → r ≤ 10 → length k.registers ≡ 11 → length h.registers ≡ 11 → KeepPointers k h after (put_register h r c)
-read_keeps k after h r c becomes small ks hs = subst (λ (x : Kinds). KeepPointers k h x (put_register h r c)) (sym becomes) (keep_points k (with_register k r (Num Unknown)) h r c (written_sheds k r (Num Unknown) small ks) small hs)
+pub read_keeps : (lo hi : ℕ) (k after : Kinds) (h : RegisterCells) (r c : ℕ) → after ≡ with_register k r (Num (Between lo hi)) → r ≤ 10 → length k.registers ≡ 11 → length h.registers ≡ 11 → KeepPointers k h after (put_register h r c)
+read_keeps lo hi k after h r c becomes small ks hs = subst (λ (x : Kinds). KeepPointers k h x (put_register h r c)) (sym becomes) (keep_points k (with_register k r (Num (Between lo hi))) h r c (written_sheds k r (Num (Between lo hi)) small ks) small hs)
 
 pub nothing_keeps : (k after : Kinds) (h : RegisterCells) → after ≡ k → KeepPointers k h after h
 nothing_keeps k after h becomes = subst (λ (x : Kinds). KeepPointers k h x h) (sym becomes) (λ y held. held)
@@ -148,10 +149,10 @@ change_points decls i here is_ref k after h old mid new ps sites sites2 q map c 
   reads = change_reads decls (map_used k i i.op) here old mid new sites sites2 q a key looked operands c grows (subst (λ (n : ℕ). Changes mid new sites sites2 here n a key looked operands c) map_is change) used changes looked_is;
   points = by a changes (record {
     pointers_are = refl;
-    kept = keep_points k after h 0 c (subst (λ (x : Kinds). Sheds k x 0 (Num Unknown)) (sym becomes) (changed_sheds decls q here.node is_ref false k)) (omega arith) whole;
-    none = λ hash y held. other_map q (kind_at (answering (Num Unknown) k) held.0) (number_at (put_register h 0 c) held.0) y
+    kept = keep_points k after h 0 c (subst (λ (x : Kinds). Sheds k x 0 (Num (any_number 64))) (sym becomes) (changed_sheds decls q here.node is_ref false k)) (omega arith) whole;
+    none = λ hash y held. other_map q (kind_at (answering (Num (any_number 64)) k) held.0) (number_at (put_register h 0 c) held.0) y
         (ap (λ (x : Kind). pointing_as x (number_at (put_register h 0 c) held.0))
-        (sym (ap (λ (x : Kinds). kind_at x held.0) (becomes ∙ hash_becomes decls q here.node is_ref false k hash) ∙ stale_kind q (answering (Num Unknown) k) held.0)) ∙ held.1);
+        (sym (ap (λ (x : Kinds). kind_at x held.0) (becomes ∙ hash_becomes decls q here.node is_ref false k hash) ∙ stale_kind q (answering (Num (any_number 64)) k) held.0)) ∙ held.1);
   });
 }
   where

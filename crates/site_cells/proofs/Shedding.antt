@@ -2,7 +2,7 @@
 use Rattle.std.proofs.Common.{◌≡◌, ◌≢◌, ℕ, zero, suc, ◌+◌, ◌-◌, ◌<◌, ◌≤◌, ◌⊎◌, inl, inr, ◌==◌, if◌then◌else◌, Bool, true, false, List, length, get_or, refl, sym, ◌∙◌, ap, subst, arith}
 use Rattle.std.proofs.lemmas.List.{get_or-drop, get_or-set_same, get_or-set_other}
 use Rattle.cell_core.specs.xdp_maps.declared.decl.MapDecl.{MapDecl}
-use Rattle.kind_core.specs.declared.number.Number.TheVariants.{Unknown}
+use Rattle.kind_core.specs.NumberBounds.{any_number}
 use Rattle.kind_core.specs.declared.kind.Kind.{Kind}
 use Rattle.kind_core.specs.declared.kind.Kind.TheVariants.{Unset, Num, Maybe, Entry, Stale}
 use Rattle.kind_core.specs.declared.kind.Kinds.{Kinds}
@@ -92,19 +92,19 @@ less_stale q (Entry p o) = by (p == q)
     by false = inl refl
 less_stale q x = inl refl
 
-stale_sheds : (q : ℕ) (k after : Kinds) → Sheds k after 0 (Num Unknown) → Sheds k (stale_all q after) 0 (Num Unknown)
+stale_sheds : (q : ℕ) (k after : Kinds) → Sheds k after 0 (Num (any_number 64)) → Sheds k (stale_all q after) 0 (Num (any_number 64))
 stale_sheds q k after sheds = record {
   answer = stale_at q after.registers 0 ∙ ap (stale q) sheds.answer;
   registers = λ r l other. subst (IsLess (register k r)) (sym (stale_at q after.registers r)) (less_then _ _ _ (sheds.registers r l other) (less_stale q (register after r)));
   slots = λ s l. subst (IsLess (get_or k.slots s Unset)) (sym (stale_at q after.slots s)) (less_then _ _ _ (sheds.slots s l) (less_stale q (get_or after.slots s Unset)));
 }
 
-pub changed_sheds : (decls : List MapDecl) (q node : ℕ) (is_ref taken : Bool) (k : Kinds) → Sheds k (changed node is_ref taken k (calls.change_of decls q)) 0 (Num Unknown)
-changed_sheds decls q node is_ref taken k = subst (λ (x : Kinds). Sheds k x 0 (Num Unknown)) (sym (becomes decls q node is_ref taken k)) (by (is_hash decls q))
+pub changed_sheds : (decls : List MapDecl) (q node : ℕ) (is_ref taken : Bool) (k : Kinds) → Sheds k (changed node is_ref taken k (calls.change_of decls q)) 0 (Num (any_number 64))
+changed_sheds decls q node is_ref taken k = subst (λ (x : Kinds). Sheds k x 0 (Num (any_number 64))) (sym (becomes decls q node is_ref taken k)) (by (is_hash decls q))
   where
-    all : Sheds k (answering (Num Unknown) k) 0 (Num Unknown)
-    all = answering_sheds k (Num Unknown)
+    all : Sheds k (answering (Num (any_number 64)) k) 0 (Num (any_number 64))
+    all = answering_sheds k (Num (any_number 64))
 
-    by : (t : Bool) → Sheds k (if t then stale_all q (answering (Num Unknown) k) else answering (Num Unknown) k) 0 (Num Unknown)
-    by true = stale_sheds q k (answering (Num Unknown) k) all
+    by : (t : Bool) → Sheds k (if t then stale_all q (answering (Num (any_number 64)) k) else answering (Num (any_number 64)) k) 0 (Num (any_number 64))
+    by true = stale_sheds q k (answering (Num (any_number 64)) k) all
     by false = all

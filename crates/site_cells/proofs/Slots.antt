@@ -12,7 +12,7 @@ use Rattle.cell_core.specs.xdp_machine.State.{Machine, PacketIn}
 use Rattle.cell_core.specs.xdp_machine.Helpers.{stack_byte, stack_bytes}
 use Rattle.kind_core.proofs.xdp_machine_laws.ChangeLaws.{some_inj}
 use Rattle.kind_core.specs.declared.number.Number.{Number}
-use Rattle.kind_core.specs.declared.number.Number.TheVariants.{Known, Unknown}
+use Rattle.kind_core.specs.declared.number.Number.TheVariants.{Known, Between}
 use Rattle.kind_core.specs.declared.kind.Kind.{Kind}
 use Rattle.kind_core.specs.declared.kind.Kind.TheVariants.{Unset, Num}
 use Rattle.kind_core.specs.declared.kind.Kinds.{Kinds}
@@ -59,7 +59,7 @@ bound None f b e = cc
 pub slot_number : (decls : List MapDecl) (packet : PacketIn) (v : ℕ → ℕ) (ps : List PointerView) (node : ℕ) (k : Kinds) (h : RegisterCells) (m : Machine) (s : ℕ) (x : Number) → IsKnown decls packet v ps node k h m → s < 64
     → get_or k.slots s Unset ≡ Num x → get_or m.stack s is.Unset ≡ is.Number (number_of v x (slice_index h.slots s))
 slot_number decls packet v ps node k h m s (Known n) known l e = subst (λ (y : Kind). Describes known.world m.maps y (get_or m.stack s is.Unset)) e (known.stands.described.slots s)
-slot_number decls packet v ps node k h m s Unknown known l e = subst (λ (y : Kind). Holds decls v ps y (slice_index h.slots s) (get_or m.stack s is.Unset)) e (known.held.slots s l)
+slot_number decls packet v ps node k h m s (Between lo hi) known l e = subst (λ (y : Kind). Holds decls v ps y (slice_index h.slots s) (get_or m.stack s is.Unset)) e (known.held.slots s l)
 
 -- the last of some bytes
 stack_last : (stack : List Value) (a n : ℕ) (xs : List ℕ) → stack_bytes stack a (suc n) ≡ Some xs
@@ -113,11 +113,11 @@ bytes_more decls ps node k h old mid new at count i c bytes more within range be
 -- ---- what is there
 
 pub counts_number : (decls : List MapDecl) (n m : ℕ) (ps : List PointerView) (x : Kind) (c : ℕ) → n ≤ m → Counts decls n ps x c → HasNumber m x c
-counts_number decls n m ps (Num Unknown) c l h = omega (arith, l, h)
+counts_number decls n m ps (Num (Between lo hi)) c l h = omega (arith, l, h)
 counts_number decls n m ps (Num (Known a)) c l h = tt
 counts_number decls n m ps x c l h = tt
 
 pub register_number : (decls : List MapDecl) (packet : PacketIn) (v : ℕ → ℕ) (ps : List PointerView) (node : ℕ) (k : Kinds) (h : RegisterCells) (m : Machine) (r : ℕ) (x : Number) → IsKnown decls packet v ps node k h m → r ≤ 10
     → get_or k.registers r Unset ≡ Num x → get_or m.registers r is.Unset ≡ is.Number (number_of v x (slice_index h.registers r))
 register_number decls packet v ps node k h m r (Known n) known l e = subst (λ (y : Kind). Describes known.world m.maps y (get_or m.registers r is.Unset)) e (known.stands.described.registers r)
-register_number decls packet v ps node k h m r Unknown known l e = subst (λ (y : Kind). Holds decls v ps y (slice_index h.registers r) (get_or m.registers r is.Unset)) e (known.held.registers r l)
+register_number decls packet v ps node k h m r (Between lo hi) known l e = subst (λ (y : Kind). Holds decls v ps y (slice_index h.registers r) (get_or m.registers r is.Unset)) e (known.held.registers r l)

@@ -2,7 +2,7 @@
 use Rattle.std.proofs.Common.{◌≡◌, ℕ, suc, ◌+◌, ◌-◌, ◌/◌, ◌<◌, ◌≤◌, pos, ◌+ℤ◌, List, [], ◌∷◌, length, drop, get_or, slice_index, slice_range, sym, subst, arith}
 use Rattle.std.specs.Prelude.{unsigned_abs}
 use Rattle.kind_core.specs.declared.number.Number.{Number}
-use Rattle.kind_core.specs.declared.number.Number.TheVariants.{Unknown}
+use Rattle.kind_core.specs.declared.number.Number.TheVariants.{Between}
 use Rattle.kind_core.specs.declared.kind.Kind.{Kind}
 use Rattle.kind_core.specs.declared.kind.Kind.TheVariants.{Unset, Num, Packet}
 use Rattle.kind_core.specs.declared.kind.Kinds.{Kinds}
@@ -28,8 +28,8 @@ greatest_low row most [] h = omega arith
 greatest_low row most (x ∷ xs) h = omega (arith, h 0 (omega arith), greatest_low row most xs (λ i l. h (suc i) (omega (arith, l))))
 
 -- ---- one number
-pub unknown_row : (row : ℕ → ℕ) (x : Number) (c : ℕ) → x ≡ Unknown → row c ≤ number_row row x c
-unknown_row row x c e = rw e (omega arith)
+pub unknown_row : (row : ℕ → ℕ) (x : Number) (lo hi c : ℕ) → x ≡ Between lo hi → row c ≤ number_row row x c
+unknown_row row x lo hi c e = rw e (omega arith)
 
 pub number_value : (row : ℕ → ℕ) (ps : List PointerView) (k : Kind) (x : Number) (c : ℕ) → k ≡ Num x → number_row row x c ≤ value_row row ps k c
 number_value row ps k x c e = rw e (omega arith)

@@ -54,7 +54,7 @@ fn number_byte(cells: &mut Vec<Cell>, number: Number, held: u32, at: u32) -> Res
             let c = shared_constant(cells, n >> (8 * at), 8)?;
             Ok(c)
         }
-        Number::Unknown => {
+        Number::Between(_, _) => {
             let c = shared_slice(cells, held, 8 * at, 8)?;
             Ok(c)
         }

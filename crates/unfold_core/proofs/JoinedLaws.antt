@@ -3,6 +3,8 @@ use Rattle.std.proofs.Common.{◌≡◌, ℕ, ◌+◌, ◌<◌, Bool, true, fals
 use Rattle.std.specs.Prelude.{fold, if◌then◌else◌, All}
 use Rattle.std.proofs.lemmas.List.Elements.{All-nil, All-cons, All-head, All-tail, All-weaker}
 use Rattle.xdp_machine.specs.Program.{XdpProgram}
+use Rattle.kind_core.specs.declared.kind.Offsets.{Offsets}
+use Rattle.kind_core.specs.declared.kind.Offsets.TheVariants.{Fixed}
 use Rattle.kind_core.specs.declared.kind.Kinds.{Kinds}
 use Rattle.kind_core.specs.Joins.{joined}
 use Rattle.kind_core.proofs.TransferLaws.{IsSized}
@@ -48,18 +50,18 @@ brought_all ls n (e ∷ es) h = by (same ls e.node n) (brought_all ls n es (All-
     by true rest = All-cons HaveAll e.kinds (brought ls n es) (All-head (λ x. HaveAll x.kinds) e es h) rest
     by false rest = rest
 
-leading_all : (p : XdpProgram) (ls : List Loop) (g : List Point) → AreLoops p.insns ls → IsGraph p ls g → All (λ e. HaveAll e.kinds) (leading p ls g)
-leading_all p ls g loops h =
-    All-cons (λ e. HaveAll e.kinds) (first_point ls) (edges_from p ls 0 g) (refl, refl)
-    (all_edges (λ e. HaveAll e.kinds) p ls 0 g (first_point ls) (λ j lt. by_node j lt (pass_at p ls 0 g j (first_point ls) h.pass lt)))
+leading_all : (offsets : Offsets) (p : XdpProgram) (ls : List Loop) (g : List Point) → AreLoops p.insns ls → IsGraph offsets p ls g → All (λ e. HaveAll e.kinds) (leading offsets p ls g)
+leading_all offsets p ls g loops h =
+    All-cons (λ e. HaveAll e.kinds) (first_point offsets ls) (edges_from p ls 0 g) (refl, refl)
+    (all_edges (λ e. HaveAll e.kinds) p ls 0 g (first_point Fixed ls) (λ j lt. by_node j lt (pass_at p ls 0 g j (first_point Fixed ls) h.pass lt)))
   where
-    by_node : (j : ℕ) → j < length g → (es : List Point) × (leaving p ls (0 + j) (get_or g j (first_point ls)) ≡ Ok es) → All (λ e. HaveAll e.kinds) (ends (leaving p ls (0 + j) (get_or g j (first_point ls))))
+    by_node : (j : ℕ) → j < length g → (es : List Point) × (leaving p ls (0 + j) (get_or g j (first_point Fixed ls)) ≡ Ok es) → All (λ e. HaveAll e.kinds) (ends (leaving p ls (0 + j) (get_or g j (first_point Fixed ls))))
     by_node j lt (es, e) = subst (λ r. All (λ x. HaveAll x.kinds) (ends r)) (sym e)
-        (All-weaker (λ x. IsSized x.kinds) (λ x. HaveAll x.kinds) (λ x. have_all x.kinds) es (leaving_sized p ls (0 + j) (get_or g j (first_point ls)) es (sized_at p ls g j (first_point ls) loops h lt) e))
+        (All-weaker (λ x. IsSized x.kinds) (λ x. HaveAll x.kinds) (λ x. have_all x.kinds) es (leaving_sized p ls (0 + j) (get_or g j (first_point Fixed ls)) es (sized_at offsets p ls g j (first_point Fixed ls) loops h lt) e))
 
 pub kinds_are_joined : KindsAreJoined
-kinds_are_joined p ls g k d loops h below =
+kinds_are_joined offsets p ls g k d loops h below =
     let n = (get_or g k d).node in
-    let x = joined_first ls n (leading p ls g) (get_or g k d).kinds
+    let x = joined_first ls n (leading offsets p ls g) (get_or g k d).kinds
     (sym (h.known n (h.ordered.nodes k d below)) ∙ found_own ls g k d (nodes_are_ordered ls h.ordered.nested) (fine_of ls g h.ordered.nodes h.ordered.ascending) below) in
-    (x.0, x.1, x.2, x.3, subst (All HaveAll) x.2 (brought_all ls n (leading p ls g) (leading_all p ls g loops h)))
+    (x.0, x.1, x.2, x.3, subst (All HaveAll) x.2 (brought_all ls n (leading offsets p ls g) (leading_all offsets p ls g loops h)))

@@ -12,6 +12,7 @@ use Rattle.xdp_machine.specs.bpf_isa.Text.{insn_at}
 use Rattle.xdp_machine.specs.State.{begins}
 use Rattle.xdp_machine.specs.Program.{XdpProgram}
 use Rattle.xdp_state.specs.declared.refusal.Why.{Why}
+use Rattle.kind_core.specs.declared.kind.Offsets.{Offsets}
 use Rattle.kind_core.specs.Tests.{passed}
 use Rattle.kind_core.specs.Effects.{effect_of, verdict}
 use Rattle.kind_core.specs.Edges.{decided}
@@ -148,18 +149,18 @@ goes_to p ls k at i true q h e =
 -- ---- the edges of a graph
 
 -- the instruction of node k, and the ends of its edges
-pub record HasEnds (p : XdpProgram) (ls : List Loop) (g : List Point) (k : ℕ) (d : Point) : Type 0 where
+pub record HasEnds (offsets : Offsets) (p : XdpProgram) (ls : List Loop) (g : List Point) (k : ℕ) (d : Point) : Type 0 where
   pub insn : Insn
   pub insn_is : insn_at p.insns (get_or g k d).node.place ≡ Some insn
   pub allowed : verdict (effect_of p.decls (get_or g k d).kinds insn) ≡ passed
   pub ends_are : List Point
   pub leaves : leaving p ls k (get_or g k d) ≡ Ok ends_are
   pub edges : edges_of p ls k (get_or g k d) insn ≡ Ok ends_are
-  pub led : (q : Point) → In q ends_are → In q (leading p ls g)
+  pub led : (q : Point) → In q ends_are → In q (leading offsets p ls g)
   pub listed : numbered_at p ls g k (get_or g k d) ≡ numbered ls g k (not (goes_next insn.op (decided (get_or g k d).kinds insn))) ends_are
 
-pub has_ends : (p : XdpProgram) (ls : List Loop) (g : List Point) (k : ℕ) (d : Point) → IsGraph p ls g → k < length g → HasEnds p ls g k d
-has_ends p ls g k d h below =
+pub has_ends : (offsets : Offsets) (p : XdpProgram) (ls : List Loop) (g : List Point) (k : ℕ) (d : Point) → IsGraph offsets p ls g → k < length g → HasEnds offsets p ls g k d
+has_ends offsets p ls g k d h below =
     let at = get_or g k d in
     let pass = pass_at p ls 0 g k d h.pass below in
     let number : k ≡ 0 + k = omega arith in
@@ -196,17 +197,17 @@ links_at p ls g d = links_all (λ x. (x.from < length g) × Contains (numbered_a
 pub from_inside : (p : XdpProgram) (ls : List Loop) (g : List Point) (d : Point) (x : Edge) → Contains (links p ls g 0 g) x → x.from < length g
 from_inside p ls g d x c = (All-contains (λ y. (y.from < length g) × Contains (numbered_at p ls g y.from (get_or g y.from d)) y) (links p ls g 0 g) x (links_at p ls g d) c).0
 
-pub link_side : (p : XdpProgram) (ls : List Loop) (g : List Point) (k : ℕ) (d : Point) (x : Edge) → (h : HasEnds p ls g k d) → Contains (links p ls g 0 g) x → x.from ≡ k → IsSide p ls g h.ends_are k (get_or g k d) h.insn x
-link_side p ls g k d x h c from =
+pub link_side : (offsets : Offsets) (p : XdpProgram) (ls : List Loop) (g : List Point) (k : ℕ) (d : Point) (x : Edge) → (h : HasEnds offsets p ls g k d) → Contains (links p ls g 0 g) x → x.from ≡ k → IsSide p ls g h.ends_are k (get_or g k d) h.insn x
+link_side offsets p ls g k d x h c from =
     let there = (All-contains (λ y. (y.from < length g) × Contains (numbered_at p ls g y.from (get_or g y.from d)) y) (links p ls g 0 g) x (links_at p ls g d) c).1 in
     let here : Contains (numbered_at p ls g k (get_or g k d)) x = subst (λ j. Contains (numbered_at p ls g j (get_or g j d)) x) from there in
     All-contains (IsSide p ls g h.ends_are k (get_or g k d) h.insn) (numbered ls g k (not (goes_next h.insn.op (decided (get_or g k d).kinds h.insn))) h.ends_are) x
     (numbered_sides p ls g h.ends_are k (get_or g k d) h.insn h.edges) (subst (λ xs. Contains xs x) h.listed here)
 
 -- each side that is present is an edge of the graph
-pub side_link : (p : XdpProgram) (ls : List Loop) (g : List Point) (k : ℕ) (d : Point) → (h : HasEnds p ls g k d) → k < length g → (taken : Bool) → goes_along (get_or g k d).kinds h.insn taken ≡ true
+pub side_link : (offsets : Offsets) (p : XdpProgram) (ls : List Loop) (g : List Point) (k : ℕ) (d : Point) → (h : HasEnds offsets p ls g k d) → k < length g → (taken : Bool) → goes_along (get_or g k d).kinds h.insn taken ≡ true
     → (q : Point) × (edge_along p ls k (get_or g k d) h.insn taken ≡ Ok q) × Contains (links p ls g 0 g) (edge k taken (number_of ls q.node g))
-side_link p ls g k d h below taken present = by taken present
+side_link offsets p ls g k d h below taken present = by taken present
   where
     listed : (x : Edge) → Contains (numbered ls g k (not (goes_next h.insn.op (decided (get_or g k d).kinds h.insn))) h.ends_are) x → Contains (links p ls g 0 g) x
     listed x c =
@@ -219,9 +220,9 @@ side_link p ls g k d h below taken present = by taken present
 
 -- ---- all of it
 
-module _ (p : XdpProgram) (ls : List Loop) (g : List Point) (k : ℕ) (d : Point) (loops : AreLoops p.insns ls) (graph : IsGraph p ls g) (below : k < length g) where
-  here : HasEnds p ls g k d
-  here = has_ends p ls g k d graph below
+module _ (offsets : Offsets) (p : XdpProgram) (ls : List Loop) (g : List Point) (k : ℕ) (d : Point) (loops : AreLoops p.insns ls) (graph : IsGraph offsets p ls g) (below : k < length g) where
+  here : HasEnds offsets p ls g k d
+  here = has_ends offsets p ls g k d graph below
 
   -- an edge from node k with its end
   record IsFrom (x : Edge) : Type 0 where
@@ -233,14 +234,14 @@ module _ (p : XdpProgram) (ls : List Loop) (g : List Point) (k : ℕ) (d : Point
 
   is_from : (x : Edge) → Contains (links p ls g 0 g) x → x.from ≡ k → IsFrom x
   is_from x c from =
-      let s = link_side p ls g k d x here c from in
+      let s = link_side offsets p ls g k d x here c from in
       let goes = goes_to p ls k (get_or g k d) here.insn x.taken s.end s.present s.is in
       record {
         end = s.end;
         present = s.present;
         goes = goes;
         to_is = s.to_is;
-        node_is = ap (λ j. (get_or g j d).node) s.to_is ∙ (end_at p ls g s.end loops graph (here.led s.end s.among) goes.node).1 d;
+        node_is = ap (λ j. (get_or g j d).node) s.to_is ∙ (end_at offsets p ls g s.end loops graph (here.led s.end s.among) goes.node).1 d;
       }
 
   link : (x : Edge) → Contains (links p ls g 0 g) x → x.from ≡ k → IsLink p (get_or g k d) here.insn x.taken (get_or g x.to d)
@@ -273,10 +274,10 @@ module _ (p : XdpProgram) (ls : List Loop) (g : List Point) (k : ℕ) (d : Point
     insn_is = here.insn_is;
     allowed = here.allowed;
     each = link;
-    some = λ taken present. let s = side_link p ls g k d here below taken present in (number_of ls s.0.node g, s.2);
+    some = λ taken present. let s = side_link offsets p ls g k d here below taken present in (number_of ls s.0.node g, s.2);
     one = same_side;
     same = same_place;
   }
 
 pub nodes_have_links : NodesHaveLinks
-nodes_have_links p ls g k d loops graph below = links_here p ls g k d loops graph below
+nodes_have_links offsets p ls g k d loops graph below = links_here offsets p ls g k d loops graph below

@@ -7,6 +7,7 @@ use Rattle.xdp_machine.specs.Program.{XdpProgram}
 use Rattle.xdp_state.specs.declared.refusal.Refusal.{Refusal}
 use Rattle.xdp_state.specs.declared.refusal.BuildError.{BuildError}
 use Rattle.xdp_state.specs.declared.refusal.BuildError.TheVariants.{Refused, NoMemory}
+use Rattle.kind_core.specs.declared.kind.Offsets.{Offsets}
 use Rattle.unfold_core.specs.declared.nesting.Loop.{Loop}
 use Rattle.unfold_core.specs.declared.unfolding.Unfolded.{Unfolded}
 use Rattle.unfold_core.specs.Loops.{IsLoop, AreLoops, IsFirstPlace, Precedes}
@@ -85,33 +86,33 @@ one_place : (insns : List Insn) (r s : Refusal) → IsFirstPlace insns r → IsF
 one_place insns r s a b = same_refusal r s (one_at r s (a.first s b.refused) (b.first r a.refused)) (one_why r s (a.first s b.refused) (b.first r a.refused))
 
 -- ---- one outcome
-refusal_one : (p : XdpProgram) (r s : Refusal) → IsFirstRefusal p r → IsFirstRefusal p s → r ≡ s
-refusal_one p r s (inl a) (inl b) = one_place p.insns r s a b
-refusal_one p r s (inl a) (inr (ls, has, b)) = absurd (has.passed r a.refused)
-refusal_one p r s (inr (ls, has, a)) (inl b) = absurd (has.passed s b.refused)
-refusal_one p r s (inr (ls, has, a)) (inr (ms, had, b)) =
+refusal_one : (offsets : Offsets) (p : XdpProgram) (r s : Refusal) → IsFirstRefusal offsets p r → IsFirstRefusal offsets p s → r ≡ s
+refusal_one offsets p r s (inl a) (inl b) = one_place p.insns r s a b
+refusal_one offsets p r s (inl a) (inr (ls, has, b)) = absurd (has.passed r a.refused)
+refusal_one offsets p r s (inr (ls, has, a)) (inl b) = absurd (has.passed s b.refused)
+refusal_one offsets p r s (inr (ls, has, a)) (inr (ms, had, b)) =
     let same : ms ≡ ls = one_loops p.insns ms ls had.loops has.loops in
-    has_one_refusal p ls r s has.loops a (subst (λ (l : List Loop). IsFirstNode p l s) same b)
+    has_one_refusal offsets p ls r s has.loops a (subst (λ (l : List Loop). IsFirstNode offsets p l s) same b)
 
-refusal_alone : (p : XdpProgram) (r : Refusal) → IsFirstRefusal p r → ¬ IsAccepted p
-refusal_alone p r (inl a) accepted = accepted.has_loops.passed r a.refused
-refusal_alone p r (inr (ls, has, a)) accepted =
+refusal_alone : (offsets : Offsets) (p : XdpProgram) (r : Refusal) → IsFirstRefusal offsets p r → ¬ IsAccepted offsets p
+refusal_alone offsets p r (inl a) accepted = accepted.has_loops.passed r a.refused
+refusal_alone offsets p r (inr (ls, has, a)) accepted =
     let same : accepted.loops ≡ ls = one_loops p.insns accepted.loops ls accepted.has_loops.loops has.loops in
-    has_not_both p ls accepted.graph r has.loops (subst (λ (l : List Loop). IsGraph p l accepted.graph) same accepted.is_graph) a
+    has_not_both offsets p ls accepted.graph r has.loops (subst (λ (l : List Loop). IsGraph offsets p l accepted.graph) same accepted.is_graph) a
 
-pub has_one_outcome : (p : XdpProgram) → HasOneOutcome p
-has_one_outcome p = record { refusal = refusal_one p; never_both = refusal_alone p }
+pub has_one_outcome : (offsets : Offsets) (p : XdpProgram) → HasOneOutcome offsets p
+has_one_outcome offsets p = record { refusal = refusal_one offsets p; never_both = refusal_alone offsets p }
 
 -- ---- what is answered
-pub accepted_of : (p : XdpProgram) (u : Unfolded) → IsUnfolded p u → IsAccepted p
+pub accepted_of : (p : XdpProgram) (u : Unfolded) → IsUnfolded p u → IsAccepted u.offsets p
 accepted_of p u is = record { loops = u.loops.items; graph = u.nodes.items; has_loops = is.loops; is_graph = is.graph }
 
-pub exactly : (p : XdpProgram) (result : Result Unfolded BuildError) → Unfolds p result → (r : Refusal) → IsFirstRefusal p r → IsErrOf result (Refused r) ⊎ IsErrOf result NoMemory
-exactly p (Ok u) is r refused = absurd (refusal_alone p r refused (accepted_of p u is))
-exactly p (Err (Refused q)) is r refused = inl (ap (λ x. Err (Refused x)) (refusal_one p q r is refused))
-exactly p (Err NoMemory) is r refused = inr refl
+pub exactly : (offsets : Offsets) (p : XdpProgram) (result : Result Unfolded BuildError) → Unfolds offsets p result → (r : Refusal) → IsFirstRefusal offsets p r → IsErrOf result (Refused r) ⊎ IsErrOf result NoMemory
+exactly offsets p (Ok u) is r refused = absurd (refusal_alone offsets p r refused (subst (λ o. IsAccepted o p) is.1 (accepted_of p u is.0)))
+exactly offsets p (Err (Refused q)) is r refused = inl (ap (λ x. Err (Refused x)) (refusal_one offsets p q r is refused))
+exactly offsets p (Err NoMemory) is r refused = inr refl
 
-pub accepted : (p : XdpProgram) (result : Result Unfolded BuildError) → Unfolds p result → IsAccepted p → IfErr result (λ e. e ≡ NoMemory)
-accepted p (Ok u) is a = tt
-accepted p (Err (Refused q)) is a = absurd (refusal_alone p q is a)
-accepted p (Err NoMemory) is a = refl
+pub accepted : (offsets : Offsets) (p : XdpProgram) (result : Result Unfolded BuildError) → Unfolds offsets p result → IsAccepted offsets p → IfErr result (λ e. e ≡ NoMemory)
+accepted offsets p (Ok u) is a = tt
+accepted offsets p (Err (Refused q)) is a = absurd (refusal_alone offsets p q is a)
+accepted offsets p (Err NoMemory) is a = refl

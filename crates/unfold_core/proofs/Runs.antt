@@ -19,7 +19,10 @@ use Rattle.xdp_machine.specs.State as machine
 use Rattle.xdp_machine.specs.Step.{Goes, Ends, NoCase, step, goes_to}
 use Rattle.xdp_machine.specs.Program.{XdpProgram, program_code, IsProgram}
 use Rattle.xdp_machine.specs.Runs.{Leaves, leaves, run, then_on, Ended}
-use Rattle.xdp_machine.specs.MachineLaws.{StepsChangeOnly}
+use Rattle.xdp_machine.specs.Ranges.{IsInRange}
+use Rattle.xdp_machine.specs.MachineLaws.{StepsChangeOnly, StepsKeepRanges}
+use Rattle.kind_core.specs.declared.kind.Offsets.{Offsets}
+use Rattle.kind_core.specs.declared.kind.Offsets.TheVariants.{Fixed}
 use Rattle.kind_core.specs.declared.kind.Kinds.{Kinds}
 use Rattle.kind_core.specs.Kinds.{value_bytes}
 use Rattle.kind_core.specs.Tests.{passed}
@@ -57,22 +60,24 @@ pub record Laws : Type 0 where
   pub joins : JoinDescribes
   pub start : StartIsDescribed
   pub changes : StepsChangeOnly
+  pub ranges : StepsKeepRanges
 
 -- ---- a machine arrives at a node
 
--- the sizes of a machine, and its declarations
+-- the sizes of a machine, its declarations, and the ranges of what it holds
 pub record Fits (p : XdpProgram) (m : Machine) : Type 0 where
   pub registers : length m.registers ≡ 11
   pub stack : length m.stack ≡ 64
   pub decls : m.maps.decls ≡ p.decls
+  pub range : IsInRange m
 
 -- what describes a machine on an edge describes it at the node that the edge leads to
-arrives_at : (p : XdpProgram) (ls : List Loop) (g : List Point) (e : Point) (w : World) (m : Machine) → Laws → IsProgram p → AreLoops p.insns ls → IsGraph p ls g → In e (leading p ls g) → IsNode ls e.node
+arrives_at : (offsets : Offsets) (p : XdpProgram) (ls : List Loop) (g : List Point) (e : Point) (w : World) (m : Machine) → Laws → IsProgram p → AreLoops p.insns ls → IsGraph offsets p ls g → In e (leading offsets p ls g) → IsNode ls e.node
     → DescribesMachine w e.kinds m → w.node ≡ number_of ls e.node g → m.place ≡ e.node.place → Fits p m → StandsAt g w m
-arrives_at p ls g e w m laws program loops h among s described number place fits =
+arrives_at offsets p ls g e w m laws program loops h among s described number place fits =
     let o = nodes_are_ordered ls loops.nested in
     let fine : Fine ls g = fine_of ls g h.ordered.nodes h.ordered.ascending in
-    let has = arriving_has ls e.node (λ k. DescribesMachine w k m) (λ k j x. laws.joins w k j m x) (leading p ls g) e None among (same_itself ls e.node o s) described in
+    let has = arriving_has ls e.node (λ k. DescribesMachine w k m) (λ k j x. laws.joins w k j m x) (leading offsets p ls g) e None among (same_itself ls e.node o s) described in
     let there = found_at ls g e.node has.0 o fine s (h.known e.node s ∙ has.1) in
     subst_number has.0 has.2 there
   where
@@ -81,12 +86,13 @@ arrives_at p ls g e w m laws program loops h among s described number place fits
       inside = at.0;
       place = λ c. place ∙ ap (λ x. x.place) (sym (at.1 c).0);
       stands = λ c.
-          let sized = sized_at p ls g w.node c loops h at.0 in
+          let sized = sized_at offsets p ls g w.node c loops h at.0 in
           record {
             described = subst (λ x. DescribesMachine w x m) (sym (at.1 c).1) d;
             registers = sized.registers ∙ sym fits.registers;
             slots = sized.slots ∙ sym fits.stack;
             stack = fits.stack;
+            range = fits.range;
             values = λ q. subst (λ ds. value_bytes ds q ≤ 64) (sym fits.decls) (small_values p.decls program.decls q);
           };
     }
@@ -97,13 +103,13 @@ arrives_at p ls g e w m laws program loops h among s described number place fits
 -- ---- a machine at a node
 
 abbrev node_at : List Loop → List Point → World → Point
-node_at ls g w = get_or g w.node (first_point ls)
+node_at ls g w = get_or g w.node (first_point Fixed ls)
 
-pub record Here (p : XdpProgram) (ls : List Loop) (g : List Point) (w : World) (m : Machine) (es : List Point) (i : Insn) : Type 0 where
+pub record Here (offsets : Offsets) (p : XdpProgram) (ls : List Loop) (g : List Point) (w : World) (m : Machine) (es : List Point) (i : Insn) : Type 0 where
   pub laws : Laws
   pub program : IsProgram p
   pub loops : AreLoops p.insns ls
-  pub graph : IsGraph p ls g
+  pub graph : IsGraph offsets p ls g
   pub fits : Fits p m
   pub stands : StandsAt g w m
   pub begins : insn_at p.insns (node_at ls g w).node.place ≡ Some i
@@ -130,23 +136,23 @@ moved : (w : World) (k : Kinds) (m : Machine) (place : ℕ) → DescribesMachine
 unfolding at_place
 moved w k m place h = record { registers = h.registers; slots = h.slots; checked = h.checked; frame = h.frame }
 
-along_edge : (p : XdpProgram) (ls : List Loop) (g es : List Point) (w v : World) (m after : Machine) (i : Insn) (q : Point) (taken : Bool) → Here p ls g w m es i
+along_edge : (offsets : Offsets) (p : XdpProgram) (ls : List Loop) (g es : List Point) (w v : World) (m after : Machine) (i : Insn) (q : Point) (taken : Bool) → Here offsets p ls g w m es i
     → IsOne ls g es w.node (not (goes_next i.op (decided (node_at ls g w).kinds i))) taken q → step (program_code p) m ≡ Goes (at_place after q.node.place) → IsNext w v → DescribesMachine v q.kinds after → Moves p ls g w m
 unfolding at_place
-along_edge p ls g es w v m after i q taken h one goes next described =
+along_edge offsets p ls g es w v m after i q taken h one goes next described =
     let at = node_at ls g w in
     let k = w.node in
-    let node : IsNode ls at.node = h.graph.ordered.nodes k (first_point ls) h.stands.inside in
+    let node : IsNode ls at.node = h.graph.ordered.nodes k (first_point Fixed ls) h.stands.inside in
     let up : LeadsUp ls at q = all_in (LeadsUp ls at) es q (leaving_goes_up p ls k at es h.loops node h.leaves) one.among in
     let o = nodes_are_ordered ls h.loops.nested in
     let fine : Fine ls g = fine_of ls g h.graph.ordered.nodes h.graph.ordered.ascending in
-    let above : k < number_of ls q.node g = number_above ls g q.node k (first_point ls) o fine up.0 h.stands.inside up.1 in
+    let above : k < number_of ls q.node g = number_above ls g q.node k (first_point Fixed ls) o fine up.0 h.stands.inside up.1 in
     let there : World = record { frame = v.frame; node = number_of ls q.node g; gave = v.gave } in
     let later : IsLater v there = record { frame = refl; node = omega (arith, next.1, above); gave = λ n lt. refl } in
     let change = h.laws.changes (program_code p) m (at_place after q.node.place) h.fits.registers goes in
-    let fits : Fits p (at_place after q.node.place) = record { registers = change.registers ∙ h.fits.registers; stack = change.stack ∙ h.fits.stack; decls = change.decls ∙ h.fits.decls } in
+    let fits : Fits p (at_place after q.node.place) = record { registers = change.registers ∙ h.fits.registers; stack = change.stack ∙ h.fits.stack; decls = change.decls ∙ h.fits.decls; range = h.laws.ranges (program_code p) m (at_place after q.node.place) h.program.legal h.fits.range goes } in
     let zero_on : k ≡ 0 + k = omega arith in
-    let among : In q (leading p ls g) = inr (in_edges p ls 0 g k (first_point ls) q h.stands.inside (subst (λ j. In q (ends (leaving p ls j at))) zero_on (subst (λ r. In q (ends r)) (sym h.leaves) one.among))) in
+    let among : In q (leading offsets p ls g) = inr (in_edges p ls 0 g k (first_point Fixed ls) q h.stands.inside (subst (λ j. In q (ends (leaving p ls j at))) zero_on (subst (λ r. In q (ends r)) (sym h.leaves) one.among))) in
     let listed : numbered_at p ls g k at ≡ numbered ls g k (not (goes_next i.op (decided at.kinds i))) es =
     ap (λ x. numbered ls g k (jumps_first at.kinds x) (ends (leaving p ls k at))) h.begins ∙ ap (λ r. numbered ls g k (not (goes_next i.op (decided at.kinds i))) (ends r)) h.leaves in
     let link : Edge = edge k taken (number_of ls q.node g) in
@@ -155,11 +161,11 @@ along_edge p ls g es w v m after i q taken h one goes next described =
       world = there;
       next = at_place after q.node.place;
       goes = goes;
-      along = in_links p ls g 0 g k (first_point ls) link h.stands.inside (subst (λ j. Contains (numbered_at p ls g j at) link) zero_on (subst (λ xs. Contains xs link) (sym listed) one.numbered));
+      along = in_links p ls g 0 g k (first_point Fixed ls) link h.stands.inside (subst (λ j. Contains (numbered_at p ls g j at) link) zero_on (subst (λ xs. Contains xs link) (sym listed) one.numbered));
       later = record { frame = next.0.frame; node = omega (arith, above); gave = next.0.gave };
       above = above;
       fits = fits;
-      stands = arrives_at p ls g q there (at_place after q.node.place) h.laws h.program h.loops h.graph among up.0 (h.laws.later v there q.kinds (at_place after q.node.place) later (moved v q.kinds after q.node.place described)) refl refl fits;
+      stands = arrives_at offsets p ls g q there (at_place after q.node.place) h.laws h.program h.loops h.graph among up.0 (h.laws.later v there q.kinds (at_place after q.node.place) later (moved v q.kinds after q.node.place described)) refl refl fits;
     }
 
 -- an edge to a place where an instruction begins
@@ -172,25 +178,25 @@ goes_there insns k o q (pos place) after l e =
     ap (λ b. if b then Goes (record after { place = place }) else NoCase) (subst (λ x. begins insns x ≡ true) same l.begins) ∙ ap (λ x. Goes (record after { place = x })) (sym placed)
 goes_there insns k o q (negsuc place) after l e = let bad : Some l.to ≡ None = sym l.is ∙ e in absurd (cc)
 
-next_moves : (p : XdpProgram) (ls : List Loop) (g es : List Point) (w v : World) (m after : Machine) (i : Insn) → Here p ls g w m es i → goes_next i.op (decided (node_at ls g w).kinds i) ≡ true
+next_moves : (offsets : Offsets) (p : XdpProgram) (ls : List Loop) (g es : List Point) (w v : World) (m after : Machine) (i : Insn) → Here offsets p ls g w m es i → goes_next i.op (decided (node_at ls g w).kinds i) ≡ true
     → step (program_code p) m ≡ goes_to p.insns (pos (m.place + units_of i.op)) after → IsNext w v
     → DescribesMachine v (transferred p.decls (node_at ls g w).kinds i w.node (is_reference p (node_at ls g w).node.place) false) after → Moves p ls g w m
-next_moves p ls g es w v m after i h goes steps next described =
+next_moves offsets p ls g es w v m after i h goes steps next described =
     let at = node_at ls g w in
     let one = next_there p ls g es w.node at i h.edges goes in
     let leads = edge_gives p.insns ls at.node (transferred p.decls at.kinds i w.node (is_reference p at.node.place) false) (Some (at.node.place + units_of i.op)) one.0 one.1 in
-    let placed : Some (at.node.place + units_of i.op) ≡ natural (pos (m.place + units_of i.op)) = ap (λ x. Some (x + units_of i.op)) (sym (h.stands.place (first_point ls))) in
-    along_edge p ls g es w v m after i one.0 false h one.2 (steps ∙ goes_there p.insns _ _ one.0 (pos (m.place + units_of i.op)) after leads placed) next (subst (λ k. DescribesMachine v k after) (sym leads.kinds) described)
+    let placed : Some (at.node.place + units_of i.op) ≡ natural (pos (m.place + units_of i.op)) = ap (λ x. Some (x + units_of i.op)) (sym (h.stands.place (first_point Fixed ls))) in
+    along_edge offsets p ls g es w v m after i one.0 false h one.2 (steps ∙ goes_there p.insns _ _ one.0 (pos (m.place + units_of i.op)) after leads placed) next (subst (λ k. DescribesMachine v k after) (sym leads.kinds) described)
 
-jump_moves : (p : XdpProgram) (ls : List Loop) (g es : List Point) (w v : World) (m after : Machine) (i : Insn) (z : ℤ) → Here p ls g w m es i → goes_jump i.op (decided (node_at ls g w).kinds i) ≡ true
+jump_moves : (offsets : Offsets) (p : XdpProgram) (ls : List Loop) (g es : List Point) (w v : World) (m after : Machine) (i : Insn) (z : ℤ) → Here offsets p ls g w m es i → goes_jump i.op (decided (node_at ls g w).kinds i) ≡ true
     → target_of m.place (Some i) ≡ natural z → step (program_code p) m ≡ goes_to p.insns z after → IsNext w v
     → DescribesMachine v (transferred p.decls (node_at ls g w).kinds i w.node (is_reference p (node_at ls g w).node.place) true) after → Moves p ls g w m
-jump_moves p ls g es w v m after i z h goes aimed steps next described =
+jump_moves offsets p ls g es w v m after i z h goes aimed steps next described =
     let at = node_at ls g w in
     let one = jump_there p ls g es w.node at i h.edges goes in
     let leads = edge_gives p.insns ls at.node (transferred p.decls at.kinds i w.node (is_reference p at.node.place) true) (target_of at.node.place (Some i)) one.0 one.1 in
-    let placed : target_of at.node.place (Some i) ≡ natural z = ap (λ x. target_of x (Some i)) (sym (h.stands.place (first_point ls))) ∙ aimed in
-    along_edge p ls g es w v m after i one.0 true h one.2 (steps ∙ goes_there p.insns _ _ one.0 z after leads placed) next (subst (λ k. DescribesMachine v k after) (sym leads.kinds) described)
+    let placed : target_of at.node.place (Some i) ≡ natural z = ap (λ x. target_of x (Some i)) (sym (h.stands.place (first_point Fixed ls))) ∙ aimed in
+    along_edge offsets p ls g es w v m after i one.0 true h one.2 (steps ∙ goes_there p.insns _ _ one.0 z after leads placed) next (subst (λ k. DescribesMachine v k after) (sym leads.kinds) described)
 
 -- ---- the kinds on the edge of a step
 
@@ -217,49 +223,49 @@ jump_jumps wd c s o (inr e) = ap (goes_jump (Jump wd c s)) e
 abbrev Steps : XdpProgram → List Loop → List Point → World → Machine → Type 0
 Steps p ls g w m = ((verdict : ℕ) × (step (program_code p) m ≡ Ends verdict)) ⊎ Moves p ls g w m
 
-ja_moves : (p : XdpProgram) (ls : List Loop) (g es : List Point) (w : World) (m : Machine) (i : Insn) (wd : Width) → Here p ls g w m es i → i.op ≡ Ja wd
+ja_moves : (offsets : Offsets) (p : XdpProgram) (ls : List Loop) (g es : List Point) (w : World) (m : Machine) (i : Insn) (wd : Width) → Here offsets p ls g w m es i → i.op ≡ Ja wd
     → (l : StepLeads (program_code p) w (node_at ls g w).kinds m i (Ja wd)) → target_of m.place (Some i) ≡ natural (target m.place i (Ja wd) l.taken) → Moves p ls g w m
-ja_moves p ls g es w m i wd h e l aimed =
-    jump_moves p ls g es w l.world m l.after i (target m.place i (Ja wd) l.taken) h (ap (λ o. goes_jump o (decided (node_at ls g w).kinds i)) e) aimed l.goes l.later
-    (subst (λ k. DescribesMachine l.world k l.after) (kinds_either p m (node_at ls g w).kinds i w.node (node_at ls g w).node.place l.taken true h.fits.decls (h.stands.place (first_point ls)) (ap is_jump e)) l.described)
+ja_moves offsets p ls g es w m i wd h e l aimed =
+    jump_moves offsets p ls g es w l.world m l.after i (target m.place i (Ja wd) l.taken) h (ap (λ o. goes_jump o (decided (node_at ls g w).kinds i)) e) aimed l.goes l.later
+    (subst (λ k. DescribesMachine l.world k l.after) (kinds_either p m (node_at ls g w).kinds i w.node (node_at ls g w).node.place l.taken true h.fits.decls (h.stands.place (first_point Fixed ls)) (ap is_jump e)) l.described)
 
-plain_moves : (p : XdpProgram) (ls : List Loop) (g es : List Point) (w : World) (m : Machine) (i : Insn) (op : Op) → Here p ls g w m es i → i.op ≡ op → ((o : Option Bool) → goes_next op o ≡ true) → is_jump op ≡ false
+plain_moves : (offsets : Offsets) (p : XdpProgram) (ls : List Loop) (g es : List Point) (w : World) (m : Machine) (i : Insn) (op : Op) → Here offsets p ls g w m es i → i.op ≡ op → ((o : Option Bool) → goes_next op o ≡ true) → is_jump op ≡ false
     → (l : StepLeads (program_code p) w (node_at ls g w).kinds m i op) → target m.place i op l.taken ≡ pos (m.place + units_of op) → Moves p ls g w m
-plain_moves p ls g es w m i op h e goes plain l aimed =
-    next_moves p ls g es w l.world m l.after i h (ap (λ o. goes_next o (decided (node_at ls g w).kinds i)) e ∙ goes (decided (node_at ls g w).kinds i))
+plain_moves offsets p ls g es w m i op h e goes plain l aimed =
+    next_moves offsets p ls g es w l.world m l.after i h (ap (λ o. goes_next o (decided (node_at ls g w).kinds i)) e ∙ goes (decided (node_at ls g w).kinds i))
     (l.goes ∙ ap (λ z. goes_to p.insns z l.after) (aimed ∙ ap (λ o. pos (m.place + units_of o)) (sym e))) l.later
-    (subst (λ k. DescribesMachine l.world k l.after) (kinds_either p m (node_at ls g w).kinds i w.node (node_at ls g w).node.place l.taken false h.fits.decls (h.stands.place (first_point ls)) (ap is_jump e ∙ plain)) l.described)
+    (subst (λ k. DescribesMachine l.world k l.after) (kinds_either p m (node_at ls g w).kinds i w.node (node_at ls g w).node.place l.taken false h.fits.decls (h.stands.place (first_point Fixed ls)) (ap is_jump e ∙ plain)) l.described)
 
-branch_moves : (p : XdpProgram) (ls : List Loop) (g es : List Point) (w : World) (m : Machine) (i : Insn) (wd : Width) (c : JumpCode) (s : Src) → Here p ls g w m es i → i.op ≡ Jump wd c s
+branch_moves : (offsets : Offsets) (p : XdpProgram) (ls : List Loop) (g es : List Point) (w : World) (m : Machine) (i : Insn) (wd : Width) (c : JumpCode) (s : Src) → Here offsets p ls g w m es i → i.op ≡ Jump wd c s
     → (l : StepLeads (program_code p) w (node_at ls g w).kinds m i (Jump wd c s)) → Moves p ls g w m
-branch_moves p ls g es w m i wd c s h e l =
-    by_taken l.taken l.goes (subst (λ k. DescribesMachine l.world k l.after) (kinds_there p m (node_at ls g w).kinds i w.node (node_at ls g w).node.place l.taken h.fits.decls (h.stands.place (first_point ls))) l.described) l.present
+branch_moves offsets p ls g es w m i wd c s h e l =
+    by_taken l.taken l.goes (subst (λ k. DescribesMachine l.world k l.after) (kinds_there p m (node_at ls g w).kinds i w.node (node_at ls g w).node.place l.taken h.fits.decls (h.stands.place (first_point Fixed ls))) l.described) l.present
   where
     by_taken : (t : Bool) → step (program_code p) m ≡ goes_to p.insns (if t then pos (m.place + 1) +ℤ i.offset else pos (m.place + 1)) l.after
         → DescribesMachine l.world (transferred p.decls (node_at ls g w).kinds i w.node (is_reference p (node_at ls g w).node.place) t) l.after
         → (decided_as (node_at ls g w).kinds i (Jump wd c s) ≡ None) ⊎ (decided_as (node_at ls g w).kinds i (Jump wd c s) ≡ Some t) → Moves p ls g w m
     by_taken true goes d present =
-        jump_moves p ls g es w l.world m l.after i (pos (m.place + 1) +ℤ i.offset) h
+        jump_moves offsets p ls g es w l.world m l.after i (pos (m.place + 1) +ℤ i.offset) h
         (ap (λ o. goes_jump o (decided_as (node_at ls g w).kinds i o)) e ∙ jump_jumps wd c s (decided_as (node_at ls g w).kinds i (Jump wd c s)) present)
         (ap (λ o. led_to m.place (distance i o)) e) goes l.later d
     by_taken false goes d present =
-        next_moves p ls g es w l.world m l.after i h
+        next_moves offsets p ls g es w l.world m l.after i h
         (ap (λ o. goes_next o (decided_as (node_at ls g w).kinds i o)) e ∙ jump_next wd c s (decided_as (node_at ls g w).kinds i (Jump wd c s)) present)
         (goes ∙ ap (λ o. goes_to p.insns (pos (m.place + units_of o)) l.after) (sym e)) l.later d
 
-by_op : (p : XdpProgram) (ls : List Loop) (g es : List Point) (w : World) (m : Machine) (i : Insn) (op : Op) → Here p ls g w m es i → i.op ≡ op → GoesOn (program_code p) w (node_at ls g w).kinds m i op → Steps p ls g w m
-by_op p ls g es w m i Exit h e s = inl s
-by_op p ls g es w m i (Ja Bits64) h e l = inr (ja_moves p ls g es w m i Bits64 h e l (ap (λ o. led_to m.place (distance i o)) e))
-by_op p ls g es w m i (Ja Bits32) h e l = inr (ja_moves p ls g es w m i Bits32 h e l (ap (λ o. led_to m.place (distance i o)) e))
-by_op p ls g es w m i (Jump wd c s) h e l = inr (branch_moves p ls g es w m i wd c s h e l)
-by_op p ls g es w m i op h e l = inr (plain_moves p ls g es w m i op h e (λ o. refl) refl l refl)
+by_op : (offsets : Offsets) (p : XdpProgram) (ls : List Loop) (g es : List Point) (w : World) (m : Machine) (i : Insn) (op : Op) → Here offsets p ls g w m es i → i.op ≡ op → GoesOn (program_code p) w (node_at ls g w).kinds m i op → Steps p ls g w m
+by_op offsets p ls g es w m i Exit h e s = inl s
+by_op offsets p ls g es w m i (Ja Bits64) h e l = inr (ja_moves offsets p ls g es w m i Bits64 h e l (ap (λ o. led_to m.place (distance i o)) e))
+by_op offsets p ls g es w m i (Ja Bits32) h e l = inr (ja_moves offsets p ls g es w m i Bits32 h e l (ap (λ o. led_to m.place (distance i o)) e))
+by_op offsets p ls g es w m i (Jump wd c s) h e l = inr (branch_moves offsets p ls g es w m i wd c s h e l)
+by_op offsets p ls g es w m i op h e l = inr (plain_moves offsets p ls g es w m i op h e (λ o. refl) refl l refl)
 
 -- ---- a step from a node
 
-steps_on : (p : XdpProgram) (ls : List Loop) (g : List Point) (w : World) (m : Machine) → Laws → IsProgram p → AreLoops p.insns ls → IsGraph p ls g → Fits p m → StandsAt g w m → Steps p ls g w m
-steps_on p ls g w m laws program loops graph fits stands =
+steps_on : (offsets : Offsets) (p : XdpProgram) (ls : List Loop) (g : List Point) (w : World) (m : Machine) → Laws → IsProgram p → AreLoops p.insns ls → IsGraph offsets p ls g → Fits p m → StandsAt g w m → Steps p ls g w m
+steps_on offsets p ls g w m laws program loops graph fits stands =
     let at = node_at ls g w in
-    let d = first_point ls in
+    let d = first_point Fixed ls in
     let pass = pass_at p ls 0 g w.node d graph.pass stands.inside in
     let number : w.node ≡ 0 + w.node = omega arith in
     let leaves : leaving p ls w.node at ≡ Ok pass.0 = ap (λ k. leaving p ls k at) number ∙ pass.1 in
@@ -268,7 +274,7 @@ steps_on p ls g w m laws program loops graph fits stands =
     let here : insn_at p.insns m.place ≡ Some i = ap (insn_at p.insns) (stands.place d) ∙ parts.1 in
     let legal : IsInsn i = subst (λ o. IfSome o IsInsn) parts.1 (legal_at p.insns at.node.place program.legal) in
     let passes : verdict (effect_of m.maps.decls at.kinds i) ≡ passed = ap (λ ds. verdict (effect_of ds at.kinds i)) fits.decls ∙ parts.2 in
-    by_op p ls g pass.0 w m i i.op
+    by_op offsets p ls g pass.0 w m i i.op
     (record { laws = laws; program = program; loops = loops; graph = graph; fits = fits; stands = stands; begins = parts.1; passes = parts.2; leaves = leaves; edges = parts.3 }) refl
     (laws.steps (program_code p) w at.kinds m i (stands.stands d) legal here passes)
 
@@ -314,7 +320,7 @@ ending : (p : XdpProgram) (u : Unfolded) (most : ℕ) (w : World) (m : Machine) 
     → Ending p u w m most
 ending p u zero w m laws program h most fits stands = absurd (omega (arith, stands.inside))
 ending p u (suc n) w m laws program h most fits stands =
-    by_step (steps_on p u.loops.items u.nodes.items w m laws program h.loops.loops h.graph fits stands)
+    by_step (steps_on u.offsets p u.loops.items u.nodes.items w m laws program h.loops.loops h.graph fits stands)
     (λ moves. ending p u n moves.world moves.next laws program h (omega (arith, moves.above)) moves.fits moves.stands)
   where
     by_step : Steps p u.loops.items u.nodes.items w m → ((moves : Moves p u.loops.items u.nodes.items w m) → Ending p u moves.world moves.next n) → Ending p u w m (suc n)
@@ -326,16 +332,16 @@ nothing_yet : ℕ → Value
 nothing_yet n = is.Unset
 
 pub runs_are_sound : Laws → RunsAreSound
-runs_are_sound laws p u packet maps program h declared =
+runs_are_sound laws p u packet maps program h declared range =
     let ls = u.loops.items in
     let g = u.nodes.items in
     let m : Machine = machine.start packet maps in
-    let begin : Point = first_point ls in
+    let begin : Point = first_point u.offsets ls in
     let w : World = record { frame = length packet.frame; node = number_of ls begin.node g; gave = nothing_yet } in
     let begun : World = record { frame = length packet.frame; node = 0; gave = nothing_yet } in
-    let fits : Fits p m = record { registers = refl; stack = refl; decls = declared } in
+    let fits : Fits p m = record { registers = refl; stack = refl; decls = declared; range = range } in
     let later : IsLater begun w = record { frame = refl; node = omega arith; gave = λ n lt. refl } in
-    let described : DescribesMachine w begin.kinds m = laws.later begun w begin.kinds m later (laws.start nothing_yet m refl refl) in
-    let stands : StandsAt g w m = arrives_at p ls g begin w m laws program h.loops.loops h.graph (inl refl) (start_is_node ls) described refl refl fits in
+    let described : DescribesMachine w begin.kinds m = laws.later begun w begin.kinds m later (laws.start u.offsets nothing_yet m refl refl) in
+    let stands : StandsAt g w m = arrives_at u.offsets p ls g begin w m laws program h.loops.loops h.graph (inl refl) (start_is_node ls) described refl refl fits in
     let onward : Ending p u w m (length g) = ending p u (length g) w m laws program h (omega arith) fits stands in
     record { world = w; first = start_is_first ls g; left = onward.left; path = onward.path; ended = onward.ended }

@@ -10,6 +10,7 @@ use Rattle.xdp_state.specs.declared.refusal.Why.TheVariants as why
 use Rattle.xdp_state.specs.declared.refusal.Refusal.{Refusal}
 use Rattle.xdp_state.specs.declared.refusal.BuildError.{BuildError}
 use Rattle.xdp_state.specs.declared.refusal.BuildError.TheVariants.{Refused, NoMemory}
+use Rattle.kind_core.specs.declared.kind.Offsets.{Offsets}
 use Rattle.unfold_core.specs.declared.nesting.Loop.{Loop}
 use Rattle.unfold_core.specs.declared.edges.Point.{Point}
 use Rattle.unfold_core.specs.Loops.{Nests, AreLoops}
@@ -23,10 +24,10 @@ use Rattle.unfold_core.proofs.EdgesUp.{leaving_goes_up}
 use Rattle.unfold_core.proofs.Arriving.{Fine, Later, fine_of, fine_nodes, ordered_of, fine_left, fine_right, fine_before, same_is, found_none, ends_fine, ends_found, with_ends_after, arriving_append}
 
 -- the nodes so far, and those that are pending
-pub record IsWalk (p : XdpProgram) (ls : List Loop) (g w : List Point) : Type 0 where
+pub record IsWalk (offsets : Offsets) (p : XdpProgram) (ls : List Loop) (g w : List Point) : Type 0 where
   pub ordered : AreOrdered ls (g ++ w)
   pub pass : Pass p ls 0 g
-  pub known : (n : GraphNode) → IsNode ls n → found ls n (g ++ w) ≡ arriving ls n None (leading p ls g)
+  pub known : (n : GraphNode) → IsNode ls n → found ls n (g ++ w) ≡ arriving ls n None (leading offsets p ls g)
 
 edges_push : (p : XdpProgram) (ls : List Loop) (k : ℕ) (g : List Point) (q : Point) → edges_from p ls k (g ++ q ∷ []) ≡ edges_from p ls k g ++ ends (leaving p ls (k + length g) q)
 edges_push p ls k [] q = let same : k ≡ k + 0 = omega arith in append-nil (ends (leaving p ls k q)) ∙ ap (λ j. ends (leaving p ls j q)) same
@@ -43,22 +44,22 @@ pass_push p ls k (n ∷ g) q es h e =
 
 -- ---- the start
 
-pub walk_begins : (p : XdpProgram) (ls : List Loop) (g w : List Point) → AllPairs Nests ls → g ≡ [] → w ≡ first_point ls ∷ [] → IsWalk p ls g w
-walk_begins p ls g w nested e f = subst (λ xs. IsWalk p ls xs w) (sym e) (subst (IsWalk p ls []) (sym f) (record {
-  ordered = ordered_of ls (first_point ls ∷ []) nested (start_is_node ls, All-nil (Later ls (first_point ls)), tt);
+pub walk_begins : (offsets : Offsets) (p : XdpProgram) (ls : List Loop) (g w : List Point) → AllPairs Nests ls → g ≡ [] → w ≡ first_point offsets ls ∷ [] → IsWalk offsets p ls g w
+walk_begins offsets p ls g w nested e f = subst (λ xs. IsWalk offsets p ls xs w) (sym e) (subst (IsWalk offsets p ls []) (sym f) (record {
+  ordered = ordered_of ls (first_point offsets ls ∷ []) nested (start_is_node ls, All-nil (Later ls (first_point offsets ls)), tt);
   pass = tt;
   known = λ n s. by_same n (same ls (start ls) n);
 }))
   where
-    by_same : (n : GraphNode) (b : Bool) → (if b then Some (first_point ls).kinds else None) ≡ (if b then Some (first_point ls).kinds else None)
+    by_same : (n : GraphNode) (b : Bool) → (if b then Some (first_point offsets ls).kinds else None) ≡ (if b then Some (first_point offsets ls).kinds else None)
     by_same n b = refl
 
 -- ---- one more node
 
-walk_ends : (p : XdpProgram) (ls : List Loop) (g es : List Point) (q : Point) → leaving p ls (length g) q ≡ Ok es → leading p ls (g ++ q ∷ []) ≡ leading p ls g ++ es
-walk_ends p ls g es q e =
+walk_ends : (offsets : Offsets) (p : XdpProgram) (ls : List Loop) (g es : List Point) (q : Point) → leaving p ls (length g) q ≡ Ok es → leading offsets p ls (g ++ q ∷ []) ≡ leading offsets p ls g ++ es
+walk_ends offsets p ls g es q e =
     let same : 0 + length g ≡ length g = omega arith in
-    ap (λ xs. first_point ls ∷ xs) (edges_push p ls 0 g q ∙ ap (λ r. edges_from p ls 0 g ++ ends r) (ap (λ j. leaving p ls j q) same ∙ e))
+    ap (λ xs. first_point offsets ls ∷ xs) (edges_push p ls 0 g q ∙ ap (λ r. edges_from p ls 0 g ++ ends r) (ap (λ j. leaving p ls j q) same ∙ e))
 
 -- all that is done comes before the ends of its edges
 before_ends : (p : XdpProgram) (ls : List Loop) (g w es : List Point) (q : Point) → AllPairs Nests ls → Fine ls (g ++ q ∷ w) → All (LeadsUp ls q) es
@@ -73,9 +74,9 @@ before_ends p ls g w es q nested fine up = λ k d below.
     (λ i c under. o.transitive (get_or g i c).node q.node (get_or es k d).node (nodes i c under) node u.0 (before i c under) u.1)
     (All-cons (λ a. comes_before ls a.node (get_or es k d).node ≡ true) q [] u.1 (All-nil (λ a. comes_before ls a.node (get_or es k d).node ≡ true)))
 
-pub walk_more : (p : XdpProgram) (ls : List Loop) (g w es : List Point) (q : Point) → AreLoops p.insns ls → IsWalk p ls g (q ∷ w) → leaving p ls (length g) q ≡ Ok es
-    → IsWalk p ls (g ++ q ∷ []) (with_ends ls w es)
-walk_more p ls g w es q loops h e =
+pub walk_more : (offsets : Offsets) (p : XdpProgram) (ls : List Loop) (g w es : List Point) (q : Point) → AreLoops p.insns ls → IsWalk offsets p ls g (q ∷ w) → leaving p ls (length g) q ≡ Ok es
+    → IsWalk offsets p ls (g ++ q ∷ []) (with_ends ls w es)
+walk_more offsets p ls g w es q loops h e =
     let o = nodes_are_ordered ls loops.nested in
     let all : Fine ls (g ++ q ∷ w) = fine_of ls (g ++ q ∷ w) h.ordered.nodes h.ordered.ascending in
     let node : IsNode ls q.node = (fine_right ls g (q ∷ w) all).0 in
@@ -92,13 +93,13 @@ walk_more p ls g w es q loops h e =
           ap (found ls n) (sym front)
           ∙ ends_found ls n ((g ++ q ∷ []) ++ w) es o fine nodes s
           ∙ ap (λ k. arriving ls n k es) (ap (found ls n) whole ∙ h.known n s)
-          ∙ sym (ap (arriving ls n None) (walk_ends p ls g es q e) ∙ arriving_append ls n None (leading p ls g) es);
+          ∙ sym (ap (arriving ls n None) (walk_ends offsets p ls g es q e) ∙ arriving_append ls n None (leading offsets p ls g) es);
     }
 
 -- ---- the end
 
-pub walk_ended : (p : XdpProgram) (ls : List Loop) (g w : List Point) → IsWalk p ls g w → w ≡ [] → length g ≤ 16384 → IsGraph p ls g
-walk_ended p ls g w h e few =
+pub walk_ended : (offsets : Offsets) (p : XdpProgram) (ls : List Loop) (g w : List Point) → IsWalk offsets p ls g w → w ≡ [] → length g ≤ 16384 → IsGraph offsets p ls g
+walk_ended offsets p ls g w h e few =
     let whole : g ++ w ≡ g = ap (λ xs. g ++ xs) e ∙ append-nil g in
     record {
       few = few;
@@ -122,8 +123,8 @@ others ls n w q nested s h differ = λ k d below. by_same (get_or w k d) (fine_n
         let bad : true ≡ false = sym first ∙ differ in absurd (cc)
     by_same m t up false g = refl
 
-pub walk_refused : (p : XdpProgram) (ls : List Loop) (g w : List Point) (q : Point) (r : Refusal) → IsWalk p ls g (q ∷ w) → IsRefused p ls (length g) q r.why → r.at ≡ q.node.place → IsFirstNode p ls r
-walk_refused p ls g w q r h refused at =
+pub walk_refused : (offsets : Offsets) (p : XdpProgram) (ls : List Loop) (g w : List Point) (q : Point) (r : Refusal) → IsWalk offsets p ls g (q ∷ w) → IsRefused p ls (length g) q r.why → r.at ≡ q.node.place → IsFirstNode offsets p ls r
+walk_refused offsets p ls g w q r h refused at =
     let all : Fine ls (g ++ q ∷ w) = fine_of ls (g ++ q ∷ w) h.ordered.nodes h.ordered.ascending in
     let whole : (g ++ q ∷ []) ++ w ≡ g ++ q ∷ w = append_assoc g (q ∷ []) w in
     record {
@@ -145,35 +146,35 @@ nothing_left (q ∷ w) h = absurd (omega arith)
 at_number : (p : XdpProgram) (ls : List Loop) (g : List Point) (q : Point) (number : ℕ) (r : Result (List Point) Why) → length g ≡ number → leaving p ls number q ≡ r → leaving p ls (length g) q ≡ r
 at_number p ls g q number r counted e = ap (λ j. leaving p ls j q) counted ∙ e
 
-pub walk_done : (p : XdpProgram) (ls : List Loop) (g w : List Point) → IsWalk p ls g w → length w ≡ 0 → length g ≤ 16384 → IsGraph p ls g
-walk_done p ls g w h e few = walk_ended p ls g w h (nothing_left w e) few
+pub walk_done : (offsets : Offsets) (p : XdpProgram) (ls : List Loop) (g w : List Point) → IsWalk offsets p ls g w → length w ≡ 0 → length g ≤ 16384 → IsGraph offsets p ls g
+walk_done offsets p ls g w h e few = walk_ended offsets p ls g w h (nothing_left w e) few
 
-pub walk_ordered : (p : XdpProgram) (ls : List Loop) (g from w : List Point) (q : Point) → IsWalk p ls g from → from ≡ q ∷ w → AreOrdered ls w
-walk_ordered p ls g from w q h e =
-    let k : IsWalk p ls g (q ∷ w) = subst (IsWalk p ls g) e h in
+pub walk_ordered : (offsets : Offsets) (p : XdpProgram) (ls : List Loop) (g from w : List Point) (q : Point) → IsWalk offsets p ls g from → from ≡ q ∷ w → AreOrdered ls w
+walk_ordered offsets p ls g from w q h e =
+    let k : IsWalk offsets p ls g (q ∷ w) = subst (IsWalk offsets p ls g) e h in
     ordered_of ls w k.ordered.nested (fine_right ls g (q ∷ w) (fine_of ls (g ++ q ∷ w) k.ordered.nodes k.ordered.ascending)).2
 
-pub ends_are_nodes : (p : XdpProgram) (ls : List Loop) (g from w es : List Point) (q : Point) (number : ℕ) → AreLoops p.insns ls → IsWalk p ls g from → from ≡ q ∷ w → leaving p ls number q ≡ Ok es
+pub ends_are_nodes : (offsets : Offsets) (p : XdpProgram) (ls : List Loop) (g from w es : List Point) (q : Point) (number : ℕ) → AreLoops p.insns ls → IsWalk offsets p ls g from → from ≡ q ∷ w → leaving p ls number q ≡ Ok es
     → All (λ x. IsNode ls x.node) es
-ends_are_nodes p ls g from w es q number loops h e f =
-    let k : IsWalk p ls g (q ∷ w) = subst (IsWalk p ls g) e h in
+ends_are_nodes offsets p ls g from w es q number loops h e f =
+    let k : IsWalk offsets p ls g (q ∷ w) = subst (IsWalk offsets p ls g) e h in
     let node : IsNode ls q.node = (fine_right ls g (q ∷ w) (fine_of ls (g ++ q ∷ w) k.ordered.nodes k.ordered.ascending)).0 in
     λ i d below. (leaving_goes_up p ls number q es loops node f i d below).0
 
-pub walk_on : (p : XdpProgram) (ls : List Loop) (g next from w after es : List Point) (q : Point) (number : ℕ) → AreLoops p.insns ls → IsWalk p ls g from → from ≡ q ∷ w → length g ≡ number → leaving p ls number q ≡ Ok es
-    → next ≡ g ++ q ∷ [] → after ≡ with_ends ls w es → IsWalk p ls next after
-walk_on p ls g next from w after es q number loops h e counted f a b =
-    let k : IsWalk p ls g (q ∷ w) = subst (IsWalk p ls g) e h in
-    let on : IsWalk p ls (g ++ q ∷ []) (with_ends ls w es) = walk_more p ls g w es q loops k (at_number p ls g q number (Ok es) counted f) in
-    subst (λ xs. IsWalk p ls xs after) (sym a) (subst (IsWalk p ls (g ++ q ∷ [])) (sym b) on)
+pub walk_on : (offsets : Offsets) (p : XdpProgram) (ls : List Loop) (g next from w after es : List Point) (q : Point) (number : ℕ) → AreLoops p.insns ls → IsWalk offsets p ls g from → from ≡ q ∷ w → length g ≡ number → leaving p ls number q ≡ Ok es
+    → next ≡ g ++ q ∷ [] → after ≡ with_ends ls w es → IsWalk offsets p ls next after
+walk_on offsets p ls g next from w after es q number loops h e counted f a b =
+    let k : IsWalk offsets p ls g (q ∷ w) = subst (IsWalk offsets p ls g) e h in
+    let on : IsWalk offsets p ls (g ++ q ∷ []) (with_ends ls w es) = walk_more offsets p ls g w es q loops k (at_number p ls g q number (Ok es) counted f) in
+    subst (λ xs. IsWalk offsets p ls xs after) (sym a) (subst (IsWalk offsets p ls (g ++ q ∷ [])) (sym b) on)
 
-pub walk_failed : (p : XdpProgram) (ls : List Loop) (g from w : List Point) (q : Point) (number : ℕ) (e : BuildError) → IsWalk p ls g from → from ≡ q ∷ w → length g ≡ number → number < 16384
-    → Leaves q.node.place (leaving p ls number q) (Err e) → Walks p ls (Err e)
-walk_failed p ls g from w q number NoMemory h step counted few f = tt
-walk_failed p ls g from w q number (Refused r) h step counted few f =
-    walk_refused p ls g w q r (subst (IsWalk p ls g) step h) (inr (omega (arith, counted, few), at_number p ls g q number (Err r.why) counted f.0)) f.1
+pub walk_failed : (offsets : Offsets) (p : XdpProgram) (ls : List Loop) (g from w : List Point) (q : Point) (number : ℕ) (e : BuildError) → IsWalk offsets p ls g from → from ≡ q ∷ w → length g ≡ number → number < 16384
+    → Leaves q.node.place (leaving p ls number q) (Err e) → Walks offsets p ls (Err e)
+walk_failed offsets p ls g from w q number NoMemory h step counted few f = tt
+walk_failed offsets p ls g from w q number (Refused r) h step counted few f =
+    walk_refused offsets p ls g w q r (subst (IsWalk offsets p ls g) step h) (inr (omega (arith, counted, few), at_number p ls g q number (Err r.why) counted f.0)) f.1
 
-pub walk_too_long : (p : XdpProgram) (ls : List Loop) (g from w : List Point) (q : Point) (place : ℕ) (e : BuildError) → IsWalk p ls g from → from ≡ q ∷ w → length g ≡ 16384 → place ≡ q.node.place
-    → e ≡ Refused (record { at = place; why = why.Size }) → Walks p ls (Err e)
-walk_too_long p ls g from w q place e h step counted at is =
-    subst (λ x. Walks p ls (Err x)) (sym is) (walk_refused p ls g w q (record { at = place; why = why.Size }) (subst (IsWalk p ls g) step h) (inl (counted, refl)) at)
+pub walk_too_long : (offsets : Offsets) (p : XdpProgram) (ls : List Loop) (g from w : List Point) (q : Point) (place : ℕ) (e : BuildError) → IsWalk offsets p ls g from → from ≡ q ∷ w → length g ≡ 16384 → place ≡ q.node.place
+    → e ≡ Refused (record { at = place; why = why.Size }) → Walks offsets p ls (Err e)
+walk_too_long offsets p ls g from w q place e h step counted at is =
+    subst (λ x. Walks offsets p ls (Err x)) (sym is) (walk_refused offsets p ls g w q (record { at = place; why = why.Size }) (subst (IsWalk offsets p ls g) step h) (inl (counted, refl)) at)

@@ -5,6 +5,7 @@ use Rattle.std.specs.List.{AllPairs}
 use Rattle.std.specs.declared.vec.Vec.{Vec}
 use Rattle.std.specs.declared.alloc.Global.{Global}
 use Rattle.xdp_machine.specs.Program.{XdpProgram}
+use Rattle.kind_core.specs.declared.kind.Offsets.{Offsets}
 use Rattle.kind_core.specs.declared.kind.Kinds.{Kinds}
 use Rattle.xdp_state.specs.declared.refusal.Why.{Why}
 use Rattle.xdp_state.specs.declared.refusal.Why.TheVariants as why
@@ -48,8 +49,8 @@ pub record AreOrdered (ls : List Loop) (g : List Point) : Type 0 where
   pub ascending : AllPairs (λ p q. comes_before ls p.node q.node ≡ true) g
 
 -- a run begins with the first kinds
-abbrev pub first_point : List Loop → Point
-first_point ls = record { node = start ls; kinds = kinds.start }
+abbrev pub first_point : Offsets → List Loop → Point
+first_point offsets ls = record { node = start ls; kinds = kinds.start offsets }
 
 abbrev pub ends : Result (List Point) Why → List Point
 ends (Ok es) = es
@@ -61,8 +62,8 @@ edges_from p ls k [] = []
 edges_from p ls k (n ∷ ns) = ends (leaving p ls k n) ++ edges_from p ls (k + 1) ns
 
 -- what leads to nodes: the start, and the edges of the nodes
-abbrev pub leading : XdpProgram → List Loop → List Point → List Point
-leading p ls g = first_point ls ∷ edges_from p ls 0 g
+abbrev pub leading : Offsets → XdpProgram → List Loop → List Point → List Point
+leading offsets p ls g = first_point offsets ls ∷ edges_from p ls 0 g
 
 -- no test refuses these nodes
 abbrev pub Pass : XdpProgram → List Loop → ℕ → List Point → Type 0
@@ -75,27 +76,27 @@ most_nodes = 16384
 
 -- The graph of a program: exactly the nodes that the start or an edge leads to, in unfolded order; what is known at each is the join
 -- over all edges that lead to it; and no node is refused.
-pub record IsGraph (p : XdpProgram) (ls : List Loop) (g : List Point) : Type 0 where
+pub record IsGraph (offsets : Offsets) (p : XdpProgram) (ls : List Loop) (g : List Point) : Type 0 where
   pub few : length g ≤ most_nodes
   pub ordered : AreOrdered ls g
   pub pass : Pass p ls 0 g
-  pub known : (n : GraphNode) → IsNode ls n → found ls n g ≡ arriving ls n None (leading p ls g)
+  pub known : (n : GraphNode) → IsNode ls n → found ls n g ≡ arriving ls n None (leading offsets p ls g)
 
 -- a node of this number is refused: it is one too many, or fails a test
 abbrev pub IsRefused : XdpProgram → List Loop → ℕ → Point → Why → Type 0
 IsRefused p ls number n w = ((number ≡ most_nodes) × (w ≡ why.Size)) ⊎ ((number < most_nodes) × (leaving p ls number n ≡ Err w))
 
 -- The first node that is refused: up to it the nodes are those of the graph, and it is the only one of them that is refused.
-pub record IsFirstNode (p : XdpProgram) (ls : List Loop) (r : Refusal) : Type 0 where
+pub record IsFirstNode (offsets : Offsets) (p : XdpProgram) (ls : List Loop) (r : Refusal) : Type 0 where
   pub before : List Point
   pub node : Point
   pub ordered : AreOrdered ls (before ++ node ∷ [])
   pub pass : Pass p ls 0 before
-  pub known : (n : GraphNode) → IsNode ls n → comes_before ls node.node n ≡ false → found ls n (before ++ node ∷ []) ≡ arriving ls n None (leading p ls before)
+  pub known : (n : GraphNode) → IsNode ls n → comes_before ls node.node n ≡ false → found ls n (before ++ node ∷ []) ≡ arriving ls n None (leading offsets p ls before)
   pub refused : IsRefused p ls (length before) node r.why
   pub at_is : r.at ≡ node.node.place
 
-abbrev pub Walks : XdpProgram → List Loop → Result (Vec Point Global) BuildError → Type 0
-Walks p ls (Ok v) = IsGraph p ls v.items
-Walks p ls (Err (Refused r)) = IsFirstNode p ls r
-Walks p ls (Err NoMemory) = Unit {0}
+abbrev pub Walks : Offsets → XdpProgram → List Loop → Result (Vec Point Global) BuildError → Type 0
+Walks offsets p ls (Ok v) = IsGraph offsets p ls v.items
+Walks offsets p ls (Err (Refused r)) = IsFirstNode offsets p ls r
+Walks offsets p ls (Err NoMemory) = Unit {0}

@@ -5,6 +5,7 @@ use Rattle.xdp_machine.specs.bpf_isa.declared.instruction.Insn.{Insn}
 use Rattle.xdp_machine.specs.bpf_isa.Text.{insn_at}
 use Rattle.xdp_machine.specs.State.{begins}
 use Rattle.xdp_machine.specs.Program.{XdpProgram}
+use Rattle.kind_core.specs.declared.kind.Offsets.{Offsets}
 use Rattle.kind_core.specs.declared.kind.Kinds.{Kinds}
 use Rattle.kind_core.specs.Kinds as kinds
 use Rattle.kind_core.specs.Tests.{passed}
@@ -46,7 +47,7 @@ pub record HasLinks (p : XdpProgram) (ls : List Loop) (g : List Point) (k : ℕ)
 
 -- Each node of a graph has its present edges.
 abbrev pub NodesHaveLinks : Type 0
-NodesHaveLinks = (p : XdpProgram) (ls : List Loop) (g : List Point) (k : ℕ) (d : Point) → AreLoops p.insns ls → IsGraph p ls g → k < length g → HasLinks p ls g k d
+NodesHaveLinks = (offsets : Offsets) (p : XdpProgram) (ls : List Loop) (g : List Point) (k : ℕ) (d : Point) → AreLoops p.insns ls → IsGraph offsets p ls g → k < length g → HasLinks p ls g k d
 
 -- what is known on an edge, after the instruction of the node that it leaves
 abbrev pub known_behind : XdpProgram → Point → Edge → Option Insn → Kinds
@@ -57,22 +58,22 @@ abbrev pub known_on : XdpProgram → List Point → Point → Edge → Kinds
 known_on p g d x = known_behind p (get_or g x.from d) x (insn_at p.insns (get_or g x.from d).node.place)
 
 -- these kinds come to node k by an edge, or by the start
-abbrev pub Comes : XdpProgram → List Loop → List Point → ℕ → Point → Kinds → Type 0
-Comes p ls g k d j = ((k ≡ 0) × (j ≡ kinds.start)) ⊎ ((x : Edge) × Contains (links p ls g 0 g) x × (x.to ≡ k) × (j ≡ known_on p g d x))
+abbrev pub Comes : Offsets → XdpProgram → List Loop → List Point → ℕ → Point → Kinds → Type 0
+Comes offsets p ls g k d j = ((k ≡ 0) × (j ≡ kinds.start offsets)) ⊎ ((x : Edge) × Contains (links p ls g 0 g) x × (x.to ≡ k) × (j ≡ known_on p g d x))
 
 -- What is known at node k is the join of what is known on the edges to it, and of what a run begins with at the first one: of all of them, and of
 -- nothing else.
-pub record JoinsLinks (p : XdpProgram) (ls : List Loop) (g : List Point) (k : ℕ) (d : Point) : Type 0 where
+pub record JoinsLinks (offsets : Offsets) (p : XdpProgram) (ls : List Loop) (g : List Point) (k : ℕ) (d : Point) : Type 0 where
   pub head : Kinds
   pub tail : List Kinds
   pub kinds_are : (get_or g k d).kinds ≡ fold joined head tail
   pub all : All HaveAll (head ∷ tail)
-  pub each : All (Comes p ls g k d) (head ∷ tail)
-  pub every : (j : Kinds) → Comes p ls g k d j → Contains (head ∷ tail) j
+  pub each : All (Comes offsets p ls g k d) (head ∷ tail)
+  pub every : (j : Kinds) → Comes offsets p ls g k d j → Contains (head ∷ tail) j
 
 abbrev pub LinksAreJoined : Type 0
-LinksAreJoined = (p : XdpProgram) (ls : List Loop) (g : List Point) (k : ℕ) (d : Point) → AreLoops p.insns ls → IsGraph p ls g → k < length g → JoinsLinks p ls g k d
+LinksAreJoined = (offsets : Offsets) (p : XdpProgram) (ls : List Loop) (g : List Point) (k : ℕ) (d : Point) → AreLoops p.insns ls → IsGraph offsets p ls g → k < length g → JoinsLinks offsets p ls g k d
 
 -- A graph has a first node, where runs begin.
 abbrev pub StartIsFirst : Type 0
-StartIsFirst = (p : XdpProgram) (ls : List Loop) (g : List Point) (d : Point) → AreLoops p.insns ls → IsGraph p ls g → (0 < length g) × ((get_or g 0 d).node ≡ start ls)
+StartIsFirst = (offsets : Offsets) (p : XdpProgram) (ls : List Loop) (g : List Point) (d : Point) → AreLoops p.insns ls → IsGraph offsets p ls g → (0 < length g) × ((get_or g 0 d).node ≡ start ls)

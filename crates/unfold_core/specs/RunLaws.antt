@@ -3,6 +3,7 @@ use Rattle.std.specs.Prelude.{ℕ, ◌≡◌, ◌<◌, ◌≤◌, Bool, List, le
 use Rattle.std.specs.List.{Contains}
 use Rattle.xdp_machine.specs.xdp_maps.State.{MapState}
 use Rattle.xdp_machine.specs.State.{Code, Machine, PacketIn, start}
+use Rattle.xdp_machine.specs.Ranges.{IsInRange}
 use Rattle.xdp_machine.specs.Step.{step, Goes, Ends}
 use Rattle.xdp_machine.specs.Program.{XdpProgram, program_code, IsProgram}
 use Rattle.xdp_machine.specs.Runs.{Leaves, leaves, run, Ended}
@@ -37,6 +38,6 @@ pub record IsSoundRun (p : XdpProgram) (u : Unfolded) (packet : PacketIn) (maps 
   pub path : Follows (program_code p) u world (start packet maps) left
   pub ended : (steps : ℕ) → length u.nodes.items ≤ steps → run (program_code p) steps (start packet maps) ≡ Ended left
 
--- Every packet, over all maps of the declarations of a program that unfolds, has such a run.
+-- Every packet, over all maps of the declarations of a program that unfolds, has such a run where all is in range.
 abbrev pub RunsAreSound : Type 0
-RunsAreSound = (p : XdpProgram) (u : Unfolded) (packet : PacketIn) (maps : MapState) → IsProgram p → IsUnfolded p u → maps.decls ≡ p.decls → IsSoundRun p u packet maps
+RunsAreSound = (p : XdpProgram) (u : Unfolded) (packet : PacketIn) (maps : MapState) → IsProgram p → IsUnfolded p u → maps.decls ≡ p.decls → IsInRange (start packet maps) → IsSoundRun p u packet maps

@@ -4,6 +4,7 @@ use Rattle.xdp_machine.specs.bpf_isa.declared.instruction.Insn.{Insn}
 use Rattle.xdp_machine.specs.bpf_isa.Text.{insn_at}
 use Rattle.xdp_machine.specs.Program.{XdpProgram}
 use Rattle.kind_core.specs.declared.kind.Kinds.{Kinds}
+use Rattle.kind_core.specs.declared.kind.Offsets.{Offsets}
 use Rattle.xdp_state.specs.declared.refusal.BuildError.{BuildError}
 use Rattle.xdp_state.specs.declared.refusal.BuildError.TheVariants.{Refused, NoMemory}
 use Rattle.kind_core.specs.Edges.{decided}
@@ -33,11 +34,11 @@ links p ls g k (n ∷ ns) = numbered ls g k (jumps_first n.kinds (insn_at p.insn
 
 pub record IsUnfolded (p : XdpProgram) (u : Unfolded) : Type 0 where
   pub loops : HasLoops p.insns u.loops.items
-  pub graph : IsGraph p u.loops.items u.nodes.items
+  pub graph : IsGraph u.offsets p u.loops.items u.nodes.items
   pub edges : u.edges.items ≡ links p u.loops.items u.nodes.items 0 u.nodes.items
 
 -- A place refuses the program, or else, where its loops are in order, a node.
-abbrev pub Unfolds : XdpProgram → Result Unfolded BuildError → Type 0
-Unfolds p (Ok u) = IsUnfolded p u
-Unfolds p (Err (Refused r)) = IsFirstPlace p.insns r ⊎ ((ls : List Loop) × HasLoops p.insns ls × IsFirstNode p ls r)
-Unfolds p (Err NoMemory) = Unit {0}
+abbrev pub Unfolds : Offsets → XdpProgram → Result Unfolded BuildError → Type 0
+Unfolds offsets p (Ok u) = IsUnfolded p u × (u.offsets ≡ offsets)
+Unfolds offsets p (Err (Refused r)) = IsFirstPlace p.insns r ⊎ ((ls : List Loop) × HasLoops p.insns ls × IsFirstNode offsets p ls r)
+Unfolds offsets p (Err NoMemory) = Unit {0}

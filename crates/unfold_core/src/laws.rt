@@ -6,6 +6,7 @@ ghost use Rattle.unfold_core.specs.GraphLaws.{HasOneGraph, HasOneRefusal, HasNot
 ghost use Rattle.unfold_core.specs.LinkLaws.{NodesHaveLinks, LinksAreJoined, StartIsFirst};
 ghost use Rattle.unfold_core.specs.RunLaws.{RunsAreSound};
 ghost use Rattle.xdp_machine.specs.Program.{XdpProgram};
+ghost use Rattle.kind_core.specs.declared.kind.Offsets.{Offsets};
 ghost use Rattle.unfold_core.specs.Acceptance.{HasOneOutcome};
 
 /// Of two nodes of a program one comes before the other, and never in a circle.
@@ -90,9 +91,10 @@ pub fn runs_are_sound()
     kind_core::laws::join_describes();
     kind_core::laws::start_is_described();
     xdp_machine::laws::steps_change_only();
+    xdp_machine::laws::steps_keep_ranges();
 }
 
 /// A program has one first refusal at most, and none where it is accepted.
 pub fn has_one_outcome()
-    ensures { (p : XdpProgram) → HasOneOutcome p }
+    ensures { (offsets : Offsets) (p : XdpProgram) → HasOneOutcome offsets p }
 {}

@@ -2,6 +2,7 @@
 
 ghost use Rattle.std.specs.Prelude.{◌≡◌, ◌≤◌, ◌++◌, length, All, Some, IfOk, OnOk};
 ghost use Rattle.xdp_machine.specs.bpf_isa.Text.{insn_at};
+ghost use Rattle.kind_core.specs.declared.kind.Offsets.{Offsets};
 ghost use Rattle.unfold_core.specs.Loops.{AreLoops};
 ghost use Rattle.unfold_core.specs.Units.{ArePlaces};
 ghost use Rattle.unfold_core.specs.Nodes.{IsNode};
@@ -88,7 +89,7 @@ pub(crate) fn links(
 ) -> Result<Vec<Edge>, BuildError>
     requires units { ArePlaces program.now.insns units.now }
     requires loops { AreLoops program.now.insns loops.now }
-    requires graph { IsGraph program.now loops.now nodes.now }
+    requires graph { (offsets : Offsets) × IsGraph offsets program.now loops.now nodes.now }
     ensures { IfOk result (λ edges. edges.items ≡ links program.now loops.now nodes.now 0 nodes.now) }
 {
     let mut edges = Vec::new(alloc);

@@ -8,7 +8,7 @@ ghost use Rattle.unfold_core.specs.Pending.{number_of, with_end, with_ends};
 use crate::edges::Point;
 use crate::nesting::Loop;
 use crate::nodes::{Node, comes_before};
-use kind_core::{Kinds, join_into};
+use kind_core::{Kinds, Offsets, join_into};
 use std::alloc::{AllocError, Global};
 use std::collections::VecDeque;
 
@@ -32,13 +32,17 @@ fn place_of(loops: &[Loop], pending: &VecDeque<Point>, node: &Node) -> usize
 }
 
 /// The start alone.
-pub(crate) fn at_start(alloc: Global, loops: &[Loop]) -> Result<VecDeque<Point>, AllocError>
-    ensures { IfOk result (λ pending. pending.items ≡ first_point loops.now ∷ []) }
+pub(crate) fn at_start(
+    alloc: Global,
+    offsets: Offsets,
+    loops: &[Loop],
+) -> Result<VecDeque<Point>, AllocError>
+    ensures { IfOk result (λ pending. pending.items ≡ first_point offsets loops.now ∷ []) }
 {
     let mut pending = VecDeque::new(alloc);
     pending.push_back(Point {
         node: Node::start(alloc, loops)?,
-        kinds: Kinds::start(),
+        kinds: Kinds::start(offsets),
     })?;
     Ok(pending)
 }

@@ -14,6 +14,7 @@ use crate::links::{Edge, links};
 use crate::nesting::{Loop, loops};
 use crate::pending::{add_ends, at_start};
 use crate::units::places;
+use kind_core::Offsets;
 use std::alloc::Global;
 use xdp_machine::bpf_isa::Insn;
 use xdp_object::Program;
@@ -25,6 +26,8 @@ pub const MOST_NODES: u32 = 16_384;
 /// A program without loops.
 #[derive(Debug, Drop)]
 pub struct Unfolded {
+    /// Whether offsets into the packet were let vary.
+    pub offsets: Offsets,
     /// The loops of the program, by their heads.
     pub loops: Vec<Loop>,
     /// The nodes in unfolded order, with what is known at each.
@@ -37,15 +40,16 @@ pub struct Unfolded {
 fn walk(
     alloc: Global,
     program: &Program,
+    offsets: Offsets,
     units: &[Option<Insn>],
     loops: &[Loop],
 ) -> Result<Vec<Point>, BuildError>
     requires units { ArePlaces program.now.insns units.now }
     requires loops { AreLoops program.now.insns loops.now }
-    ensures { Walks program.now loops.now result }
+    ensures { Walks offsets program.now loops.now result }
 {
     let mut nodes = Vec::new(alloc);
-    let Ok(mut pending) = at_start(alloc, loops) else {
+    let Ok(mut pending) = at_start(alloc, offsets, loops) else {
         return Err(BuildError::NoMemory);
     };
     for number in 0..MOST_NODES {
@@ -71,16 +75,17 @@ fn walk(
 }
 
 // The loops of a program, the nodes of its graph and its edges, or its first refusal.
-fn unfold_parts(alloc: Global, program: &Program) -> Result<Unfolded, BuildError>
-    ensures { Unfolds program.now result }
+fn unfold_parts(alloc: Global, program: &Program, offsets: Offsets) -> Result<Unfolded, BuildError>
+    ensures { Unfolds offsets program.now result }
 {
     let found = loops(alloc, program)?;
     let Ok(units) = places(alloc, program) else {
         return Err(BuildError::NoMemory);
     };
-    let nodes = walk(alloc, program, &units, &found)?;
+    let nodes = walk(alloc, program, offsets, &units, &found)?;
     match links(alloc, program, &units, &found, &nodes) {
         Ok(edges) => Ok(Unfolded {
+            offsets,
             loops: found,
             nodes,
             edges,
@@ -89,13 +94,14 @@ fn unfold_parts(alloc: Global, program: &Program) -> Result<Unfolded, BuildError
     }
 }
 
-/// Unfolds a program. Without want of memory a refusal comes exactly where the program is refused, and is the first one: the first place
-/// that its loops or its size refuse, else the first node, in unfolded order, that is refused: node 16,384, counted from 0, by `Size`
-/// before any test of its own, and each other one by the first test that it fails.
-pub fn unfold(alloc: Global, program: &Program) -> Result<Unfolded, BuildError>
-    ensures unfolds { Unfolds program.now result }
-    ensures refused { (r : Refusal) → IsFirstRefusal program.now r → IsErrOf result (BuildError.Refused r) ⊎ IsErrOf result BuildError.NoMemory }
-    ensures accepted { IsAccepted program.now → IfErr result (λ e. e ≡ BuildError.NoMemory) }
+/// Unfolds a program, with offsets into the packet that may vary or not. Without want of memory a refusal comes exactly where the
+/// program is refused, and is the first one: the first place that its loops or its size refuse, else the first node, in unfolded
+/// order, that is refused: node 16,384, counted from 0, by `Size` before any test of its own, and each other one by the first test
+/// that it fails.
+pub fn unfold(alloc: Global, program: &Program, offsets: Offsets) -> Result<Unfolded, BuildError>
+    ensures unfolds { Unfolds offsets program.now result }
+    ensures refused { (r : Refusal) → IsFirstRefusal offsets program.now r → IsErrOf result (BuildError.Refused r) ⊎ IsErrOf result BuildError.NoMemory }
+    ensures accepted { IsAccepted offsets program.now → IfErr result (λ e. e ≡ BuildError.NoMemory) }
 {
-    unfold_parts(alloc, program)
+    unfold_parts(alloc, program, offsets)
 }

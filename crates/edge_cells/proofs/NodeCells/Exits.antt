@@ -16,10 +16,11 @@ use Rattle.xdp_machine.specs.Step.{step, outcome, Ends, exits}
 use Rattle.xdp_machine.specs.Runs.{leaves}
 use Rattle.xdp_machine.specs.Touched.{operation_as}
 use Rattle.kind_core.specs.declared.number.Number.{Number}
-use Rattle.kind_core.specs.declared.number.Number.TheVariants.{Known, Unknown}
+use Rattle.kind_core.specs.declared.number.Number.TheVariants.{Known, Between}
 use Rattle.kind_core.specs.declared.kind.Kind.{Kind}
 use Rattle.kind_core.specs.declared.kind.Kind.TheVariants.{Num}
 use Rattle.kind_core.specs.declared.kind.Kinds.{Kinds}
+use Rattle.kind_core.specs.declared.kind.Offsets.TheVariants.{Fixed}
 use Rattle.kind_core.specs.Kinds as kinds
 use Rattle.kind_core.specs.Tests.{◌>>=◌, Test, passed}
 use Rattle.kind_core.specs.Profile.{profiled}
@@ -48,7 +49,7 @@ legal_insn g k i ks is = subst (λ (o : Option Insn). IfSome o IsInsn) is.insn (
 -- ---- the verdict is the number in R0
 
 abbrev only : Kind → Kinds
-only a = record { registers = a ∷ []; slots = []; checked = 0 }
+only a = record { registers = a ∷ []; slots = []; checked = 0; offsets = Fixed }
 
 number_only : (i : Insn) (a : Kind) → verdict (effect_as [] (only a) i Exit) ≡ passed → a ≡ Num (kind.number_in a)
 number_only i (Num n) h = refl
@@ -64,7 +65,7 @@ verdict_number decls ks i op ok = number_if decls ks i (profiled i ks) (subst (�
 
 there_of : (decls : List MapDecl) (n : ℕ) (ps : List PointerView) (y : Number) (c : ℕ) → Counts decls n ps (Num y) c → IsThere n y c
 there_of decls n ps (Known a) c h = tt
-there_of decls n ps Unknown c h = h
+there_of decls n ps (Between lo hi) c h = h
 
 -- ---- the end
 

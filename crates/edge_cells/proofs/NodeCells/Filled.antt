@@ -1,10 +1,10 @@
 -- No slot that an instruction leaves is unset.
 use Rattle.std.proofs.Common.{◌≡◌, ◌≢◌, ℕ, ℤ, pos, zero, suc, ◌+◌, ◌+ℤ◌, ◌<◌, ◌≤◌, ◌/◌, ◌%◌, ◌==◌, ◌⊎◌, inl, inr, Bool, true, false, if◌then◌else◌, Option, Some, None, Result, Ok, Err, List, [], ◌∷◌, length, get_or, map as map_list, set as set_list, refl, sym, subst, arith}
-use Rattle.std.specs.Prelude.{nat_le}
+use Rattle.std.specs.Prelude.{nat_le, int_le}
 use Rattle.std.proofs.lemmas.Bool.{cases_lt}
 use Rattle.std.proofs.lemmas.List.{get_or-set_same, get_or-set_other, set_past}
 use Rattle.xdp_machine.specs.bpf_isa.declared.operation.Op.{Op}
-use Rattle.xdp_machine.specs.bpf_isa.declared.operation.Op.TheVariants.{Ja, Jump, Call, Exit, LoadImm, Load, LoadSigned, Abs, Ind, StoreImm, Store, Atomic}
+use Rattle.xdp_machine.specs.bpf_isa.declared.operation.Op.TheVariants.{Alu, Ja, Jump, Call, Exit, LoadImm, Load, LoadSigned, Abs, Ind, StoreImm, Store, Atomic}
 use Rattle.xdp_machine.specs.bpf_isa.declared.operation.Size.{Size}
 use Rattle.xdp_machine.specs.bpf_isa.declared.operation.Size.TheVariants.{Dw}
 use Rattle.xdp_machine.specs.bpf_isa.declared.instruction.Insn.{Insn}
@@ -14,7 +14,9 @@ use Rattle.xdp_machine.specs.bpf_isa.Helpers.{helper_of}
 use Rattle.xdp_machine.specs.xdp_maps.declared.decl.MapDecl.{MapDecl}
 use Rattle.kind_core.specs.declared.number.Number.{Number}
 use Rattle.kind_core.specs.declared.kind.Kind.{Kind}
-use Rattle.kind_core.specs.declared.kind.Kind.TheVariants.{Unset, Num, Packet, End, Stack, Ctx, MapRef, Maybe, Entry, Stale, Mixed}
+use Rattle.kind_core.specs.declared.kind.Kind.TheVariants.{Unset, Num, Packet, Var, End, Stack, Ctx, MapRef, Maybe, Entry, Stale, Mixed}
+use Rattle.kind_core.specs.declared.base.Base.{Base}
+use Rattle.kind_core.specs.declared.base.Bounds.{Bounds}
 use Rattle.kind_core.specs.declared.kind.Kinds.{Kinds}
 use Rattle.xdp_state.specs.declared.refusal.Why.{Why}
 use Rattle.kind_core.specs.Kinds.{register, value_bytes, is_hash}
@@ -28,7 +30,7 @@ use Rattle.std.specs.Int.{w64, cast_unsigned}
 use Rattle.std.proofs.lemmas.Bool.Decides.{nat_tests}
 use Rattle.kind_core.specs.Calls.{prototype_of, called, called_as, answer_of, argument_fits, declared, change_of}
 use Rattle.kind_core.specs.Profile.{profiled, in_profile, keeps_stack_end, reads_source, reads_destination}
-use Rattle.kind_core.specs.Effects.{effect_of, effect_as, immediate, alu}
+use Rattle.kind_core.specs.Effects.{effect_of, effect_as, immediate, operand, alu, based, if_based}
 use Rattle.kind_core.specs.Edges.{changed, changed_if}
 use Rattle.edge_cells.specs.Widening.{AreFilled}
 use Rattle.edge_cells.proofs.EdgeLaws.{set-along}
@@ -67,19 +69,20 @@ stale-if : (b : Bool) (x : Kind) → x ≢ Unset → (if b then Stale else x) �
 stale-if true x h = λ e. absurd (cc e)
 stale-if false x h = h
 
-by_kind : (P : Kind → Type 0) → P Unset → ((n : Number) → P (Num n)) → ((o : ℕ) → P (Packet o)) → P End → ((o : ℤ) → P (Stack o)) → P Ctx → ((q : ℕ) → P (MapRef q)) → ((q n : ℕ) → P (Maybe q n)) → ((q o : ℕ) → P (Entry q o)) → P Stale → P Mixed
+by_kind : (P : Kind → Type 0) → P Unset → ((n : Number) → P (Num n)) → ((o : ℕ) → P (Packet o)) → ((b : Base) (f : ℤ) → P (Var b f)) → P End → ((o : ℤ) → P (Stack o)) → P Ctx → ((q : ℕ) → P (MapRef q)) → ((q n : ℕ) → P (Maybe q n)) → ((q o : ℕ) → P (Entry q o)) → P Stale → P Mixed
     → (x : Kind) → P x
-by_kind P a b c d e f g h i j l Unset = a
-by_kind P a b c d e f g h i j l (Num n) = b n
-by_kind P a b c d e f g h i j l (Packet o) = c o
-by_kind P a b c d e f g h i j l End = d
-by_kind P a b c d e f g h i j l (Stack o) = e o
-by_kind P a b c d e f g h i j l Ctx = f
-by_kind P a b c d e f g h i j l (MapRef q) = g q
-by_kind P a b c d e f g h i j l (Maybe q n) = h q n
-by_kind P a b c d e f g h i j l (Entry q o) = i q o
-by_kind P a b c d e f g h i j l Stale = j
-by_kind P a b c d e f g h i j l Mixed = l
+by_kind P a b c v d e f g h i j l Unset = a
+by_kind P a b c v d e f g h i j l (Num n) = b n
+by_kind P a b c v d e f g h i j l (Packet o) = c o
+by_kind P a b c v d e f g h i j l (Var x z) = v x z
+by_kind P a b c v d e f g h i j l End = d
+by_kind P a b c v d e f g h i j l (Stack o) = e o
+by_kind P a b c v d e f g h i j l Ctx = f
+by_kind P a b c v d e f g h i j l (MapRef q) = g q
+by_kind P a b c v d e f g h i j l (Maybe q n) = h q n
+by_kind P a b c v d e f g h i j l (Entry q o) = i q o
+by_kind P a b c v d e f g h i j l Stale = j
+by_kind P a b c v d e f g h i j l Mixed = l
 
 -- what is set stays set where each kind does
 map_set : (f : Kind → Kind) → ((x : Kind) → x ≢ Unset → f x ≢ Unset) → (ks : List Kind) (i : ℕ) → get_or ks i Unset ≢ Unset → get_or (map_list f ks) i Unset ≢ Unset
@@ -97,7 +100,7 @@ called_fills decls node is_ref k h filled answer =
 changes_fill : (decls : List MapDecl) (node : ℕ) (is_ref : Bool) (k : Kinds) (q : ℕ) → AreFilled k → Fills (changed_if node is_ref false k (Ok (change_of decls q)))
 changes_fill decls node is_ref k q h =
     either_fills node is_ref k (is_hash decls q) _ _
-    (record { each = λ s l. map_set _ (by_kind _ (λ n. n) (λ n o. o) (λ n o. o) (λ o. o) (λ n o. o) (λ o. o) (λ n o. o) (λ r n o. stale-if (r == q) (Maybe r n) o) (λ r n o. stale-if (r == q) (Entry r n) o) (λ o. o) (λ o. o)) k.slots s (h s l) })
+    (record { each = λ s l. map_set _ (by_kind _ (λ n. n) (λ n o. o) (λ n o. o) (λ b f o. o) (λ o. o) (λ n o. o) (λ o. o) (λ n o. o) (λ r n o. stale-if (r == q) (Maybe r n) o) (λ r n o. stale-if (r == q) (Entry r n) o) (λ o. o) (λ o. o)) k.slots s (h s l) })
     (kept h)
 
 after_change : (decls : List MapDecl) (node : ℕ) (is_ref : Bool) (k : Kinds) → AreFilled k → Fills (changed_if node is_ref false k (declared decls (register k 1) >>= λ q. Ok (change_of decls q)))
@@ -132,6 +135,10 @@ store_at : (decls : List MapDecl) (node : ℕ) (is_ref : Bool) (k : Kinds) (base
 store_at decls node is_ref k (Packet o) offset size x h set =
     two_fill node is_ref k (within (pos o +ℤ offset) (bytes_in size) 256) _ (λ place. stored_at k.slots size x place) h
     (λ a. if_fills node is_ref k (nat_le (a + bytes_in size) k.checked) _ _ (λ place. stored_at k.slots size x place) (bind_fills node is_ref k (number_in x) _ h (λ n e. kept h)) (kept h))
+store_at decls node is_ref k (Var b f) offset size x h set =
+    two_fill node is_ref k (within (pos b.bounds.low +ℤ (f +ℤ offset)) 0 256) _ (λ place. stored_at k.slots size x place) h
+    (λ u. two_fill node is_ref k (within (pos b.bounds.high +ℤ (f +ℤ offset)) (bytes_in size) 256) _ (λ place. stored_at k.slots size x place) h
+    (λ a. if_fills node is_ref k (int_le ((f +ℤ offset) +ℤ pos (bytes_in size)) b.checked) _ _ (λ place. stored_at k.slots size x place) (bind_fills node is_ref k (number_in x) _ h (λ n e. kept h)) (kept h)))
 store_at decls node is_ref k (Stack o) offset size x h set =
     two_fill node is_ref k (aligned ((o +ℤ offset) +ℤ pos 512) (bytes_in size) 512) _ (λ place. stored_at k.slots size x place) h
     (λ a. bind_fills node is_ref k (to_slot size (a % 8) (get_or k.slots (a / 8) Unset) x) _ h (λ y e. record { each = slot_fills k (a / 8) y h (taken_set size (a % 8) (get_or k.slots (a / 8) Unset) x y set e) }))
@@ -147,6 +154,10 @@ atomic_fills : (decls : List MapDecl) (node : ℕ) (is_ref : Bool) (k : Kinds) (
 atomic_fills decls node is_ref k i size (Packet o) h =
     two_fill node is_ref k (within (pos o +ℤ i.offset) (bytes_in size) 256) _ (λ place. changed_at k i place) h
     (λ a. if_fills node is_ref k (nat_le (a + bytes_in size) k.checked) _ _ (λ place. changed_at k i place) (kept h) (kept h))
+atomic_fills decls node is_ref k i size (Var b f) h =
+    two_fill node is_ref k (within (pos b.bounds.low +ℤ (f +ℤ i.offset)) 0 256) _ (λ place. changed_at k i place) h
+    (λ u. two_fill node is_ref k (within (pos b.bounds.high +ℤ (f +ℤ i.offset)) (bytes_in size) 256) _ (λ place. changed_at k i place) h
+    (λ a. if_fills node is_ref k (int_le ((f +ℤ i.offset) +ℤ pos (bytes_in size)) b.checked) _ _ (λ place. changed_at k i place) (kept h) (kept h)))
 atomic_fills decls node is_ref k i size (Stack o) h = two_fill node is_ref k (aligned ((o +ℤ i.offset) +ℤ pos 512) (bytes_in size) 512) _ (λ place. changed_at k i place) h (λ a. kept h)
 atomic_fills decls node is_ref k i size (Entry q o) h =
     two_fill node is_ref k (aligned (pos o +ℤ i.offset) (bytes_in size) (value_bytes decls q)) _ (λ place. changed_at k i place) h
@@ -156,10 +167,16 @@ atomic_fills decls node is_ref k i size base h = kept h
 
 -- ---- by the operation
 
+based_fills : (node : ℕ) (is_ref : Bool) (k : Kinds) (i : Insn) (o : Option Bounds) (r : _) → AreFilled k → Fills (changed_if node is_ref false k r) → Fills (changed_if node is_ref false k (if_based i o r))
+based_fills node is_ref k i (Some bounds) r h f = kept h
+based_fills node is_ref k i None r h f = f
+
 fills_as : (decls : List MapDecl) (node : ℕ) (is_ref : Bool) (k : Kinds) (i : Insn) (op : Op) → leads_on op ≡ true → (reads_source op ≡ true → register k i.src ≢ Unset) → AreFilled k → Fills (changed_if node is_ref false k (effect_as decls k i op))
 fills_as decls node is_ref k i (Ja w) t source h = absurd (cc t)
 fills_as decls node is_ref k i (Jump w c s) t source h = absurd (cc t)
 fills_as decls node is_ref k i Exit t source h = absurd (cc t)
+fills_as decls node is_ref k i (Alu w c s) t source h =
+    based_fills node is_ref k i (based k.offsets w c (register k i.dst) (operand k i s)) _ h (bind_fills node is_ref k (alu decls k i (Alu w c s)) _ h (λ x e. kept h))
 fills_as decls node is_ref k i Call t source h = call_fills decls node is_ref k i.imm (helper_of i.imm) h
 fills_as decls node is_ref k i LoadImm t source h = kept h
 fills_as decls node is_ref k i (Load size) t source h = bind_fills node is_ref k (loaded_plain decls k (register k i.src) i.offset size) _ h (λ x e. kept h)

@@ -29,7 +29,7 @@ use Rattle.operator_cells.specs.HeldCells.Rows.{kind_at, number_at}
 use Rattle.operator_cells.specs.HeldCells.Pointing.{Pointing, pointing_as, pointing_at, HoldsPointer, AnswerAlike, WasHeld, CameAlong, EdgesPoint, LeavePoints, pointing_by}
 use Rattle.edge_cells.specs.Testing.{is_equality, null_holds, Tests}
 use Rattle.edge_cells.specs.Leaving.{operand_held, goes, IsBit, IsBranch, TestsJump}
-use Rattle.edge_cells.proofs.JumpKindLaws.{Along, same, null, entry, IsEdge, Enters, along_at, none_enters, edge_of, single_edge}
+use Rattle.edge_cells.proofs.JumpKindLaws.{Along, same, null, entry, further, IsEdge, Enters, along_at, none_enters, edge_of, single_edge}
 use Rattle.operator_cells.specs.row_rules.declared.place_rows.location.Location.TheVariants as location
 use Rattle.operator_cells.proofs.row_rules_laws.PlaceRows.LocationLaws.{at_number}
 
@@ -40,6 +40,7 @@ along_held : {Enter : ℕ → Type 0} (a b : Kind) (c : ℕ) (x : Pointing) → 
     → (pointing_as a c ≡ Some x) ⊎ ((n : ℕ) × Enter n × (pointing_as a c ≡ Some (record { map = x.map; node = Some n; pointer = x.pointer })) × (x.node ≡ None))
 along_held a b c x (same k) e = inl e
 along_held a b c x (null q n) e = absurd (cc)
+along_held a b c x (further y z f) e = absurd (cc)
 along_held a b c x (entry q n p) e =
     let one : record { map = q; node = None; pointer = c } ≡ x = cc in
     inr (n, p, ap (λ (z : Pointing). Some (record { map = z.map; node = Some n; pointer = z.pointer })) one, ap (λ (z : Pointing). z.node) (sym one))

@@ -101,6 +101,7 @@ stands_later later w k m node l s = record {
   registers = s.registers;
   slots = s.slots;
   stack = s.stack;
+  range = s.range;
   values = s.values;
 }
 
@@ -145,6 +146,7 @@ known_on laws g packet v ps qs k to i kinds h next is_ref m is sized edge filled
         registers = size.registers ∙ sym (changes.registers ∙ eleven);
         slots = size.slots ∙ sym (changes.stack ∙ known.stands.stack);
         stack = changes.stack ∙ known.stands.stack;
+        range = laws.ranges g.code m (at_place on.next (node_at g.nodes to).place) is.legal known.in_range on.goes;
         values = λ q. subst (λ (ds : List MapDecl). value_bytes ds q ≤ 64) (sym changes.decls) (known.stands.values q);
       };
       in_range = laws.ranges g.code m (at_place on.next (node_at g.nodes to).place) is.legal known.in_range on.goes;

@@ -18,7 +18,7 @@ use Rattle.xdp_machine.specs.State as machine
 use Rattle.xdp_machine.specs.Step.{effect}
 use Rattle.xdp_machine.specs.Step as step
 use Rattle.kind_core.specs.declared.kind.Kind.{Kind}
-use Rattle.kind_core.specs.declared.kind.Kind.TheVariants.{Packet, Stack, Ctx, Entry}
+use Rattle.kind_core.specs.declared.kind.Kind.TheVariants.{Packet, Var, Stack, Ctx, Entry}
 use Rattle.kind_core.specs.declared.kind.Kinds.{Kinds}
 use Rattle.kind_core.specs.Kinds.{register}
 use Rattle.kind_core.specs.Tests.{◌>>=◌, passed}
@@ -35,6 +35,7 @@ use Rattle.edge_cells.proofs.NodeCells.Unmapped.{Stays, AsksNone, IsBase, regist
 -- kinds of pointers through which an access may be
 abbrev IsWay : Kind → Type 0
 IsWay (Packet o) = Unit {0}
+IsWay (Var b f) = Unit {0}
 IsWay (Stack o) = Unit {0}
 IsWay (Entry q o) = Unit {0}
 IsWay Ctx = Unit {0}
@@ -43,6 +44,7 @@ IsWay x = ⊥
 load_way : (decls : List MapDecl) (k : Kinds) (x : Kind) (offset : ℤ) (size : Size) (f : Kind → _) → verdict (loaded_plain decls k x offset size >>= f) ≡ passed → IsWay x
 unfolding loaded_plain loaded
 load_way decls k (Packet o) offset size f e = tt
+load_way decls k (Var b z) offset size f e = tt
 load_way decls k (Stack o) offset size f e = tt
 load_way decls k (Entry q o) offset size f e = tt
 load_way decls k Ctx offset size f e = tt
@@ -51,6 +53,7 @@ load_way decls k x offset size f e = not_allowed ⊥ _ e
 signed_way : (decls : List MapDecl) (k : Kinds) (x : Kind) (offset : ℤ) (size : Size) (f : Kind → _) → verdict (loaded_signed decls k x offset size >>= f) ≡ passed → IsWay x
 unfolding loaded_signed loaded
 signed_way decls k (Packet o) offset size f e = tt
+signed_way decls k (Var b z) offset size f e = tt
 signed_way decls k (Stack o) offset size f e = tt
 signed_way decls k (Entry q o) offset size f e = tt
 signed_way decls k Ctx offset size f e = tt
@@ -59,6 +62,7 @@ signed_way decls k x offset size f e = not_allowed ⊥ _ e
 store_way : (decls : List MapDecl) (k : Kinds) (x : Kind) (offset : ℤ) (size : Size) (y : Kind) → verdict (stored decls k x offset size y) ≡ passed → IsWay x
 unfolding stored
 store_way decls k (Packet o) offset size y e = tt
+store_way decls k (Var b z) offset size y e = tt
 store_way decls k (Stack o) offset size y e = tt
 store_way decls k (Entry q o) offset size y e = tt
 store_way decls k Ctx offset size y e = tt
@@ -67,6 +71,7 @@ store_way decls k x offset size y e = not_allowed ⊥ _ e
 -- what such a kind describes
 based : (w : World) (maps : MapState) (x : Kind) (v : Value) → is_entry x ≡ false → IsWay x → Describes w maps x v → IsBase v
 based w maps (Packet o) v t way d = subst IsBase (sym d) tt
+based w maps (Var b z) v t way d = subst IsBase (sym d.value) tt
 based w maps (Stack o) v t way d = subst IsBase (sym d) tt
 based w maps Ctx v t way d = subst IsBase (sym d) tt
 based w maps (Entry q o) v t way d = absurd (cc t)

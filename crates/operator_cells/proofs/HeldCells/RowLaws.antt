@@ -11,7 +11,7 @@ use Rattle.operator_cells.proofs.RisingLaws.{Stand, stand_all}
 use Rattle.operator_cells.specs.declared.held_cells.machine_cells.RegisterCells.{RegisterCells}
 use Rattle.operator_cells.specs.HeldCells.RegisterCells.{PointerView}
 use Rattle.operator_cells.specs.HeldCells.Rows.{kind_by, number_by, located_row, kind_at, number_at, value_row, held_row}
-use Rattle.kind_core.specs.declared.number.Number.TheVariants.{Unknown}
+use Rattle.kind_core.specs.NumberBounds.{any_number}
 use Rattle.row_rules.specs.declared.place_rows.location.Location.{Location}
 use Rattle.row_rules.specs.declared.place_rows.location.Location.TheVariants.{Register, StackSlot, PacketByte, Target, PendingWrites}
 use Rattle.row_rules.specs.PlaceRows.Locations.{first_slot, first_byte, target_number, first_pending, location_number, location_at, IsLocation, IsHeld}
@@ -52,10 +52,10 @@ module _ (row : ℕ → ℕ) (ps : List PointerView) (h : RegisterCells) (k : Ki
   past_held place far = ap (located_row row ps h k) (pending_there place far)
 
 -- bytes of the packet and the target are numbers that are not known
-pub past_slots : (k : Kinds) (place : ℕ) → first_byte ≤ place → place < first_pending → kind_at k place ≡ Num Unknown
+pub past_slots : (k : Kinds) (place : ℕ) → first_byte ≤ place → place < first_pending → kind_at k place ≡ Num (any_number 64)
 past_slots k place low high = by (location_at place) refl (held_there place high)
   where
-    by : (l : Location) → location_at place ≡ l → IsHeld l → kind_by k l ≡ Num Unknown
+    by : (l : Location) → location_at place ≡ l → IsHeld l → kind_by k l ≡ Num (any_number 64)
     by (Register r) e there = let small : r < 11 = there in let same : place ≡ r = numbered_as place (Register r) e in absurd (omega (arith, small, same, low))
     by (StackSlot s) e there = let small : s < 64 = there in let same : place ≡ first_slot + s = numbered_as place (StackSlot s) e in absurd (omega (arith, small, same, low))
     by (PacketByte i) e there = refl

@@ -7,6 +7,7 @@ use Rattle.cell_core.specs.xdp_machine.State.{Code, Machine, PacketIn, start}
 use Rattle.cell_core.specs.xdp_machine.Step.{Outcome, Goes, Ends, NoCase, step}
 use Rattle.cell_core.specs.xdp_machine.Runs.{Leaves, leaves}
 use Rattle.kind_core.specs.declared.kind.Kinds.{Kinds}
+use Rattle.kind_core.specs.declared.kind.Offsets.TheVariants.{Fixed}
 use Rattle.kind_core.specs.Kinds as kinds
 
 -- a node: the place of its instruction, and what is known there
@@ -28,7 +29,7 @@ pub record GraphView : Type 0 where
 
 -- what stands for a node past the last
 abbrev pub no_node : NodeView
-no_node = record { place = 0; kinds = kinds.start }
+no_node = record { place = 0; kinds = kinds.start Fixed }
 
 abbrev pub node_at : List NodeView → ℕ → NodeView
 node_at nodes k = get_or nodes k no_node

@@ -6,10 +6,11 @@ use Rattle.cell_core.specs.bpf_isa.declared.operation.Op.TheVariants.{Call, Jump
 use Rattle.cell_core.specs.bpf_isa.declared.instruction.Insn.{Insn}
 use Rattle.cell_core.specs.xdp_maps.declared.decl.MapDecl.{MapDecl}
 use Rattle.kind_core.specs.declared.number.Number.{Number}
-use Rattle.kind_core.specs.declared.number.Number.TheVariants.{Known, Unknown}
+use Rattle.kind_core.specs.declared.number.Number.TheVariants.{Known, Between}
 use Rattle.kind_core.specs.declared.kind.Kind.{Kind}
 use Rattle.kind_core.specs.declared.kind.Kind.TheVariants.{Unset, Num, Maybe, Entry}
 use Rattle.kind_core.specs.declared.kind.Kinds.{Kinds}
+use Rattle.kind_core.specs.NumberBounds.{any_number}
 use Rattle.kind_core.specs.Kinds.{register}
 use Rattle.kind_core.specs.Edges.{decided}
 use Rattle.cell_core.specs.Cells.{CellView, cell_at, site_in}
@@ -32,7 +33,7 @@ use Rattle.operator_cells.specs.HeldCells.RegisterCells.{PointerView, pointer_at
 -- The cells of a value of a kind, of which a number is held: of a number that is not known its cell, of an answer of a lookup or a place in an
 -- entry the pointer's, else none.
 abbrev pub cells_of_number : Number → ℕ → List ℕ
-cells_of_number Unknown c = c ∷ []
+cells_of_number (Between lo hi) c = c ∷ []
 cells_of_number (Known n) c = []
 
 abbrev pub cells_of_pointer : PointerView → List ℕ
@@ -55,8 +56,8 @@ value_row row ps k c = greatest row (cells_of ps k c)
 abbrev pub kind_by : Kinds → Location → Kind
 kind_by k (Register r) = get_or k.registers r Unset
 kind_by k (StackSlot s) = get_or k.slots s Unset
-kind_by k (PacketByte i) = Num Unknown
-kind_by k Target = Num Unknown
+kind_by k (PacketByte i) = Num (any_number 64)
+kind_by k Target = Num (any_number 64)
 kind_by k (PendingWrites q) = Unset
 
 -- and the number that is held

@@ -22,6 +22,6 @@ pub fn number_cell(cells: &mut Vec<Cell>, number: Number, held: u32) -> Result<u
             let c = constant(cells, n, 64)?;
             Ok(c)
         }
-        Number::Unknown => Ok(held),
+        Number::Between(_, _) => Ok(held),
     }
 }

@@ -19,6 +19,7 @@ use Rattle.kind_core.specs.Soundness.{target}
 use Rattle.unfold_core.specs.declared.links.Edge.{Edge}
 use Rattle.unfold_core.specs.declared.unfolding.Unfolded.{Unfolded}
 use Rattle.unfold_core.specs.Edges.{goes_next, goes_jump}
+use Rattle.kind_core.specs.declared.kind.Offsets.TheVariants.{Fixed}
 use Rattle.unfold_core.specs.Graphs.{first_point}
 use Rattle.unfold_core.specs.Unfolding.{links, IsUnfolded}
 use Rattle.unfold_core.specs.RunLaws.{edge}
@@ -85,7 +86,7 @@ module _ (p : XdpProgram) (u : Unfolded) (laws : Laws) (unfolded : IsUnfolded p 
   leads_on : (x : Edge) → Contains u.edges.items x → (x.from < x.to) × (x.to < length u.nodes.items)
   leads_on x c =
       All-contains (λ y. (y.from < y.to) × (y.to < length u.nodes.items)) (links p u.loops.items u.nodes.items 0 u.nodes.items) x
-      (laws.leads p u.loops.items u.nodes.items unfolded.loops.loops unfolded.graph) (subst (λ xs. Contains xs x) unfolded.edges c)
+      (laws.leads u.offsets p u.loops.items u.nodes.items unfolded.loops.loops unfolded.graph) (subst (λ xs. Contains xs x) unfolded.edges c)
 
   -- the edges leave nodes that are there
   pub from_inside : All (λ x. x.from < length u.nodes.items) u.edges.items
@@ -93,8 +94,8 @@ module _ (p : XdpProgram) (u : Unfolded) (laws : Laws) (unfolded : IsUnfolded p 
 
   module _ (ends : List NodeEnds) (are : AreEndsOf u.edges.items ends) (size : length ends ≡ length u.nodes.items) (k : ℕ) (below : k < length u.nodes.items) (i : Insn)
       (insn_is : insn_at p.insns (point_at u k).node.place ≡ Some i) where
-    has : HasLinks p u.loops.items u.nodes.items k (first_point u.loops.items)
-    has = laws.links p u.loops.items u.nodes.items k (first_point u.loops.items) unfolded.loops.loops unfolded.graph below
+    has : HasLinks p u.loops.items u.nodes.items k (first_point Fixed u.loops.items)
+    has = laws.links u.offsets p u.loops.items u.nodes.items k (first_point Fixed u.loops.items) unfolded.loops.loops unfolded.graph below
 
     in_links : (x : Edge) → Contains u.edges.items x → Contains (links p u.loops.items u.nodes.items 0 u.nodes.items) x
     in_links x c = subst (λ xs. Contains xs x) unfolded.edges c

@@ -10,6 +10,7 @@ use Rattle.xdp_machine.specs.xdp_maps.declared.decl.MapDecl.{MapDecl}
 use Rattle.kind_core.specs.declared.number.Number.TheVariants.{Known}
 use Rattle.kind_core.specs.declared.kind.Kind.TheVariants.{Unset, Num}
 use Rattle.kind_core.specs.declared.kind.Kinds.{Kinds}
+use Rattle.kind_core.specs.declared.kind.Offsets.{Offsets}
 use Rattle.kind_core.specs.Kinds as kinds
 use Rattle.kind_core.specs.Tests.{◌>>=◌, Test}
 use Rattle.kind_core.specs.Profile.{profiled}
@@ -20,8 +21,8 @@ use Rattle.edge_cells.specs.Widening.{AreFilled}
 use Rattle.edge_cells.specs.NodeCells.Ends.{leads_on}
 use Rattle.edge_cells.specs.NodeCells.Filling.{EdgesAreFilled, JumpsAreFilled}
 
-pub start_filled : AreFilled kinds.start
-start_filled s lt e =
+pub start_filled : (offsets : Offsets) → AreFilled (kinds.start offsets)
+start_filled offsets s lt e =
     let zero : Num (Known 0) ≡ Unset = sym (get_or-replicate 64 s (Num (Known 0)) Unset lt) ∙ e in
     absurd (cc zero)
 

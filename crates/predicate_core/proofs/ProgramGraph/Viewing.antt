@@ -7,15 +7,16 @@ use Rattle.xdp_machine.specs.Program.{XdpProgram}
 use Rattle.unfold_core.specs.declared.edges.Point.{Point}
 use Rattle.unfold_core.specs.declared.links.Edge.{Edge}
 use Rattle.unfold_core.specs.declared.unfolding.Unfolded.{Unfolded}
+use Rattle.kind_core.specs.declared.kind.Offsets.TheVariants.{Fixed}
 use Rattle.unfold_core.specs.Graphs.{first_point}
 use Rattle.operator_cells.specs.HeldCells.Paths.{EdgeView, no_node, node_at}
 use Rattle.predicate_core.specs.ProgramGraph.Graphs.{node_view, edge_view, graph_of}
 
 abbrev pub point_at : Unfolded → ℕ → Point
-point_at u k = get_or u.nodes.items k (first_point u.loops.items)
+point_at u k = get_or u.nodes.items k (first_point Fixed u.loops.items)
 
 pub node_is : (p : XdpProgram) (u : Unfolded) (k : ℕ) → k < length u.nodes.items → node_at (graph_of p u).nodes k ≡ node_view (point_at u k)
-node_is p u k below = lists.get_or-map node_view u.nodes.items k (first_point u.loops.items) no_node below
+node_is p u k below = lists.get_or-map node_view u.nodes.items k (first_point Fixed u.loops.items) no_node below
 
 pub node_count : (p : XdpProgram) (u : Unfolded) → length (graph_of p u).nodes ≡ length u.nodes.items
 node_count p u = length-map u.nodes.items node_view

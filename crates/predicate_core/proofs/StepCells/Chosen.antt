@@ -1,6 +1,6 @@
 -- Which instruction an allowed one is.
 use Rattle.std.proofs.Common.{◌≡◌, ℕ, pos, ◌+◌, ◌+ℤ◌, Bool, true, false, not, if◌then◌else◌, None, Result, Ok, Err, List, refl, subst, Option, Some}
-use Rattle.std.specs.Prelude.{nat_le, is_some}
+use Rattle.std.specs.Prelude.{nat_le, int_le, is_some}
 use Rattle.xdp_machine.specs.bpf_isa.declared.operation.Op.{Op}
 use Rattle.xdp_machine.specs.bpf_isa.declared.operation.Op.TheVariants.{Alu, Neg, End, Swap, Ja, Jump, Call, Exit, LoadImm, Load, LoadSigned, Abs, Ind, StoreImm, Store, Atomic}
 use Rattle.xdp_machine.specs.bpf_isa.declared.operation.Size.{Size}
@@ -10,7 +10,7 @@ use Rattle.xdp_machine.specs.bpf_isa.declared.helper.Helper.TheVariants.{Lookup,
 use Rattle.xdp_machine.specs.bpf_isa.Helpers.{helper_of}
 use Rattle.xdp_machine.specs.xdp_maps.declared.decl.MapDecl.{MapDecl}
 use Rattle.kind_core.specs.declared.kind.Kind.{Kind}
-use Rattle.kind_core.specs.declared.kind.Kind.TheVariants.{Packet, Stack, Entry}
+use Rattle.kind_core.specs.declared.kind.Kind.TheVariants.{Packet, Var, Stack, Entry}
 use Rattle.kind_core.specs.declared.kind.Kinds.{Kinds}
 use Rattle.xdp_state.specs.declared.refusal.Why.{Why}
 use Rattle.kind_core.specs.Kinds.{register}
@@ -83,6 +83,8 @@ entry_changed decls k i size op allowed = by (register k i.dst) (subst (λ (o : 
     by : (x : Kind) → verdict (accessed decls k.checked x i.offset size >>= λ place. changed_at k i place) ≡ passed → (q : ℕ) × (o : ℕ) × (x ≡ Entry q o)
     by (Entry q o) e = (q, o, refl)
     by (Packet o) e = absurd (refused_behind (within (pos o +ℤ i.offset) (bytes_in size) 256) _ _ (λ a. refused_either (nat_le (a + bytes_in size) k.checked) _ _ _ (not_allowed ⊥ _) (not_allowed ⊥ _)) e)
+    by (Var b f) e = absurd (refused_behind (within (pos b.bounds.low +ℤ (f +ℤ i.offset)) 0 256) _ _ (λ u. refused_behind (within (pos b.bounds.high +ℤ (f +ℤ i.offset)) (bytes_in size) 256) _ _ (λ a.
+        refused_either (int_le ((f +ℤ i.offset) +ℤ pos (bytes_in size)) b.checked) _ _ _ (not_allowed ⊥ _) (not_allowed ⊥ _))) e)
     by (Stack o) e = absurd (refused_behind (aligned ((o +ℤ i.offset) +ℤ pos 512) (bytes_in size) 512) _ _ (λ a. not_allowed ⊥ _) e)
     by x e = absurd (not_allowed ⊥ _ e)
 

@@ -1,6 +1,7 @@
 -- Graphs in which the cells of nodes can be made one after another.
 use Rattle.std.specs.Prelude.{ℕ, ◌≡◌, ◌<◌, ◌≤◌, length, All, Contains}
 use Rattle.xdp_machine.specs.Program.{XdpProgram, IsProgram}
+use Rattle.kind_core.specs.declared.kind.Offsets.TheVariants.{Fixed}
 use Rattle.kind_core.specs.Kinds as kinds
 use Rattle.kind_core.specs.Kinds.{value_bytes}
 use Rattle.unfold_core.specs.declared.unfolding.Unfolded.{Unfolded}
@@ -15,11 +16,11 @@ pub record IsSoundGraph (g : GraphView) : Type 0 where
   pub some : 0 < length g.nodes
   pub first : (node_at g.nodes 0).place ≡ 0
   pub values : (q : ℕ) → value_bytes g.decls q ≤ 64
-  pub begins : AreWider (node_at g.nodes 0).kinds kinds.start
+  pub begins : AreWider (node_at g.nodes 0).kinds (kinds.start Fixed)
   pub filled : (k : ℕ) → k < length g.nodes → AreFilled (node_at g.nodes k).kinds
   pub edges : All (λ x. (x.from < x.to) × (x.to < length g.nodes) × AreWider (node_at g.nodes x.to).kinds (known_on g x)) g.edges
   pub reached : (n : ℕ) → 0 < n → n < length g.nodes → (x : EdgeView) × Contains g.edges x × (x.to ≡ n)
 
--- The graph of a program that unfolds is one.
+-- The graph of a program that unfolds with offsets that do not vary is one.
 abbrev pub GraphsAreSound : Type 0
-GraphsAreSound = (p : XdpProgram) (u : Unfolded) → IsProgram p → IsUnfolded p u → IsSoundGraph (graph_of p u)
+GraphsAreSound = (p : XdpProgram) (u : Unfolded) → IsProgram p → IsUnfolded p u → u.offsets ≡ Fixed → IsSoundGraph (graph_of p u)

@@ -2,6 +2,7 @@
 use Rattle.std.proofs.Common.{◌≡◌, ◌⊎◌, inl, inr, ◌∙◌, ℕ, ◌<◌, ◌≤◌, List, sym, ap, subst, arith}
 use Rattle.xdp_state.specs.xdp_machine.Program.{XdpProgram}
 use Rattle.xdp_state.specs.declared.refusal.Refusal.{Refusal}
+use Rattle.kind_core.specs.declared.kind.Offsets.{Offsets}
 use Rattle.unfold_core.specs.declared.nesting.Loop.{Loop}
 use Rattle.unfold_core.specs.declared.edges.Point.{Point}
 use Rattle.unfold_core.specs.declared.links.Edge.{Edge}
@@ -26,30 +27,30 @@ late_one p nodes edges r s a b =
     same_refusal r s (a.at_is ∙ ap (λ n. (point_at nodes n).node.place) same ∙ sym b.at_is) (a.why_is ∙ sym b.why_is)
 
 -- ---- one graph
-module _ (p : XdpProgram) (r : Refusal) (a b : graphs.IsAccepted p) where
+module _ (offsets : Offsets) (p : XdpProgram) (r : Refusal) (a b : graphs.IsAccepted offsets p) where
   same_loops : a.loops ≡ b.loops
   same_loops = graph.one_loops p.insns a.loops b.loops a.has_loops.loops b.has_loops.loops
 
   same_graph : a.graph ≡ b.graph
-  same_graph = has_one_graph p b.loops a.graph b.graph b.has_loops.loops (subst (λ (ls : List Loop). IsGraph p ls a.graph) same_loops a.is_graph) b.is_graph
+  same_graph = has_one_graph offsets p b.loops a.graph b.graph b.has_loops.loops (subst (λ (ls : List Loop). IsGraph offsets p ls a.graph) same_loops a.is_graph) b.is_graph
 
-  late_as : IsTooLate p a.graph (edges_of p a) r → IsTooLate p b.graph (edges_of p b) r
+  late_as : IsTooLate p a.graph (edges_of offsets p a) r → IsTooLate p b.graph (edges_of offsets p b) r
   late_as late =
       subst (λ (g : List Point). IsTooLate p g (links p b.loops g 0 g) r) same_graph
       (subst (λ (ls : List Loop). IsTooLate p a.graph (links p ls a.graph 0 a.graph) r) same_loops late)
 
 -- ---- one outcome
-refusal_one : (p : XdpProgram) (r s : Refusal) → IsFirstRefusal p r → IsFirstRefusal p s → r ≡ s
-refusal_one p r s (inl a) (inl b) = (graph.has_one_outcome p).refusal r s a b
-refusal_one p r s (inl a) (inr b) = absurd ((graph.has_one_outcome p).never_both r a b.unfolds)
-refusal_one p r s (inr a) (inl b) = absurd ((graph.has_one_outcome p).never_both s b a.unfolds)
-refusal_one p r s (inr a) (inr b) = late_one p b.unfolds.graph (edges_of p b.unfolds) r s (late_as p r a.unfolds b.unfolds a.late) b.late
+refusal_one : (offsets : Offsets) (p : XdpProgram) (r s : Refusal) → IsFirstRefusal offsets p r → IsFirstRefusal offsets p s → r ≡ s
+refusal_one offsets p r s (inl a) (inl b) = (graph.has_one_outcome offsets p).refusal r s a b
+refusal_one offsets p r s (inl a) (inr b) = absurd ((graph.has_one_outcome offsets p).never_both r a b.unfolds)
+refusal_one offsets p r s (inr a) (inl b) = absurd ((graph.has_one_outcome offsets p).never_both s b a.unfolds)
+refusal_one offsets p r s (inr a) (inr b) = late_one p b.unfolds.graph (edges_of offsets p b.unfolds) r s (late_as offsets p r a.unfolds b.unfolds a.late) b.late
 
-refusal_alone : (p : XdpProgram) (r : Refusal) → IsFirstRefusal p r → ¬ IsAccepted p
-refusal_alone p r (inl a) accepted = (graph.has_one_outcome p).never_both r a accepted.unfolds
-refusal_alone p r (inr a) accepted =
-    let late = late_as p r a.unfolds accepted.unfolds a.late in
+refusal_alone : (offsets : Offsets) (p : XdpProgram) (r : Refusal) → IsFirstRefusal offsets p r → ¬ IsAccepted offsets p
+refusal_alone offsets p r (inl a) accepted = (graph.has_one_outcome offsets p).never_both r a accepted.unfolds
+refusal_alone offsets p r (inr a) accepted =
+    let late = late_as offsets p r a.unfolds accepted.unfolds a.late in
     omega (arith, accepted.has_stages.within late.node late.inside, accepted.has_stages.few, late.beyond)
 
-pub has_one_outcome : (p : XdpProgram) → HasOneOutcome p
-has_one_outcome p = record { refusal = refusal_one p; never_both = refusal_alone p }
+pub has_one_outcome : (offsets : Offsets) (p : XdpProgram) → HasOneOutcome offsets p
+has_one_outcome offsets p = record { refusal = refusal_one offsets p; never_both = refusal_alone offsets p }

@@ -4,6 +4,7 @@ use Rattle.std.specs.List.{filter}
 use Rattle.xdp_state.specs.bpf_isa.declared.instruction.Insn.{Insn}
 use Rattle.xdp_state.specs.bpf_isa.Text.{insn_at}
 use Rattle.xdp_state.specs.xdp_machine.Program.{XdpProgram}
+use Rattle.kind_core.specs.declared.kind.Offsets.TheVariants.{Fixed}
 use Rattle.kind_core.specs.declared.kind.Kinds.{Kinds}
 use Rattle.kind_core.specs.Kinds as kinds
 use Rattle.xdp_state.specs.declared.refusal.Refusal.{Refusal}
@@ -26,7 +27,7 @@ use Rattle.row_rules.specs.NodeRows.Passing.{behind}
 
 -- what stands for a node past the last, and for what is after one
 abbrev pub no_point : Point
-no_point = record { node = record { place = 0; copies = [] }; kinds = kinds.start }
+no_point = record { node = record { place = 0; copies = [] }; kinds = kinds.start Fixed }
 
 abbrev pub point_at : List Point → ℕ → Point
 point_at nodes n = get_or nodes n no_point

@@ -1,8 +1,8 @@
 -- What made the values of data places, and in which row.
 use Rattle.std.specs.Prelude.{ℕ, nat_lt, Bool, true, false, if◌then◌else◌, Option, Some, None, List, get_or, map as map_list}
-use Rattle.kind_core.specs.declared.number.Number.TheVariants.{Unknown}
+use Rattle.kind_core.specs.declared.number.Number.TheVariants.{Between}
 use Rattle.kind_core.specs.declared.kind.Kind.{Kind}
-use Rattle.kind_core.specs.declared.kind.Kind.TheVariants.{Unset, Num, Maybe, Entry}
+use Rattle.kind_core.specs.declared.kind.Kind.TheVariants.{Unset, Num, Maybe, Entry, Var}
 use Rattle.kind_core.specs.declared.kind.Kinds.{Kinds}
 use Rattle.cell_core.specs.Rows.{greatest, numbers}
 use Rattle.row_rules.specs.declared.place_rows.location.Location.{Location}
@@ -12,9 +12,11 @@ use Rattle.row_rules.specs.declared.place_rows.span.Span.{Span}
 use Rattle.row_rules.specs.PlaceRows.Locations.{first_byte, location_count, location_at}
 use Rattle.row_rules.specs.PlaceRows.Spans as places
 
--- A kind has data where it does not say by itself what the value is: a number that is not known, the answer of a lookup, a place in an entry.
+-- A kind has data where it does not say by itself what the value is: a number or a place in the packet that is not known, the answer of a lookup,
+-- a place in an entry.
 abbrev pub is_open : Kind → Bool
-is_open (Num Unknown) = true
+is_open (Num (Between lo hi)) = true
+is_open (Var b f) = true
 is_open (Maybe q n) = true
 is_open (Entry q o) = true
 is_open k = false

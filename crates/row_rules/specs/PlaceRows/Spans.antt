@@ -2,7 +2,7 @@
 use Rattle.std.specs.Prelude.{ℕ, ℤ, pos, ◌+◌, ◌-◌, ◌/◌, ◌+ℤ◌, max, nat_le, nat_lt, ◌&&◌, Bool, unsigned_abs, Option, Some, None, List, [], ◌∷◌}
 use Rattle.xdp_state.specs.xdp_maps.declared.decl.MapDecl.{MapDecl}
 use Rattle.kind_core.specs.declared.kind.Kind.{Kind}
-use Rattle.kind_core.specs.declared.kind.Kind.TheVariants.{Packet, Stack, MapRef, Entry}
+use Rattle.kind_core.specs.declared.kind.Kind.TheVariants.{Packet, Stack, MapRef, Entry, Var}
 use Rattle.kind_core.specs.Kinds as kind
 use Rattle.cell_core.specs.Rows.{greatest, numbers}
 use Rattle.row_rules.specs.declared.place_rows.location.Location.TheVariants.{StackSlot, PacketByte, Target, PendingWrites}
@@ -30,7 +30,7 @@ target = one (location_number Target)
 abbrev pub pending : ℕ → Span
 pending q = one (pending_place q)
 
--- the slots or bytes of so many bytes from a pointer on, at an offset; none of other kinds
+-- the slots or bytes of so many bytes from a pointer on, at an offset: all that they may be from a place that is not known; none of other kinds
 abbrev pub slots_of : ℕ → ℕ → Span
 slots_of at count = record { from = slot (at / 8); end = slot ((at + count + 7) / 8) }
 
@@ -40,6 +40,10 @@ bytes_of at count = record { from = byte at; end = byte at + count }
 abbrev pub region : Kind → ℤ → ℕ → Span
 region (Stack o) offset count = slots_of (unsigned_abs (o +ℤ offset +ℤ pos 512)) count
 region (Packet o) offset count = bytes_of (unsigned_abs (pos o +ℤ offset)) count
+region (Var b f) offset count = record {
+  from = byte (unsigned_abs (pos b.bounds.low +ℤ f +ℤ offset));
+  end = byte (unsigned_abs (pos b.bounds.high +ℤ f +ℤ offset)) + count;
+}
 region k offset count = no_place
 
 -- the map that a kind speaks of, and what is pending of it

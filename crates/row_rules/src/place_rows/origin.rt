@@ -21,13 +21,13 @@ pub struct Origins {
     pub places: [Option<Origin>; LOCATIONS],
 }
 
-// Whether a kind leaves a value open: a number that is not known, or a pointer to an entry.
+// Whether a kind leaves a value open: a number or a place in the packet that is not known, or a pointer to an entry.
 fn is_open(kind: Kind) -> bool
     ensures { result ≡ is_open kind }
 {
     matches!(
         kind,
-        Kind::Num(Number::Unknown) | Kind::Maybe(_, _) | Kind::Entry(_, _)
+        Kind::Num(Number::Between(_, _)) | Kind::Var(_, _) | Kind::Maybe(_, _) | Kind::Entry(_, _)
     )
 }
 

@@ -1,8 +1,8 @@
 // Data locations that follow one another.
 
-ghost use Rattle.std.specs.Prelude.{◌≡◌};
+ghost use Rattle.std.specs.Prelude.{◌≡◌, ◌<◌, ◌^◌, ◌+ℤ◌, pos, unsigned_abs};
 ghost use Rattle.row_rules.specs.PlaceRows.Locations.{location_number};
-ghost use Rattle.row_rules.specs.PlaceRows.Spans.{one, target, pending, region, map_of, pending_of, key_in, value_in};
+ghost use Rattle.row_rules.specs.PlaceRows.Spans.{one, target, pending, byte, region, map_of, pending_of, key_in, value_in};
 
 use crate::place_rows::location::{FIRST_BYTE, FIRST_SLOT, LOCATIONS, Location};
 use kind_core::Kind;
@@ -56,7 +56,16 @@ pub fn pending(map: u32) -> Span
     one(Location::PendingWrites(map))
 }
 
-/// The slots or the bytes of so many bytes from a pointer on; none of other kinds.
+// A byte of the packet, at a distance and an offset from a place in it.
+fn byte_from(place: u16, f: i16, offset: i16) -> usize
+    ensures value { result ≡ byte (unsigned_abs (pos place +ℤ f +ℤ offset)) }
+    ensures small { result < 2 ^ 33 }
+{
+    let at = i32::from(place) + i32::from(f) + i32::from(offset);
+    FIRST_BYTE + at.unsigned_abs() as usize
+}
+
+/// The slots or the bytes of so many bytes from a pointer on, all that they may be from a place that is not known; none of other kinds.
 pub fn region(base: Kind, offset: i16, count: u32) -> Span
     ensures { result ≡ region base offset count }
 {
@@ -75,6 +84,10 @@ pub fn region(base: Kind, offset: i16, count: u32) -> Span
                 end: FIRST_BYTE + at + count as usize,
             }
         }
+        Kind::Var(base, f) => Span {
+            from: byte_from(base.bounds.low, f, offset),
+            end: byte_from(base.bounds.high, f, offset) + count as usize,
+        },
         _ => NONE,
     }
 }

@@ -5,6 +5,7 @@ use Rattle.capture_run.specs.States.{ShelfState, state_of}
 use Rattle.capture_run.specs.Runs.{IsRunOver, RunsOut, result_names}
 use Rattle.capture_run.specs.declared.error.RunError.{RunError}
 use Rattle.capture_run.proofs.StateLaws.{tells_later, changes_none, changes_within, changes_then}
+use Rattle.capture_run.proofs.RangeLaws.{packets_come}
 use Rattle.capture_run.proofs.EndLaws.{over_then, as_error}
 use Rattle.capture_run.proofs.RunLaws.{so_far_none, so_far_all, ends_later, told_next, told_ends}
 use Rattle.capture_run.proofs.sequential.run_capture.Goals as goal
@@ -16,7 +17,11 @@ loop-index-init g c =
       plan = refl;
       decls = refl;
       kept = changes_within (result_names (names_of c.args.files.now)) state state (changes_none state);
-      told = λ tells packets count stands. (so_far_none (names_of c.args.files.now) c.args.plan.now c.args.ifindex c.args.survey.now.stream.magic packets c.args.maps.now state c.requires.ends (changes_none state), stands);
+      told = λ tells packets holds count stands. (
+        so_far_none (names_of c.args.files.now) c.args.plan.now c.args.ifindex c.args.survey.now.stream.magic packets c.args.maps.now state c.requires.ends
+            (packets_come c.args.ifindex c.args.survey.now.stream (state.held c.args.files.now.capture.now) packets c.ranges.ifindex.fits holds) c.decls-decls.ensures.sound (changes_none state),
+        stands,
+      );
     }
 
 pub run_next-requires-clause-ends : goal.run_next-requires-clause-ends
@@ -29,7 +34,7 @@ returns-in_err-run_next-clause-told g c = λ tells packets holds count stands.
     let mid : ShelfState = state_of g.S.Shelf c.loop-index.shelf in
     let new : ShelfState = state_of g.S.Shelf c.run_next.new.shelf in
     let kept = c.loop-index.invariant.kept in
-    let far = c.loop-index.invariant.told tells packets count stands in
+    let far = c.loop-index.invariant.told tells packets holds count stands in
     let e : RunError = c.in_err-run_next.field-0.0 in
     let below : c.loop-index.index < length packets = omega (arith, count, c.loop-index-test.true) in
     let P : Result (Unit {0}) RunError → Type 0 = λ r. RunsOut names c.args.plan.now c.args.ifindex c.args.survey.now.stream.magic packets c.args.maps.now c.run_next.new.maps r old new in
@@ -63,8 +68,8 @@ loop-index-preserved g c =
       plan = c.in_ok-run_next.ensures.plan ∙ c.loop-index.invariant.plan;
       decls = c.in_ok-run_next.ensures.decls ∙ c.loop-index.invariant.decls;
       kept = changes_then (result_names names) old mid new kept c.in_ok-run_next.ensures.over.kept;
-      told = λ tells packets count stands.
-          let far = c.loop-index.invariant.told tells packets count stands in
+      told = λ tells packets holds count stands.
+          let far = c.loop-index.invariant.told tells packets holds count stands in
           let below : c.loop-index.index < length packets = omega (arith, count, c.loop-index-test.true) in
           told_next names c.args.plan.now c.loop-index.plan c.args.ifindex c.args.survey.now.stream packets c.loop-index.index c.args.maps.now c.loop-index.maps c.run_next.new.maps old mid new c.loop-index.records c.run_next.new.records (Ok tt) far.0 far.1
           c.loop-index.invariant.plan (kept.others names.capture (c.requires.apart.capture_answer, (c.requires.apart.capture_verdicts, tt))) below (c.in_ok-run_next.ensures.told (tells_later old mid kept.later tells)) _ refl refl
@@ -73,6 +78,6 @@ loop-index-preserved g c =
 
 pub returns-clause-told : goal.returns-clause-told
 returns-clause-told g c = λ tells packets holds count stands.
-    let far = c.loop-index.invariant.told tells packets count stands in
+    let far = c.loop-index.invariant.told tells packets holds count stands in
     so_far_all (names_of c.args.files.now) c.args.plan.now c.args.ifindex c.args.survey.now.stream.magic packets c.loop-index.index c.args.maps.now c.loop-index.maps (state_of g.S.Shelf c.args.shelf.now) (state_of g.S.Shelf c.loop-index.shelf)
     far.0 (omega (arith, count, c.loop-index-test.false, c.loop-index.auto.index-end))

@@ -1,5 +1,7 @@
-use Rattle.std.proofs.Common.{◌≡◌, ◌∙◌, ℕ, List, ◌∷◌, Result, refl, subst, sym}
+use Rattle.std.proofs.Common.{rules, ◌≡◌, ◌∙◌, ℕ, List, ◌∷◌, Result, refl, subst, sym}
+use Rattle.beat_core.specs.list_laws.Bytes.{IsBytes}
 use Rattle.pcap_core.specs.Format.{Packet}
+use Rattle.xdp_state.specs.xdp_machine.State.{PacketIn}
 use Rattle.xdp_state.specs.xdp_machine.Runs.{Leaves}
 use Rattle.command_line.specs.Request.{Names, names_of}
 use Rattle.capture_run.specs.States.{ShelfState, state_of}
@@ -9,6 +11,7 @@ use Rattle.capture_run.specs.declared.records.Stamp.{Stamp}
 use Rattle.capture_run.specs.declared.error.RunError.{RunError}
 use Rattle.capture_run.proofs.StateLaws.{changes_within}
 use Rattle.capture_run.proofs.EndLaws.{over_then, out_from, read_over, read_out, as_capture, on_ok}
+use Rattle.capture_run.proofs.RangeLaws.{packet_comes}
 use Rattle.capture_run.proofs.RunLaws.{out_of_next}
 use Rattle.capture_run.proofs.sequential.run_next.Goals as goal
 
@@ -52,4 +55,8 @@ returns-clause-over g c =
     (changes_within (result_names names) (state_of g.S.Shelf c.args.shelf.now) (state_of g.S.Shelf c.next.new.shelf) c.in_ok-stamp.ensures.kept) c.answer_packet.ensures.over
 
 pub answer_packet-requires-clause-ends : goal.answer_packet-requires-clause-ends
-answer_packet-requires-clause-ends g c = c.requires.ends (record { frame = c.copy_from_slice.new.self; ifindex = c.args.ifindex; time = c.time.result }) c.args.maps.now refl
+answer_packet-requires-clause-ends g c =
+    let packet : PacketIn = record { frame = c.copy_from_slice.new.self; ifindex = c.args.ifindex; time = c.time.result } in
+    let bytes : IsBytes packet.frame = subst IsBytes (sym c.copy_from_slice.ensures.after) c.count_of.ensures.bytes in
+    let end = c.requires.ends packet c.args.maps.now refl (packet_comes packet bytes (search rules) c.ranges.ifindex.fits (search rules) c.args.maps.now c.decls-decls.ensures.sound) in
+    (end.0, end.1)

@@ -18,13 +18,17 @@ pub returns-in-Some-clause-meets : goal.returns-in-Some-clause-meets
 returns-in-Some-clause-meets c = met_words _ _ _ _ _ _ _ _ _ _ _ c.key_words.ensures (ap map_of (sym c.kind_at-kind.ensures) ∙ sym c.map_of.ensures ∙ c.in-Some.is) (record { some = c.requires.some; is_part = c.requires.part; ways = c.requires.there; wider = c.requires.wider }) c.in_ok-c.ensures.picks
 
 pub meet_numbers-requires-clause-there : goal.meet_numbers-requires-clause-there
-meet_numbers-requires-clause-there c = numbers_brought _ _ _ _ c.args.kinds.now _ (record { some = c.requires.some; is_part = c.requires.part; ways = c.requires.there; wider = c.requires.wider }) (sym c.kind_at-kind.ensures ∙ unknown_is _ (sym c.is_unknown.ensures ∙ c.if-is_unknown.true))
+meet_numbers-requires-clause-there c =
+    let u = unknown_is _ (sym c.is_unknown.ensures ∙ c.if-is_unknown.true) in
+    numbers_brought _ _ _ _ c.args.kinds.now _ u.0 u.1 (record { some = c.requires.some; is_part = c.requires.part; ways = c.requires.there; wider = c.requires.wider }) (sym c.kind_at-kind.ensures ∙ u.2)
 
 pub returns-then-is_unknown-clause-meets : goal.returns-then-is_unknown-clause-meets
-returns-then-is_unknown-clause-meets c = met_number _ _ _ _ _ _ _ _ (record { some = c.requires.some; is_part = c.requires.part; ways = c.requires.there; wider = c.requires.wider }) (sym c.kind_at-kind.ensures ∙ unknown_is _ (sym c.is_unknown.ensures ∙ c.if-is_unknown.true)) c.in_ok-c-2.ensures.picks
+returns-then-is_unknown-clause-meets c =
+    let u = unknown_is _ (sym c.is_unknown.ensures ∙ c.if-is_unknown.true) in
+    met_number _ _ _ _ _ _ _ _ u.0 u.1 (record { some = c.requires.some; is_part = c.requires.part; ways = c.requires.there; wider = c.requires.wider }) (sym c.kind_at-kind.ensures ∙ u.2) c.in_ok-c-2.ensures.picks
 
 pub returns-clause-meets : goal.returns-clause-meets
-returns-clause-meets c = met_none _ _ _ _ _ _ _ (ap map_of (sym c.kind_at-kind.ensures) ∙ sym c.map_of.ensures ∙ c.in_default.is) (ap is_unknown (sym c.kind_at-kind.ensures) ∙ sym c.is_unknown.ensures ∙ c.if-is_unknown.false)
+returns-clause-meets c = met_none _ _ _ _ _ _ _ (record { some = c.requires.some; is_part = c.requires.part; ways = c.requires.there; wider = c.requires.wider }) (ap map_of (sym c.kind_at-kind.ensures) ∙ sym c.map_of.ensures ∙ c.in_default.is) (ap is_unknown (sym c.kind_at-kind.ensures) ∙ sym c.is_unknown.ensures ∙ c.if-is_unknown.false)
 
 pub returns-then-agree-clause-rises : goal.returns-then-agree-clause-rises
 returns-then-agree-clause-rises c = meets_same _ _ _ _ _ _ _ (one_of c.args.ways.now c.requires.some) (record { some = c.requires.some; is_part = c.requires.part; ways = c.requires.there; wider = c.requires.wider }) (c.agree.ensures.all c.if-agree.true)
@@ -33,7 +37,9 @@ pub returns-in-Some-clause-rises : goal.returns-in-Some-clause-rises
 returns-in-Some-clause-rises c = meets_pointer _ _ _ _ _ _ _ _ _ _ (record { some = c.requires.some; is_part = c.requires.part; ways = c.requires.there; wider = c.requires.wider }) (ap map_of (sym c.kind_at-kind.ensures) ∙ sym c.map_of.ensures ∙ c.in-Some.is) (not_one c.args.part c.args.ways.now _ _ c.requires.part (λ d. c.held_at-first.ensures ∙ ap (λ (e : Way). held_at c.args.part e.held) (get_or_default c.args.ways.now 0 _ d (omega (arith, c.requires.some)))) c.agree.ensures.only c.if-agree.false) c.in_ok-c.ensures.rises
 
 pub returns-then-is_unknown-clause-rises : goal.returns-then-is_unknown-clause-rises
-returns-then-is_unknown-clause-rises c = meets_number _ _ _ _ _ _ _ _ (record { some = c.requires.some; is_part = c.requires.part; ways = c.requires.there; wider = c.requires.wider }) (sym c.kind_at-kind.ensures ∙ unknown_is _ (sym c.is_unknown.ensures ∙ c.if-is_unknown.true)) (not_one c.args.part c.args.ways.now _ _ c.requires.part (λ d. c.held_at-first.ensures ∙ ap (λ (e : Way). held_at c.args.part e.held) (get_or_default c.args.ways.now 0 _ d (omega (arith, c.requires.some)))) c.agree.ensures.only c.if-agree.false) c.in_ok-c-2.ensures.rises
+returns-then-is_unknown-clause-rises c =
+    let u = unknown_is _ (sym c.is_unknown.ensures ∙ c.if-is_unknown.true) in
+    meets_number _ _ _ _ _ _ _ _ u.0 u.1 (record { some = c.requires.some; is_part = c.requires.part; ways = c.requires.there; wider = c.requires.wider }) (sym c.kind_at-kind.ensures ∙ u.2) (not_one c.args.part c.args.ways.now _ _ c.requires.part (λ d. c.held_at-first.ensures ∙ ap (λ (e : Way). held_at c.args.part e.held) (get_or_default c.args.ways.now 0 _ d (omega (arith, c.requires.some)))) c.agree.ensures.only c.if-agree.false) c.in_ok-c-2.ensures.rises
 
 pub returns-clause-rises : goal.returns-clause-rises
 returns-clause-rises c = meets_none _ _ _ _ _ _ (ap map_of (sym c.kind_at-kind.ensures) ∙ sym c.map_of.ensures ∙ c.in_default.is) (ap is_unknown (sym c.kind_at-kind.ensures) ∙ sym c.is_unknown.ensures ∙ c.if-is_unknown.false) (not_one c.args.part c.args.ways.now _ _ c.requires.part (λ d. c.held_at-first.ensures ∙ ap (λ (e : Way). held_at c.args.part e.held) (get_or_default c.args.ways.now 0 _ d (omega (arith, c.requires.some)))) c.agree.ensures.only c.if-agree.false)

@@ -18,7 +18,7 @@ returns-then-is_number-clause-tests c = tests_numbers_of _ _ _ _ _ _ _ _ _ _ _ _
     (both_numbers _ _ _ _ _ _ (sym c.is_number.ensures ∙ c.if-is_number.true) (sym c.found_of-2.ensures ∙ c.in_default-found_of.is) c.requires.open) c.in_ok-c-3.ensures.makes
 
 pub returns-clause-tests : goal.returns-clause-tests
-returns-clause-tests c = tests_places _ _ _ _ _ _ _ _ _ _ (sym c.found_of.ensures ∙ c.in_default.is) (sym c.found_of-2.ensures ∙ c.in_default-found_of.is) (sym c.is_number.ensures ∙ c.if-is_number.false) c.requires.open c.in_ok-c-4.ensures.makes
+returns-clause-tests c = tests_places _ _ _ _ _ _ _ _ _ _ _ c.requires.left c.requires.right (sym c.found_of.ensures ∙ c.in_default.is) (sym c.found_of-2.ensures ∙ c.in_default-found_of.is) (sym c.is_number.ensures ∙ c.if-is_number.false) c.requires.open c.in_ok-c-4.ensures.makes
 
 pub returns-in-Some-clause-rises : goal.returns-in-Some-clause-rises
 returns-in-Some-clause-rises c = rises_by c.in_ok-c.ensures.rises (λ row. omega (arith, found_row row _ _ _ _ (sym c.found_of.ensures ∙ c.in-Some.is)))

@@ -9,7 +9,7 @@ returns-in_err-graph-clause-fails c =
 pub returns-in_err-stages-clause-fails : goal.returns-in_err-stages-clause-fails
 returns-in_err-stages-clause-fails c =
     err_with (FailsCounting c.args.program.now) c.in_err-stages.field-0.0 c.from_residual-in_err-stages.result c.from_residual-in_err-stages.ensures.1
-    (counting_fails c.args.program.now c.in_ok-graph.graph _ c.in_ok-graph.ensures.unfolds c.in_err-stages.ensures.counted)
+    (counting_fails c.args.program.now c.in_ok-graph.graph _ c.in_ok-graph.ensures.unfolds.0 c.in_ok-graph.ensures.unfolds.1 c.in_err-stages.ensures.counted)
 
 pub returns-clause-counted : goal.returns-clause-counted
-returns-clause-counted c = record { unfolded = c.in_ok-graph.ensures.unfolds; stages = c.in_ok-stages.ensures.counted }
+returns-clause-counted c = record { unfolded = c.in_ok-graph.ensures.unfolds.0; fixed = c.in_ok-graph.ensures.unfolds.1; stages = c.in_ok-stages.ensures.counted }

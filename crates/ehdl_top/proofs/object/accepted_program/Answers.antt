@@ -11,6 +11,6 @@ pub returns-in-Ok-count-clause-program : goal.returns-in-Ok-count-clause-program
 returns-in-Ok-count-clause-program c =
     let counts = c.in-Ok-count.ensures.counts in
     record {
-      taken = record { object = c.in-Ok.ensures.program; takes = accepted_of c.in-Ok.program counts.graph c.in-Ok-count.counts.stages counts.unfolded counts.has_stages };
+      taken = record { object = c.in-Ok.ensures.program; takes = accepted_of c.in-Ok.program counts.graph c.in-Ok-count.counts.stages counts.unfolded counts.varying counts.has_stages };
       counts = counts;
     }

@@ -10,6 +10,7 @@ use Rattle.capture_run.proofs.RunLaws.{runs_exist}
 use Rattle.ehdl_top.specs.declared.error.CommandError.{CommandError}
 use Rattle.ehdl_top.specs.declared.error.CommandError.TheVariants as error
 use Rattle.ehdl_top.specs.Steps.{StreamOut, capture_error}
+use Rattle.capture_run.proofs.RangeLaws.{packets_come}
 use Rattle.ehdl_top.proofs.ReferenceLemmas.{sequential_of, held_later, stop_out, begin_out, is_error}
 use Rattle.ehdl_top.proofs.reference.stream_runs.Goals as goal
 use Rattle.ehdl_top.proofs.StreamLemmas.{apart_of, head_of, holds_still, stands_still}
@@ -20,7 +21,7 @@ returns-in_err-begin-clause-told g c = λ told program is packets holds count.
     let opened = c.args.survey.now.stream in
     let old = state_of g.S.Shelf c.args.shelf.now in
     let new = state_of g.S.Shelf c.begin.new.shelf in
-    let all = runs_exist c.args.plan.now c.args.maps.now c.args.maps.now (map (packet_in c.args.ifindex opened.magic) packets) c.requires.ends refl in
+    let all = runs_exist c.args.plan.now c.args.maps.now c.args.maps.now (map (packet_in c.args.ifindex opened.magic) packets) c.requires.ends (packets_come c.args.ifindex opened (old.held names.capture) packets c.ranges.ifindex.fits holds) c.decls-held.ensures.sound refl in
     let ws = streamed_writes names opened.magic packets (answers_left all.0) in
     record {
       answers = answers_left all.0;
@@ -37,7 +38,7 @@ returns-in_err-begin_results-clause-told g c = λ told program is packets holds 
     let old = state_of g.S.Shelf c.args.shelf.now in
     let mid = state_of g.S.Shelf c.begin.new.shelf in
     let new = state_of g.S.Shelf c.begin_results.new.shelf in
-    let all = runs_exist c.args.plan.now c.args.maps.now c.args.maps.now (map (packet_in c.args.ifindex opened.magic) packets) c.requires.ends refl in
+    let all = runs_exist c.args.plan.now c.args.maps.now c.args.maps.now (map (packet_in c.args.ifindex opened.magic) packets) c.requires.ends (packets_come c.args.ifindex opened (old.held names.capture) packets c.ranges.ifindex.fits holds) c.decls-held.ensures.sound refl in
     let ws = streamed_writes names opened.magic packets (answers_left all.0) in
     let head : OneFailed (head_writes names opened.magic) mid new = subst (λ m. OneFailed (head_writes names m) mid new) c.magic.ensures c.in_err-begin_results.ensures.failed in
     record {

@@ -1,6 +1,7 @@
 use Rattle.std.proofs.Common.{[], refl, sym, ◌∙◌}
 use Rattle.command_line.specs.Request.{names_of}
 use Rattle.capture_run.specs.States.{state_of}
+use Rattle.capture_run.proofs.RangeLaws.{packets_come}
 use Rattle.ehdl_top.proofs.ReferenceLemmas.{runs_end, early_out, stopped_runs, textless_runs, unwritten_runs, written_runs}
 use Rattle.ehdl_top.proofs.reference.write_runs.Goals as goal
 
@@ -8,19 +9,22 @@ pub returns-in_err-room-clause-told : goal.returns-in_err-room-clause-told
 returns-in_err-room-clause-told g c = λ told packets holds count.
     let u = c.requires.unfolded in
     early_out (names_of c.args.files.now) c.args.program.now _ c.args.maps.now c.args.ifindex c.args.survey.now.stream.magic packets c.from_residual.result (state_of g.S.Shelf c.args.shelf.now) refl
-    (runs_end c.runs_are_sound.ensures c.args.program.now u.0 _ c.args.maps.now c.requires.program u.1 refl c.requires.decls) c.from_residual.ensures.1
+    (runs_end c.runs_are_sound.ensures c.args.program.now u.0 _ c.args.maps.now c.requires.program u.1 refl c.requires.decls)
+    (packets_come c.args.ifindex c.args.survey.now.stream ((state_of g.S.Shelf c.args.shelf.now).held c.args.files.now.capture.now) packets c.ranges.ifindex.fits holds) c.decls-held.ensures.sound c.from_residual.ensures.1
 
 pub returns-in_err-plan-clause-told : goal.returns-in_err-plan-clause-told
 returns-in_err-plan-clause-told g c = λ told packets holds count.
     let u = c.requires.unfolded in
     early_out (names_of c.args.files.now) c.args.program.now _ c.args.maps.now c.args.ifindex c.args.survey.now.stream.magic packets c.from_residual-in_err-plan.result (state_of g.S.Shelf c.args.shelf.now) refl
-    (runs_end c.runs_are_sound.ensures c.args.program.now u.0 _ c.args.maps.now c.requires.program u.1 refl c.requires.decls) c.from_residual-in_err-plan.ensures.1
+    (runs_end c.runs_are_sound.ensures c.args.program.now u.0 _ c.args.maps.now c.requires.program u.1 refl c.requires.decls)
+    (packets_come c.args.ifindex c.args.survey.now.stream ((state_of g.S.Shelf c.args.shelf.now).held c.args.files.now.capture.now) packets c.ranges.ifindex.fits holds) c.decls-held.ensures.sound c.from_residual-in_err-plan.ensures.1
 
 pub returns-in_err-buffer-clause-told : goal.returns-in_err-buffer-clause-told
 returns-in_err-buffer-clause-told g c = λ told packets holds count.
     let u = c.requires.unfolded in
     early_out (names_of c.args.files.now) c.args.program.now _ c.args.maps.now c.args.ifindex c.args.survey.now.stream.magic packets c.from_residual-in_err-buffer.result (state_of g.S.Shelf c.args.shelf.now) refl
-    (runs_end c.runs_are_sound.ensures c.args.program.now u.0 _ c.args.maps.now c.requires.program u.1 refl c.requires.decls) c.from_residual-in_err-buffer.ensures.1
+    (runs_end c.runs_are_sound.ensures c.args.program.now u.0 _ c.args.maps.now c.requires.program u.1 refl c.requires.decls)
+    (packets_come c.args.ifindex c.args.survey.now.stream ((state_of g.S.Shelf c.args.shelf.now).held c.args.files.now.capture.now) packets c.ranges.ifindex.fits holds) c.decls-held.ensures.sound c.from_residual-in_err-buffer.ensures.1
 
 pub stream_runs-requires-clause-ends : goal.stream_runs-requires-clause-ends
 stream_runs-requires-clause-ends g c =

@@ -34,7 +34,7 @@ pub arrive-requires-clause-some : goal.arrive-requires-clause-some
 arrive-requires-clause-some c =
     let inside : c.args.node < length (graph_of c.args.program.now c.args.unfolded.now).nodes = omega (arith, c.requires.node, length-map c.args.unfolded.now.nodes.items node_view) in
     let numbers : c.deref-2.result.now ≡ get_or (entries_of c.args.progress.now) c.args.node [] = numbers_of (graph_of c.args.program.now c.args.unfolded.now) c.args.node c.args.progress.now c.index-numbers.result.now c.deref-2.result.now c.requires.ready inside c.deref-2.ensures c.index-numbers.ensures in
-    let feeds : FeedsNodes (graph_of c.args.program.now c.args.unfolded.now) = c.sound_graphs_feed.ensures (graph_of c.args.program.now c.args.unfolded.now) (c.graphs_are_sound.ensures c.args.program.now c.args.unfolded.now c.decls-decls.ensures.program c.requires.unfolded) in
+    let feeds : FeedsNodes (graph_of c.args.program.now c.args.unfolded.now) = c.sound_graphs_feed.ensures (graph_of c.args.program.now c.args.unfolded.now) (c.graphs_are_sound.ensures c.args.program.now c.args.unfolded.now c.decls-decls.ensures.program c.requires.unfolded c.requires.fixed) in
     let lead : LeadTo c.args.node c.args.progress.now.made.ways.items c.in_ok-meeting.meeting.items = leads_at (graph_of c.args.program.now c.args.unfolded.now) c.args.node c.args.progress.now c.deref.result.now c.in_ok-meeting.meeting.items c.deref-2.result.now c.requires.ready inside c.deref.ensures.value numbers c.in_ok-meeting.ensures in
     meeting_some (graph_of c.args.program.now c.args.unfolded.now) c.args.node c.args.progress.now c.in_ok-meeting.meeting.items c.deref-3.result.now feeds c.requires.ready inside lead c.deref-3.ensures.value
 
@@ -49,7 +49,7 @@ pub arrive-requires-clause-wider : goal.arrive-requires-clause-wider
 arrive-requires-clause-wider c =
     let inside : c.args.node < length (graph_of c.args.program.now c.args.unfolded.now).nodes = omega (arith, c.requires.node, length-map c.args.unfolded.now.nodes.items node_view) in
     let numbers : c.deref-2.result.now ≡ get_or (entries_of c.args.progress.now) c.args.node [] = numbers_of (graph_of c.args.program.now c.args.unfolded.now) c.args.node c.args.progress.now c.index-numbers.result.now c.deref-2.result.now c.requires.ready inside c.deref-2.ensures c.index-numbers.ensures in
-    let feeds : FeedsNodes (graph_of c.args.program.now c.args.unfolded.now) = c.sound_graphs_feed.ensures (graph_of c.args.program.now c.args.unfolded.now) (c.graphs_are_sound.ensures c.args.program.now c.args.unfolded.now c.decls-decls.ensures.program c.requires.unfolded) in
+    let feeds : FeedsNodes (graph_of c.args.program.now c.args.unfolded.now) = c.sound_graphs_feed.ensures (graph_of c.args.program.now c.args.unfolded.now) (c.graphs_are_sound.ensures c.args.program.now c.args.unfolded.now c.decls-decls.ensures.program c.requires.unfolded c.requires.fixed) in
     let lead : LeadTo c.args.node c.args.progress.now.made.ways.items c.in_ok-meeting.meeting.items = leads_at (graph_of c.args.program.now c.args.unfolded.now) c.args.node c.args.progress.now c.deref.result.now c.in_ok-meeting.meeting.items c.deref-2.result.now c.requires.ready inside c.deref.ensures.value numbers c.in_ok-meeting.ensures in
     let kinds : (node_at (graph_of c.args.program.now c.args.unfolded.now).nodes c.args.node).kinds ≡ c.index.result.now.kinds = ap (λ (n : NodeView). n.kinds) (node_is c.args.program.now c.args.unfolded.now c.args.node c.index.result.now c.requires.node c.index.ensures) in
     meeting_wider (graph_of c.args.program.now c.args.unfolded.now) c.args.node c.args.progress.now c.index.result.now.kinds c.in_ok-meeting.meeting.items c.deref-3.result.now feeds c.requires.ready inside kinds lead c.deref-3.ensures.value
@@ -58,12 +58,12 @@ pub arrive-requires-clause-filled : goal.arrive-requires-clause-filled
 arrive-requires-clause-filled c =
     let inside : c.args.node < length (graph_of c.args.program.now c.args.unfolded.now).nodes = omega (arith, c.requires.node, length-map c.args.unfolded.now.nodes.items node_view) in
     let kinds : (node_at (graph_of c.args.program.now c.args.unfolded.now).nodes c.args.node).kinds ≡ c.index.result.now.kinds = ap (λ (n : NodeView). n.kinds) (node_is c.args.program.now c.args.unfolded.now c.args.node c.index.result.now c.requires.node c.index.ensures) in
-    subst AreFilled kinds ((c.graphs_are_sound.ensures c.args.program.now c.args.unfolded.now c.decls-decls.ensures.program c.requires.unfolded).filled c.args.node inside)
+    subst AreFilled kinds ((c.graphs_are_sound.ensures c.args.program.now c.args.unfolded.now c.decls-decls.ensures.program c.requires.unfolded c.requires.fixed).filled c.args.node inside)
 
 pub gather-requires-clause-some : goal.gather-requires-clause-some
 gather-requires-clause-some c =
     let inside : c.args.node < length (graph_of c.args.program.now c.args.unfolded.now).nodes = omega (arith, c.requires.node, length-map c.args.unfolded.now.nodes.items node_view) in
-    let feeds : FeedsNodes (graph_of c.args.program.now c.args.unfolded.now) = c.sound_graphs_feed.ensures (graph_of c.args.program.now c.args.unfolded.now) (c.graphs_are_sound.ensures c.args.program.now c.args.unfolded.now c.decls-decls.ensures.program c.requires.unfolded) in
+    let feeds : FeedsNodes (graph_of c.args.program.now c.args.unfolded.now) = c.sound_graphs_feed.ensures (graph_of c.args.program.now c.args.unfolded.now) (c.graphs_are_sound.ensures c.args.program.now c.args.unfolded.now c.decls-decls.ensures.program c.requires.unfolded c.requires.fixed) in
     turn_some (graph_of c.args.program.now c.args.unfolded.now) c.args.node c.args.progress.now c.deref-6.result.now feeds c.requires.ready inside
     (numbers_of (graph_of c.args.program.now c.args.unfolded.now) c.args.node c.args.progress.now c.index-numbers.result.now c.deref-6.result.now c.requires.ready inside c.deref-6.ensures c.index-numbers.ensures)
 
@@ -121,7 +121,7 @@ returns-clause-rows c fit =
     let numbers6 : c.deref-6.result.now ≡ get_or (entries_of c.args.progress.now) c.args.node [] = numbers_of (graph_of c.args.program.now c.args.unfolded.now) c.args.node c.args.progress.now c.index-numbers.result.now c.deref-6.result.now c.requires.ready inside c.deref-6.ensures c.index-numbers.ensures in
     let kinds : c.index.result.now.kinds ≡ kinds_of c.args.unfolded.now c.args.node = ap (λ (x : Point). x.kinds) (c.index.ensures ∙ get_or_default c.args.unfolded.now.nodes.items c.args.node c.index.result.now no_point c.requires.node) in
     c.arrivals_fit.ensures c.args.program.now c.args.unfolded.now c.args.node c.args.progress.now (seen c.arrive.new.cells.items) (seen c.gather.new.cells.items) (pointed c.arrive.new.pointers.items) c.in_ok-meeting.meeting.items c.in_ok-here.here.guard c.in_ok-here.here.held c.in_ok-pending.pending.items
-    c.decls-decls.ensures.program c.requires.unfolded c.requires.node c.requires.ready lead
+    c.decls-decls.ensures.program c.requires.unfolded c.requires.fixed c.requires.node c.requires.ready lead
     (subst (λ (ws : List Way). JoinsTo (seen c.args.progress.now.made.cells.items) (seen c.arrive.new.cells.items) (pointed c.args.progress.now.made.pointers.items) (pointed c.arrive.new.pointers.items) ws (kinds_of c.args.unfolded.now c.args.node) c.in_ok-here.here.guard c.in_ok-here.here.held) c.deref-3.ensures.value
     (subst (λ (ks : Kinds). JoinsTo (seen c.args.progress.now.made.cells.items) (seen c.arrive.new.cells.items) (pointed c.args.progress.now.made.pointers.items) (pointed c.arrive.new.pointers.items) c.deref-3.result.now ks c.in_ok-here.here.guard c.in_ok-here.here.held) kinds c.in_ok-here.ensures.rows))
     c.in_ok-pending.ensures.grows

@@ -96,7 +96,7 @@ enter-requires-clause-inside c =
     (subst (IsNode (graph_of c.args.program.now c.args.unfolded.now) c.args.node c.args.insn.now) kinds c.requires.insn) c.requires.ends c.in_ok-step_node.ensures.kept.1
     (subst (λ (t : Bool). map brought c.step_node.new.made.ways.items ≡ map brought c.arrive_at.new.progress.made.ways.items ++ all_brought (graph_of c.args.program.now c.args.unfolded.now).decls c.args.node c.index-at.result.now.kinds c.args.insn.now t c.args.ends.next c.args.ends.jump) refers
     (subst (λ (ds : List MapDecl). map brought c.step_node.new.made.ways.items ≡ map brought c.arrive_at.new.progress.made.ways.items ++ all_brought ds c.args.node c.index-at.result.now.kinds c.args.insn.now c.contains.result c.args.ends.next c.args.ends.jump) c.decls.ensures.decls c.in_ok-step_node.ensures.brought)) in
-    let sound : IsSoundGraph (graph_of c.args.program.now c.args.unfolded.now) = c.graphs_are_sound.ensures c.args.program.now c.args.unfolded.now c.decls.ensures.program c.requires.unfolded in
+    let sound : IsSoundGraph (graph_of c.args.program.now c.args.unfolded.now) = c.graphs_are_sound.ensures c.args.program.now c.args.unfolded.now c.decls.ensures.program c.requires.unfolded c.requires.fixed in
     targets_inside (graph_of c.args.program.now c.args.unfolded.now) c.args.node c.args.progress.now c.arrive_at.new.progress c.in_ok-arrived.arrived.here c.in_ok-arrived.arrived.pending.items c.in_ok-step_node.ensures.kept.0 c.deref-3.result.now c.requires.ready c.in_ok-arrived.ensures.comes
     (leave_inside (graph_of c.args.program.now c.args.unfolded.now) c.args.node c.in_ok-step_node.ensures.kept.0 sound leave) (c.deref-3.ensures.value ∙ c.in_ok-step_node.ensures.kept.1)
 
@@ -114,7 +114,7 @@ returns-clause-ready c =
     (subst (IsNode (graph_of c.args.program.now c.args.unfolded.now) c.args.node c.args.insn.now) kinds c.requires.insn) c.requires.ends c.in_ok-step_node.ensures.kept.1
     (subst (λ (t : Bool). map brought c.step_node.new.made.ways.items ≡ map brought c.arrive_at.new.progress.made.ways.items ++ all_brought (graph_of c.args.program.now c.args.unfolded.now).decls c.args.node c.index-at.result.now.kinds c.args.insn.now t c.args.ends.next c.args.ends.jump) refers
     (subst (λ (ds : List MapDecl). map brought c.step_node.new.made.ways.items ≡ map brought c.arrive_at.new.progress.made.ways.items ++ all_brought ds c.args.node c.index-at.result.now.kinds c.args.insn.now c.contains.result c.args.ends.next c.args.ends.jump) c.decls.ensures.decls c.in_ok-step_node.ensures.brought)) in
-    let sound : IsSoundGraph (graph_of c.args.program.now c.args.unfolded.now) = c.graphs_are_sound.ensures c.args.program.now c.args.unfolded.now c.decls.ensures.program c.requires.unfolded in
+    let sound : IsSoundGraph (graph_of c.args.program.now c.args.unfolded.now) = c.graphs_are_sound.ensures c.args.program.now c.args.unfolded.now c.decls.ensures.program c.requires.unfolded c.requires.fixed in
     let feeds : FeedsNodes (graph_of c.args.program.now c.args.unfolded.now) = c.sound_graphs_feed.ensures (graph_of c.args.program.now c.args.unfolded.now) sound in
     ready_next c.nodes_follow.ensures c.steps_stay.ensures (graph_of c.args.program.now c.args.unfolded.now) c.args.node c.args.progress.now c.arrive_at.new.progress
     (record { made = record { cells = c.pass.new.cells; pointers = c.step_node.new.made.pointers; sites = c.step_node.new.made.sites; ways = c.step_node.new.made.ways; exits = c.step_node.new.made.exits }; nodes = c.push.new.self; entries = c.enter.new.entries; pending = c.enter.new.pending; window = c.arrive_at.new.progress.window })

@@ -15,7 +15,7 @@ use Rattle.predicate_core.proofs.program.begin.Goals as goal
 
 pub returns-clause-ready : goal.returns-clause-ready
 returns-clause-ready c =
-    let sound : IsSoundGraph (graph_of c.args.program.now c.args.unfolded.now) = c.graphs_are_sound.ensures c.args.program.now c.args.unfolded.now c.decls.ensures.program c.requires in
+    let sound : IsSoundGraph (graph_of c.args.program.now c.args.unfolded.now) = c.graphs_are_sound.ensures c.args.program.now c.args.unfolded.now c.decls.ensures.program c.requires.unfolded c.requires.fixed in
     let opens : Opens [] (seen c.unwritten.new.cells.items) c.in_ok-start.start = opens_later [] (seen c.open.new.cells.items) (seen c.unwritten.new.cells.items) c.in_ok-start.start
     (subst (λ (xs : List CellView). Opens xs (seen c.open.new.cells.items) c.in_ok-start.start) (ap seen c.new-cells.ensures.items ∙ seen_none) c.in_ok-start.ensures) c.in_ok-none.ensures.grows c.in_ok-none.ensures.no_row in
     ready_first c.opens_follow.ensures (graph_of c.args.program.now c.args.unfolded.now) c.in_ok-start.start

@@ -14,9 +14,9 @@ returns-clause-carries c = λ decls ps node is_ref allowed inside.
 
 pub returns-clause-rows : goal.returns-clause-rows
 returns-clause-rows c = λ decls ps node is_ref allowed.
-    carried_to _ _ decls ps c.args.insn.now node is_ref c.args.kinds.now c.args.held.now c.in_ok-c.c (ap writes_destination c.requires.op) c.requires.insn.dst_register c.are_whole.ensures.registers c.are_whole.ensures.register_cells allowed
+    carried_to _ _ decls ps c.args.insn.now node is_ref c.args.kinds.now c.args.held.now c.in_ok-c.c c.requires.inside.2.offsets (ap writes_destination c.requires.op) c.requires.insn.dst_register c.are_whole.ensures.registers c.are_whole.ensures.register_cells allowed
     (λ after. load_to _ _ ps c.args.held.now c.args.kinds.now decls is_ref after c.args.insn.now c.in_ok-c.c _ (op.Load c.args.size) c.requires.op (c.in_ok-c.ensures.rows decls ps after))
 
 pub returns-clause-points : goal.returns-clause-points
 returns-clause-points c = λ decls node is_ref allowed.
-    given_keeps decls c.args.kinds.now c.args.held.now c.args.insn.now node is_ref c.in_ok-c.c (op.Load c.args.size) c.requires.op refl c.requires.insn.dst_register c.are_whole.ensures.registers c.are_whole.ensures.register_cells allowed (c.in_ok-c.ensures.points decls)
+    given_keeps decls c.args.kinds.now c.args.held.now c.args.insn.now node is_ref c.in_ok-c.c (op.Load c.args.size) c.requires.inside.2.offsets c.requires.op refl c.requires.insn.dst_register c.are_whole.ensures.registers c.are_whole.ensures.register_cells allowed (c.in_ok-c.ensures.points decls)

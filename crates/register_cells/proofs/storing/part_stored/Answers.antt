@@ -1,6 +1,6 @@
 use Rattle.std.proofs.Common.{◌≡◌, ◌≢◌, ◌∙◌, sym, ℕ, Ok}
 use Rattle.kind_core.specs.declared.number.Number.{Number}
-use Rattle.kind_core.specs.declared.number.Number.TheVariants.{Known, Unknown}
+use Rattle.kind_core.specs.declared.number.Number.TheVariants.{Known, Between}
 use Rattle.kind_core.specs.Access.{underlying}
 use Rattle.register_cells.proofs.StoreRows.{part_to}
 use Rattle.register_cells.proofs.Made.{part_finds}
@@ -10,8 +10,8 @@ use Rattle.register_cells.proofs.storing.part_stored.Goals.{in_default-via-in-Kn
 -- not both are known
 open_one : (c : goal.In_ok-c-in_default) (m : Number) → underlying c.args.a ≡ Ok m → (i j : ℕ) → m ≡ Known i → c.args.n ≢ Known j
 open_one c m e i j f = elim c.in_default.branch [
-  | in_default-via-in-Known+in_default w ↦ λ g. let h : Unknown ≡ Known j = sym w.in_default.is-1 ∙ g in absurd cc
-  | in_default-via-in_default w ↦ λ g. let h : Unknown ≡ Known i = sym w.in_default.is-0 ∙ c.underlying.ensures m e ∙ f in absurd cc
+  | in_default-via-in-Known+in_default w ↦ λ g. let h : Between _ _ ≡ Known j = sym w.in_default.is-1 ∙ g in absurd cc
+  | in_default-via-in_default w ↦ λ g. let h : Between _ _ ≡ Known i = sym w.in_default.is-0 ∙ c.underlying.ensures m e ∙ f in absurd cc
 ]
 
 pub returns-in_ok-c-in_default-clause-finds : goal.returns-in_ok-c-in_default-clause-finds

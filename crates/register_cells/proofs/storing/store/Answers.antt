@@ -5,6 +5,7 @@ use Rattle.cell_core.specs.xdp_machine.Values as is
 use Rattle.cell_core.specs.xdp_machine.Step as step
 use Rattle.kind_core.specs.Effects.{operand}
 use Rattle.kind_core.specs.declared.kind.Kind.TheVariants.{Packet, Stack}
+use Rattle.operator_cells.proofs.HeldCells.PointerLaws.{never_var}
 use Rattle.register_cells.proofs.Known.{imm_fits, operand_counts, operand_read}
 use Rattle.register_cells.proofs.Loads.{register_is}
 use Rattle.register_cells.proofs.Stores.{store_as, store_refused}
@@ -35,7 +36,7 @@ returns-in-Stack-clause-leaves c = λ decls node is_ref inside.
 
 pub returns-in_default-clause-leaves : goal.returns-in_default-clause-leaves
 returns-in_default-clause-leaves c = λ decls node is_ref inside.
-    store_refused decls c.args.kinds.now _ c.args.insn.now.offset c.args.size (operand c.args.kinds.now c.args.insn.now c.args.src) _ c.in_default.not-Packet c.in_default.not-Stack c.requires.plain
+    store_refused decls c.args.kinds.now _ c.args.insn.now.offset c.args.size (operand c.args.kinds.now c.args.insn.now c.args.src) _ c.in_default.not-Packet c.in_default.not-Stack c.requires.plain (never_var c.requires.inside.1 c.requires.insn.dst_register)
 
 pub returns-in-Packet-clause-rows : goal.returns-in-Packet-clause-rows
 returns-in-Packet-clause-rows c = λ decls node is_ref.
@@ -51,7 +52,7 @@ returns-in-Stack-clause-rows c = λ decls node is_ref.
 
 pub returns-in_default-clause-rows : goal.returns-in_default-clause-rows
 returns-in_default-clause-rows c = λ decls node is_ref.
-    store_refused decls c.args.kinds.now _ c.args.insn.now.offset c.args.size (operand c.args.kinds.now c.args.insn.now c.args.src) _ c.in_default.not-Packet c.in_default.not-Stack c.requires.plain
+    store_refused decls c.args.kinds.now _ c.args.insn.now.offset c.args.size (operand c.args.kinds.now c.args.insn.now c.args.src) _ c.in_default.not-Packet c.in_default.not-Stack c.requires.plain (never_var c.requires.inside.1 c.requires.insn.dst_register)
 
 pub returns-in-Packet-clause-points : goal.returns-in-Packet-clause-points
 returns-in-Packet-clause-points c = λ decls node is_ref.
@@ -65,4 +66,4 @@ returns-in-Stack-clause-points c = λ decls node is_ref.
 
 pub returns-in_default-clause-points : goal.returns-in_default-clause-points
 returns-in_default-clause-points c = λ decls node is_ref.
-    store_refused decls c.args.kinds.now _ c.args.insn.now.offset c.args.size (operand c.args.kinds.now c.args.insn.now c.args.src) _ c.in_default.not-Packet c.in_default.not-Stack c.requires.plain
+    store_refused decls c.args.kinds.now _ c.args.insn.now.offset c.args.size (operand c.args.kinds.now c.args.insn.now c.args.src) _ c.in_default.not-Packet c.in_default.not-Stack c.requires.plain (never_var c.requires.inside.1 c.requires.insn.dst_register)

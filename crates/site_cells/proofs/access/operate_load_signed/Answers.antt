@@ -34,6 +34,6 @@ pub returns-in_ok-c-clause-points : goal.returns-in_ok-c-clause-points
 returns-in_ok-c-clause-points c = λ is_ref allowed.
     let f = signed_allowed c.args.decls.now c.args.kinds.now c.args.insn.now c.args.size _ _ c.requires.op c.in-Entry.is allowed in
     access_points c.args.decls.now c.args.insn.now c.args.here c.args.kinds.now _ c.args.held.now _ _ _ (pointed c.args.pointers.now) _ _ _ _ _ (act.Load c.place.result c.args.size) _ [] c.requires.insn.src_register c.in-Entry.is (entry_seen c.args.pointers.now c.requires.inside c.requires.insn.src_register c.in-Entry.is c.index-pointers-held.is) refl
-    (read_keeps c.args.kinds.now _ c.args.held.now c.args.insn.now.dst c.in_ok-c.c (f.1 c.args.here.node is_ref false) c.requires.insn.dst_register c.are_whole.ensures.registers c.are_whole.ensures.register_cells) c.in_ok-answer.ensures.sites_are
+    (read_keeps _ _ c.args.kinds.now _ c.args.held.now c.args.insn.now.dst c.in_ok-c.c (f.1 c.args.here.node is_ref false) c.requires.insn.dst_register c.are_whole.ensures.registers c.are_whole.ensures.register_cells) c.in_ok-answer.ensures.sites_are
     (access_reads c.args.decls.now _ c.args.here _ _ _ _ _ _ _ (act.Load c.place.result c.args.size) _ [] c.in_ok-answer.answer _ grown_none c.in_ok-answer.ensures c.in_ok-c.ensures.makes.grows (entry_used c.args.kinds.now c.args.insn.now _ c.args.insn.now.src _ _ c.requires.op refl c.in-Entry.is)
     (place_aligned c.args.decls.now c.in-Entry.map c.in-Entry.o c.place.result _ c.args.insn.now.offset c.args.size f.0 (to_z-of_z {w = w16} (record { sfits = c.requires.insn.offset_range.sfits })) c.place.ensures) (ap (λ (n : ℕ). 8 * n) c.bytes_in.ensures.value) refl (λ k. refl) (λ k. refl))

@@ -95,7 +95,7 @@ returns-in_ok-c-in-Some-clause-points c = λ is_ref allowed.
     let to = sym c.taken_by.ensures ∙ c.in-Some.is in
     access_points c.args.decls.now c.args.insn.now c.args.here c.args.kinds.now _ c.args.held.now _ _ _ (pointed c.args.pointers.now) _ _ _ _ _ (act.Atomic c.place-at.result c.atomic_of.result) _ (c.in_ok-own.own.source ∷ c.in_ok-own.own.compared ∷ []) c.requires.insn.dst_register c.in-Entry.is
     (entry_seen c.args.pointers.now c.requires.inside c.requires.insn.dst_register c.in-Entry.is c.index-pointers-held.is) (c.in_ok-own.own.source, c.in_ok-own.own.compared, refl)
-    (read_keeps c.args.kinds.now _ c.args.held.now c.in-Some.register c.in_ok-c-in-Some.c (f.taken c.args.here.node is_ref false c.in-Some.register to) (taken_small c.args.insn.now _ c.requires.insn.src_register to) c.are_whole.ensures.registers c.are_whole.ensures.register_cells) c.in_ok-c-in-Some.ensures.sites_are
+    (read_keeps _ _ c.args.kinds.now _ c.args.held.now c.in-Some.register c.in_ok-c-in-Some.c (f.taken c.args.here.node is_ref false c.in-Some.register to) (taken_small c.args.insn.now _ c.requires.insn.src_register to) c.are_whole.ensures.registers c.are_whole.ensures.register_cells) c.in_ok-c-in-Some.ensures.sites_are
     (access_reads c.args.decls.now _ c.args.here _ _ _ _ _ _ _ (act.Atomic c.place-at.result c.atomic_of.result) _ (c.in_ok-own.own.source ∷ c.in_ok-own.own.compared ∷ []) c.in_ok-c-in-Some.c _ c.in_ok-own.ensures.holds.grows c.in_ok-c-in-Some.ensures grown_none (entry_used c.args.kinds.now c.args.insn.now _ c.args.insn.now.dst _ _ c.requires.op refl c.in-Entry.is)
     (atomic_aligned c.args.decls.now c.args.insn.now c.in-Entry.map c.in-Entry.o c.place-at.result _ c.args.insn.now.offset c.args.size c.atomic_of.result (subst IsSized c.requires.op c.requires.insn.size) c.atomic_of.ensures f.placed (to_z-of_z {w = w16} (record { sfits = c.requires.insn.offset_range.sfits })) c.place-at.ensures)
     (ap (λ (n : ℕ). 8 * n) (c.bytes_in.ensures.value ∙ atomic_bytes c.args.insn.now c.args.size c.atomic_of.result (subst IsSized c.requires.op c.requires.insn.size) c.atomic_of.ensures)) (taken_answers c.args.insn.now c.args.size c.atomic_of.result c.in-Some.register c.atomic_of.ensures to) (λ k. refl) (λ k. refl))

@@ -12,12 +12,12 @@ pub returns-in_ok-c-in-Known-clause-makes : goal.returns-in_ok-c-in-Known-clause
 returns-in_ok-c-in-Known-clause-makes c = subst (λ (x : Number). Makes (seen c.args.cells.now.items) (seen c.shared_constant.new.cells.items) c.in_ok-c-in-Known.c (λ packet v. slice_index (little_bytes 8 (number_of v x c.args.held)) c.args.at)) (sym c.in-Known.is)
     (byte_known _ _ _ _ _ _ c.requires.inside refl c.in_ok-c-in-Known.ensures.makes)
 
-pub returns-in_ok-c-in-Unknown-clause-makes : goal.returns-in_ok-c-in-Unknown-clause-makes
-returns-in_ok-c-in-Unknown-clause-makes c = subst (λ (x : Number). Makes (seen c.args.cells.now.items) (seen c.shared_slice.new.cells.items) c.in_ok-c-in-Unknown.c (λ packet v. slice_index (little_bytes 8 (number_of v x c.args.held)) c.args.at)) (sym c.in-Unknown.is)
-    (byte_unknown _ _ _ _ _ c.requires.inside c.in_ok-c-in-Unknown.ensures.makes)
+pub returns-in_ok-c-in-Between-clause-makes : goal.returns-in_ok-c-in-Between-clause-makes
+returns-in_ok-c-in-Between-clause-makes c = subst (λ (x : Number). Makes (seen c.args.cells.now.items) (seen c.shared_slice.new.cells.items) c.in_ok-c-in-Between.c (λ packet v. slice_index (little_bytes 8 (number_of v x c.args.held)) c.args.at)) (sym c.in-Between.is)
+    (byte_unknown _ _ _ _ _ c.requires.inside c.in_ok-c-in-Between.ensures.makes)
 
 pub returns-in_ok-c-in-Known-clause-rises : goal.returns-in_ok-c-in-Known-clause-rises
 returns-in_ok-c-in-Known-clause-rises c = rises_by c.in_ok-c-in-Known.ensures.rises (λ row. omega arith)
 
-pub returns-in_ok-c-in-Unknown-clause-rises : goal.returns-in_ok-c-in-Unknown-clause-rises
-returns-in_ok-c-in-Unknown-clause-rises c = rises_by c.in_ok-c-in-Unknown.ensures.rises (λ row. unknown_row row _ _ c.in-Unknown.is)
+pub returns-in_ok-c-in-Between-clause-rises : goal.returns-in_ok-c-in-Between-clause-rises
+returns-in_ok-c-in-Between-clause-rises c = rises_by c.in_ok-c-in-Between.ensures.rises (λ row. unknown_row row _ _ _ _ c.in-Between.is)

@@ -8,4 +8,5 @@ returns c = runs_are_sound (record {
   joins = c.join_describes.ensures;
   start = c.start_is_described.ensures;
   changes = c.steps_change_only.ensures;
+  ranges = c.steps_keep_ranges.ensures;
 })

@@ -1,11 +1,18 @@
-use Rattle.std.proofs.Common.{◌∙◌, ◌<◌, Some, List, ap, length, arith}
+use Rattle.std.proofs.Common.{◌∙◌, ◌<◌, Some, List, All, sym, ap, subst, length, arith}
 use Rattle.std.proofs.lemmas.List.{get_or_default}
 use Rattle.unfold_core.specs.declared.edges.Point.{Point}
+use Rattle.unfold_core.specs.declared.links.Edge.{Edge}
 use Rattle.row_rules.specs.declared.node_rows.node.AfterNode.{AfterNode}
 use Rattle.row_rules.specs.NodeRows.Rows.{no_point, behind_node, may_write}
 use Rattle.row_rules.proofs.NodeRows.RowsLaws.{more}
 use Rattle.row_rules.proofs.node_rows.stages.count_stages.Goals as goal
 use Rattle.row_rules.proofs.NodeRows.CountLaws.{count_rows}
+
+pub behind-requires-clause-up : goal.behind-requires-clause-up
+behind-requires-clause-up c =
+    let nodes : List Point = c.args.unfolded.now.nodes.items in
+    subst (λ (es : List Edge). All (λ e. (e.from < e.to) × (e.to < length nodes)) es) (sym c.requires.edges)
+    (c.edges_lead_on.ensures c.args.unfolded.now.offsets c.args.program.now c.args.unfolded.now.loops.items nodes c.requires.loops.loops c.requires.graph)
 
 pub behind-requires-clause-passed : goal.behind-requires-clause-passed
 behind-requires-clause-passed c = ap length (c.deref-in-loop-number-2.ensures.value ∙ c.loop-number.invariant.rows) ∙ count_rows c.args.program.now c.args.unfolded.now.nodes.items c.args.unfolded.now.edges.items c.loop-number.number

@@ -9,6 +9,6 @@ clash i e = absurd (cc)
 
 pub unreachable-requires : goal.unreachable-requires
 unreachable-requires c =
-    let links = c.nodes_have_links.ensures c.args.program.now c.args.unfolded.now.loops.items c.args.unfolded.now.nodes.items c.args.node c.index.result.now c.requires.unfolded.loops.loops c.requires.unfolded.graph c.requires.node in
+    let links = c.nodes_have_links.ensures c.args.unfolded.now.offsets c.args.program.now c.args.unfolded.now.loops.items c.args.unfolded.now.nodes.items c.args.node c.index.result.now c.requires.unfolded.loops.loops c.requires.unfolded.graph c.requires.node in
     clash links.insn (sym links.insn_is ∙ ap (λ (x : Point). insn_at c.args.program.now.insns x.node.place) (sym c.index.ensures)
     ∙ sym (c.requires.units.are.same c.index.result.now.node.place) ∙ sym c.insn_at.ensures.found ∙ c.in-None.is)
