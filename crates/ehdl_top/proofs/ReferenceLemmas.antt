@@ -39,7 +39,7 @@ runs_end sound p u code first program unfolded is decls = λ packet maps same ra
     let few = unfolded.graph.few in
     let end = s.ended 1048576 (omega (arith, few)) in
     let left : LeavesInRange s.left = runs_leave_in_range (program_code p) packet maps s.left program.legal range (1048576, end) in
-    subst (λ (c : Code). (e : Leaves) × (run c 1048576 (start packet maps) ≡ Ended e) × IsSound e.maps) (sym is) (s.left, (end, left.maps))
+    subst (λ (c : Code). (e : Leaves) × (run c 1048576 (start packet maps) ≡ Ended e) × IsSound e.maps) (sym is) (s.left, end, left.maps)
 
 came_in : (ifindex magic : ℕ) (packets : List Packet) → map (packet_in ifindex magic) packets ≡ packets_in (came_by ifindex (timed_packets magic packets))
 came_in ifindex magic [] = refl
