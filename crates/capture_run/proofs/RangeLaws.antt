@@ -3,9 +3,9 @@ use Rattle.std.specs.Prelude.{◌≡◌, if◌then◌else◌, ◌==◌, ℕ, ◌
 use Rattle.std.specs.List.{AllByRecursion}
 use Rattle.std.proofs.Common.{sym, subst, arith}
 use Rattle.std.proofs.Math.Nat.{mul-le-mul_left}
-use Rattle.std.proofs.lemmas.List.{get_or_default}
 use Rattle.beat_core.specs.declared.frame.TheConstants.{FRAME_LIMIT}
 use Rattle.beat_core.specs.list_laws.Bytes.{IsBytes}
+use Rattle.beat_core.proofs.list_laws_laws.ByteLaws.{all_bytes}
 use Rattle.pcap_core.specs.Format.{Packet, Record, IsRecord, packets_of}
 use Rattle.pcap_core.specs.Streaming.{Opened}
 use Rattle.pcap_core.specs.Time.{unit_of, time_of}
@@ -19,9 +19,6 @@ use Rattle.capture_run.specs.Runs.{packet_in}
 -- a packet that starts in range, over any maps in range
 abbrev pub Comes : PacketIn → Type 0
 Comes packet = (maps : MapState) → IsSound maps → IsInRange (start packet maps)
-
-all_bytes : (xs : List ℕ) → IsBytes xs → All (λ b. b < 256) xs
-all_bytes xs h k d lt = omega (arith, h k, get_or_default xs k d 0 lt)
 
 pub packet_comes : (packet : PacketIn) → IsBytes packet.frame → length packet.frame ≤ FRAME_LIMIT → packet.ifindex < 2 ^ 32 → packet.time < 2 ^ 64 → Comes packet
 packet_comes packet bytes room port time = λ maps sound. starts_in_range packet maps (all_bytes packet.frame bytes) (omega (arith, room)) port time sound

@@ -17,6 +17,7 @@ use Rattle.kind_core.specs.NumberBounds.{lower, upper}
 use Rattle.kind_core.specs.Bases.{same_base, joined_base}
 use Rattle.kind_core.specs.Joins.{join_kind, join_list, join_offsets, joined}
 use Rattle.kind_core.proofs.JoinLaws.{join_kind-comm}
+use Rattle.kind_core.proofs.FixedLaws.{both_fixed}
 use Rattle.edge_cells.specs.Widening.{Widens, AreWider, AreAlike, AreFilled, JoinsWiden, JoinsAreFilled}
 
 same-le : (n : ℕ) → n ≤ n
@@ -93,11 +94,6 @@ join_length [] ys h = refl
 join_length (x ∷ xs) [] h = absurd (omega arith)
 join_length (x ∷ xs) (y ∷ ys) h = omega (arith, join_length xs ys (omega arith))
 
-fixed-left : (a b : Offsets) → a ≡ Fixed → join_offsets a b ≡ Fixed
-fixed-left Fixed b e = refl
-fixed-left Varying Fixed e = refl
-fixed-left Varying Varying e = e
-
 fixed-right : (a b : Offsets) → b ≡ Fixed → join_offsets a b ≡ Fixed
 fixed-right Fixed b e = refl
 fixed-right Varying Fixed e = refl
@@ -110,7 +106,7 @@ left k j h = record {
   checked = omega arith;
   register_count = join_length k.registers j.registers h.registers;
   slot_count = join_length k.slots j.slots h.slots;
-  offsets = fixed-left k.offsets j.offsets;
+  offsets = both_fixed k.offsets j.offsets;
 }
 
 right : (k j : Kinds) → AreAlike k j → AreWider (joined k j) j

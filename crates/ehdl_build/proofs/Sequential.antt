@@ -2,10 +2,9 @@
 use Rattle.std.specs.Prelude.{◌≡◌, ℕ, ◌<◌, All, List, [], ◌∷◌}
 use Rattle.std.specs.List.{AllByRecursion}
 use Rattle.std.proofs.Common.{refl, sym, ap, ap₂, ◌∙◌, arith}
-use Rattle.std.proofs.lemmas.List.{get_or_default}
 use Rattle.beat_core.specs.declared.answer.Answer.{Answer}
 use Rattle.beat_core.specs.Ports.{Arrival}
-use Rattle.beat_core.specs.list_laws.Bytes.{IsBytes}
+use Rattle.beat_core.proofs.list_laws_laws.ByteLaws.{all_bytes}
 use Rattle.xdp_object.specs.xdp_maps.State.{MapState, IsSound}
 use Rattle.xdp_object.specs.xdp_machine.Program.{XdpProgram, IsProgram}
 use Rattle.xdp_object.specs.xdp_machine.State.{start}
@@ -22,9 +21,6 @@ use Rattle.pipe_runs.specs.pipe_core.Machine.{packet_of}
 use Rattle.pipe_runs.specs.realization.Realizes.{IsPacket}
 use Rattle.pipe_runs.specs.PipePorts.Answered.{AreAnswered}
 use Rattle.ehdl_build.specs.Compiled.{code_of, IsSequential}
-
-all_bytes : (xs : List ℕ) → IsBytes xs → All (λ b. b < 256) xs
-all_bytes xs h k d lt = omega (arith, h k, get_or_default xs k d 0 lt)
 
 pub is_packet : (a : Arrival) → IsPacket a → cell.IsPacket (packet_of a)
 is_packet a h = record { some = h.frame.some; short = h.frame.room; bytes = all_bytes a.frame h.frame.bytes; ifindex = h.ifindex; time = h.time }

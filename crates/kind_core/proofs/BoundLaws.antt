@@ -3,6 +3,7 @@ use Rattle.std.proofs.Common.{◌≡◌, ℕ, zero, suc, ◌+◌, ◌-◌, ◌*�
 use Rattle.std.specs.Prelude.{unsigned_abs, bit_and, slice_range}
 use Rattle.std.proofs.Math.Nat.{mod-le, mod-mod, mod-eq_of_lt, mul-le-mul_right, pow-suc}
 use Rattle.std.proofs.Math.Pow.{shr_mono, pow-lt}
+use Rattle.std.proofs.lemmas.Bool.{and_parts}
 use Rattle.std.proofs.lemmas.Bool.Decides.{nat_tests}
 use Rattle.std.proofs.lemmas.Nat.{mod_below, pow_pos, and_le_l, and_le_r, and_comm}
 use Rattle.byteorder.specs.Endian.{little_from}
@@ -38,20 +39,12 @@ pub ends_of : (n : Number) (y : ℕ) → NumberIs n y → (lower n ≤ y) × (y 
 ends_of (Known a) y h = (omega (arith, h), omega (arith, h))
 ends_of (Between lo hi) y h = h
 
-and_left : (a b : Bool) → (a && b) ≡ true → a ≡ true
-and_left true b h = refl
-and_left false b h = h
-
-and_right : (a b : Bool) → (a && b) ≡ true → b ≡ true
-and_right true b h = h
-and_right false b h = cc
-
 below_of : (a b : ℕ) → nat_lt a b ≡ true → a < b
 below_of a b h = grind (arith, nat_tests)
 
 -- where both bounds have so many bits
 upper_has : (bits : ℕ) (n : Number) → has_bits bits n ≡ true → upper n < 2 ^ bits
-upper_has bits n h = below_of (upper n) (2 ^ bits) (and_right (nat_lt (lower n) (2 ^ bits)) (nat_lt (upper n) (2 ^ bits)) h)
+upper_has bits n h = below_of (upper n) (2 ^ bits) (and_parts (nat_lt (lower n) (2 ^ bits)) (nat_lt (upper n) (2 ^ bits)) h).1
 
 pub low_below : (bits n : ℕ) → low bits n < 2 ^ bits
 low_below bits n = mod_below n (2 ^ bits) (pow_pos bits)
@@ -94,8 +87,8 @@ sum_is bits a b x y p q =
     by_test (has_bits bits a && has_bits bits b) (in_bits bits both) (any_number bits) z (λ h.
     in_bits_is bits both z short (λ g.
     let most : upper a + upper b < 2 ^ bits = upper_has bits both g in
-    let first : low bits x ≡ x = low_of bits a x (and_left (has_bits bits a) (has_bits bits b) h) p in
-    let second : low bits y ≡ y = low_of bits b y (and_right (has_bits bits a) (has_bits bits b) h) q in
+    let first : low bits x ≡ x = low_of bits a x (and_parts (has_bits bits a) (has_bits bits b) h).0 p in
+    let second : low bits y ≡ y = low_of bits b y (and_parts (has_bits bits a) (has_bits bits b) h).1 q in
     let e : z ≡ x + y = ap (low bits) (ap (λ u. u + low bits y) first ∙ ap (λ u. x + u) second) ∙ low_same bits (x + y) (omega (arith, left.1, right.1)) in
     (omega (arith, e, left.0, right.0), omega (arith, e, left.1, right.1)))) (any_is bits z short)
 

@@ -364,7 +364,7 @@ firsts_fixed (suc (suc (suc (suc (suc (suc (suc (suc (suc zero))))))))) = refl
 firsts_fixed (suc (suc (suc (suc (suc (suc (suc (suc (suc (suc zero)))))))))) = refl
 firsts_fixed (suc (suc (suc (suc (suc (suc (suc (suc (suc (suc (suc r))))))))))) = refl
 
-both_fixed : (a b : Offsets) → a ≡ Fixed → join_offsets a b ≡ Fixed
+pub both_fixed : (a b : Offsets) → a ≡ Fixed → join_offsets a b ≡ Fixed
 both_fixed Fixed b h = refl
 both_fixed Varying b h = absurd (cc)
 

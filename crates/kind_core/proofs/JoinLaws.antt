@@ -3,7 +3,9 @@ use Rattle.std.proofs.Common.{◌≡◌, ℕ, ℤ, ◌==◌, ◌&&◌, min, max,
 use Rattle.std.specs.Ordering.{int_eq}
 use Rattle.std.specs.Int.{int_min}
 use Rattle.std.proofs.lemmas.Int.{ints}
+use Rattle.std.proofs.lemmas.Bool.{and_parts}
 use Rattle.std.proofs.lemmas.Bool.Decides.{nat_tests}
+use Rattle.xdp_state.proofs.list_laws_laws.BoolLaws.{and_is}
 use Rattle.kind_core.specs.declared.number.Number.{Number}
 use Rattle.kind_core.specs.declared.number.Number.TheVariants.{Known, Between}
 use Rattle.kind_core.specs.declared.kind.Kind.{Kind}
@@ -63,18 +65,6 @@ pub record IsSameVar (a b : Base) (f g : ℤ) : Type 0 where
   pub high : a.bounds.high ≡ b.bounds.high
   pub at : f ≡ g
 
-and_left : (a b : Bool) → (a && b) ≡ true → a ≡ true
-and_left true b h = refl
-and_left false b h = h
-
-and_right : (a b : Bool) → (a && b) ≡ true → b ≡ true
-and_right true b h = h
-and_right false b h = cc
-
-both_true : (a b : Bool) → a ≡ true → b ≡ true → (a && b) ≡ true
-both_true true b h g = g
-both_true false b h g = cc
-
 nat_is : (a b : ℕ) → (a == b) ≡ true → a ≡ b
 nat_is a b h = grind (arith, nat_tests)
 
@@ -92,13 +82,14 @@ same_of a b f g h =
     let nodes = a.node == b.node in
     let lows = a.bounds.low == b.bounds.low in
     let highs = a.bounds.high == b.bounds.high in
-    let bases = and_left (nodes && (lows && highs)) (int_eq f g) h in
-    let ends = and_right nodes (lows && highs) bases in
+    let whole = and_parts (nodes && (lows && highs)) (int_eq f g) h in
+    let bases = and_parts nodes (lows && highs) whole.0 in
+    let ends = and_parts lows highs bases.1 in
     record {
-      node = nat_is a.node b.node (and_left nodes (lows && highs) bases);
-      low = nat_is a.bounds.low b.bounds.low (and_left lows highs ends);
-      high = nat_is a.bounds.high b.bounds.high (and_right lows highs ends);
-      at = int_is f g (and_right (nodes && (lows && highs)) (int_eq f g) h);
+      node = nat_is a.node b.node bases.0;
+      low = nat_is a.bounds.low b.bounds.low ends.0;
+      high = nat_is a.bounds.high b.bounds.high ends.1;
+      at = int_is f g whole.1;
     }
 
 pub of_same : (a b : Base) (f g : ℤ) → IsSameVar a b f g → same_var a b f g ≡ true
@@ -106,8 +97,8 @@ of_same a b f g s =
     let nodes = a.node == b.node in
     let lows = a.bounds.low == b.bounds.low in
     let highs = a.bounds.high == b.bounds.high in
-    both_true (nodes && (lows && highs)) (int_eq f g)
-    (both_true nodes (lows && highs) (is_nat a.node b.node s.node) (both_true lows highs (is_nat a.bounds.low b.bounds.low s.low) (is_nat a.bounds.high b.bounds.high s.high)))
+    and_is (nodes && (lows && highs)) (int_eq f g)
+    (and_is nodes (lows && highs) (is_nat a.node b.node s.node) (and_is lows highs (is_nat a.bounds.low b.bounds.low s.low) (is_nat a.bounds.high b.bounds.high s.high)))
     (is_int f g s.at)
 
 pub turned_same : (a b : Base) (f g : ℤ) → IsSameVar a b f g → IsSameVar b a g f

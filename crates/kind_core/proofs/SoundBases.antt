@@ -32,7 +32,7 @@ use Rattle.kind_core.specs.Effects.{based}
 use Rattle.kind_core.specs.Describes.{World, Describes, IsFrom}
 use Rattle.kind_core.proofs.BoundLaws.{NumberIs}
 use Rattle.kind_core.proofs.Sound.{Gives, number_of}
-use Rattle.kind_core.proofs.TestLaws.{bind_passed}
+use Rattle.kind_core.proofs.TestLaws.{bind_passed, within_is}
 
 -- the same place, where its value is known
 pub at_value : (w : World) (b : Base) (f : ℤ) (v : Value) → (d : IsFrom w b f v) → IsFrom w b f (is.Packet (pos d.place +ℤ f))
@@ -199,14 +199,6 @@ based_gives w maps offsets wd c offset a b x y bounds e p q = cc
 
 -- ---- accesses
 
-within_from : (z : ℤ) (n len a : ℕ) → within z n len ≡ Ok a → z ≡ pos a
-within_from (negsuc b) n len a e = cc
-within_from (pos b) n len a e =
-    (elim (nat_le (b + n) len) as (λ t. cond t (Ok b) (Err why.Offset) ≡ Ok a → pos b ≡ pos a) [
-      | true ↦ λ f. let same : b ≡ a = cc in ap pos same
-      | false ↦ λ f. cc
-    ]) e
-
 -- where an access lands at a distance from a base that is checked
 pub record LandsAt (p : Place) (z : ℤ) (n length : ℕ) : Type 0 where
   pub at : ℕ
@@ -219,7 +211,7 @@ past_base_is w b f v x n p d e =
     let z = f +ℤ x in
     let one = bind_passed (within (pos b.bounds.low +ℤ z) 0 256) (λ _. within (pos b.bounds.high +ℤ z) n 256 >>= (λ _. cond (int_le (z +ℤ pos n) b.checked) (Ok InPacket) (Err why.Unchecked))) p e in
     let two = bind_passed (within (pos b.bounds.high +ℤ z) n 256) (λ _. cond (int_le (z +ℤ pos n) b.checked) (Ok InPacket) (Err why.Unchecked)) p one.2 in
-    let first : pos b.bounds.low +ℤ z ≡ pos one.0 = within_from (pos b.bounds.low +ℤ z) 0 256 one.0 one.1 in
+    let first : pos b.bounds.low +ℤ z ≡ pos one.0 = (within_is (pos b.bounds.low +ℤ z) 0 256 one.0 one.1).0 in
     let low = d.low in
     let checked = d.checked in
     let a = natural ((pos d.place +ℤ f) +ℤ x) (omega (arith, ints, first, low)) in

@@ -43,8 +43,8 @@ use Rattle.kind_core.specs.Soundness.{Stands, IsNext, CallsAreSound}
 use Rattle.xdp_machine.proofs.NumberLaws.{word_of, update_number_fits, delete_number_fits}
 use Rattle.kind_core.proofs.Later.{later_machine, next, next_later, looked, looked_later, looked_here}
 use Rattle.kind_core.proofs.Sound.{number_of, is_number, any_described}
-use Rattle.kind_core.proofs.TestLaws.{bind_ok, bind_passed}
-use Rattle.kind_core.proofs.SoundLoads.{within_is, in_packet_is}
+use Rattle.kind_core.proofs.TestLaws.{bind_ok, bind_passed, within_is}
+use Rattle.kind_core.proofs.SoundLoads.{in_packet_is}
 use Rattle.kind_core.proofs.MachineSteps.{inside_at}
 use Rattle.kind_core.proofs.MachineCalls.{bytes_there, packet_region, stack_region, lookup_there, after_update, after_delete, update_there, delete_there, redirect_there}
 use Rattle.kind_core.proofs.Kept.{Present, kept_machine, map_kept, insert_keeps}

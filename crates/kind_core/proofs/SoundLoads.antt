@@ -38,17 +38,8 @@ use Rattle.kind_core.specs.Describes.{World, Describes, IsFrom, DescribesMachine
 use Rattle.kind_core.proofs.BoundLaws.{number_short, extended_is}
 use Rattle.kind_core.proofs.Sound.{Gives, number_of, of_number, one_is, any_described}
 use Rattle.kind_core.proofs.SoundBases.{at_value, past_base_is}
-use Rattle.kind_core.proofs.TestLaws.{bind_ok, bind_passed}
+use Rattle.kind_core.proofs.TestLaws.{bind_ok, bind_passed, within_is}
 use Rattle.kind_core.proofs.MachineSteps.{some_of, aligned_at, from_frame_at, from_stack_at, from_entry_at, signed_load}
-
--- where an access lies that is inside
-pub within_is : (z : ℤ) (n len a : ℕ) → within z n len ≡ Ok a → (z ≡ pos a) × (nat_le (a + n) len ≡ true)
-within_is (negsuc b) n len a e = cc
-within_is (pos b) n len a e =
-    (elim (nat_le (b + n) len) as (λ t. cond t (Ok b) (Err why.Offset) ≡ Ok a → (nat_le (b + n) len ≡ t) → (pos b ≡ pos a) × (nat_le (a + n) len ≡ true)) [
-      | true ↦ λ f g. let same : b ≡ a = cc in (ap pos same, subst (λ c. nat_le (c + n) len ≡ true) same g)
-      | false ↦ λ f g. cc
-    ]) e refl
 
 pub aligned_is : (z : ℤ) (n len a : ℕ) → aligned z n len ≡ Ok a → (z ≡ pos a) × (nat_le (a + n) len ≡ true) × ((a % n == 0) ≡ true)
 aligned_is z n len a e =

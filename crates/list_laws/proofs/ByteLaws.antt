@@ -1,10 +1,10 @@
 -- Lists of bytes: parts of one, two joined, one byte written, and two that are the same.
-use Rattle.std.specs.Prelude.{◌<◌, slice_set}
+use Rattle.std.specs.Prelude.{◌<◌, slice_set, All}
 use Rattle.std.proofs.Common.{◌≡◌, ℕ, zero, suc, Bool, true, false, refl, sym, ◌∙◌, List, [], ◌∷◌, ◌++◌, take, drop, ◌+◌, arith, inl, inr}
 use Rattle.std.specs.Str.{bytes_eq}
 use Rattle.std.proofs.lemmas.Bool.{cases_lt}
 use Rattle.std.proofs.lemmas.Slice.Eq.{bytes_eq-Decides}
-use Rattle.std.proofs.lemmas.List.{length-take, get_or-take, get_or-drop, get_or_past}
+use Rattle.std.proofs.lemmas.List.{length-take, get_or-take, get_or-drop, get_or_past, get_or_default}
 use Rattle.list_laws.specs.Bytes.{IsBytes}
 
 pub IsBytes-take : (n : ℕ) (xs : List ℕ) → IsBytes xs → IsBytes (take n xs)
@@ -36,3 +36,7 @@ bytes_turn a b = by (bytes_eq a b) (bytes_eq b a) refl refl
     by true false e f = let g : true ≡ false = sym ((bytes_eq-Decides b a).1 (sym ((bytes_eq-Decides a b).0 e))) ∙ f in absurd (cc)
     by false true e f = let g : true ≡ false = sym ((bytes_eq-Decides a b).1 (sym ((bytes_eq-Decides b a).0 f))) ∙ e in absurd (cc)
     by false false e f = refl
+
+-- bytes, as a property of each
+pub all_bytes : (xs : List ℕ) → IsBytes xs → All (λ b. b < 256) xs
+all_bytes xs h k d lt = omega (arith, h k, get_or_default xs k d 0 lt)

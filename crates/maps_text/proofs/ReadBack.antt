@@ -1,7 +1,7 @@
 -- The text of maps is read line by line as what they hold.
 use Rattle.std.proofs.Common.{◌≡◌, ℕ, zero, suc, ◌+◌, ◌<◌, ◌≤◌, ◌^◌, Bool, true, false, cond, List, [], ◌∷◌, ◌++◌, length, get_or, Option, Some, None, Result, Ok, slice_get, T, IfSome, is_some, refl, sym, ap, subst, ◌∙◌, inl, inr, arith, append_assoc, get_or-set_same, get_or-set_other, length-set}
 use Rattle.std.specs.Prelude.{◌==◌, ◌&&◌, if◌then◌else◌}
-use Rattle.std.proofs.lemmas.Bool.{cases_eq, cases_lt, eq-eqb, lt-ltb, lt-leb}
+use Rattle.std.proofs.lemmas.Bool.{and_parts, cases_eq, cases_lt, eq-eqb, lt-ltb, lt-leb}
 use Rattle.std.proofs.lemmas.List.{set-set, set-get_or, ext_get_or, get_or-map, length-map, get_or_default, get_or_past}
 use Rattle.std.proofs.lemmas.List.Elements.{All-get_or}
 use Rattle.std.specs.Option.{option_map}
@@ -34,14 +34,6 @@ use Rattle.maps_text.proofs.Filled.{put_pair, filled, hash_inside, hash_room, fi
 not_itself : (q : List ℕ) → is_lt (slice_cmp nat_cmp q q) ≡ true → ⊥
 not_itself q h = let e : is_lt (slice_cmp nat_cmp q q) ≡ false = ap is_lt (tied_itself nat_list_cmp_total q) in let clash : true ≡ false = sym h ∙ e in cc
 
-and_left : (a b : Bool) → (a && b) ≡ true → a ≡ true
-and_left true b h = refl
-and_left false b h = cc
-
-and_right : (a b : Bool) → (a && b) ≡ true → b ≡ true
-and_right true b h = h
-and_right false b h = cc
-
 key_of : List ℕ → Option (List ℕ × List ℕ) → List ℕ
 key_of d None = d
 key_of d (Some p) = p.0
@@ -51,8 +43,8 @@ unfolding key_of
 not_below [] q w j h at = cc
 not_below (e ∷ es) q w zero h at =
     let key : e.0 ≡ q = ap (key_of e.0) at in
-    not_itself q (subst (λ k. is_lt (slice_cmp nat_cmp q k) ≡ true) key (and_left _ _ h))
-not_below (e ∷ es) q w (suc j) h at = not_below es q w j (and_right _ _ h) at
+    not_itself q (subst (λ k. is_lt (slice_cmp nat_cmp q k) ≡ true) key (and_parts _ _ h).0)
+not_below (e ∷ es) q w (suc j) h at = not_below es q w j (and_parts _ _ h).1 at
 
 apart : (es : List (List ℕ × List ℕ)) (q v w : List ℕ) (i j : ℕ) → is_sorted (slice_cmp nat_cmp) es ≡ true → i < j → slice_get es i ≡ Some (q, v) → slice_get es j ≡ Some (q, w) → ⊥
 unfolding key_of
@@ -60,9 +52,9 @@ apart [] q v w i j sorted lt a b = cc
 apart (e ∷ es) q v w zero zero sorted lt a b = absurd (omega arith)
 apart (e ∷ es) q v w zero (suc j) sorted lt a b =
     let key : e.0 ≡ q = ap (key_of e.0) a in
-    not_below es q w j (subst (λ k. below_all (slice_cmp nat_cmp) k es ≡ true) key (and_left _ _ sorted)) b
+    not_below es q w j (subst (λ k. below_all (slice_cmp nat_cmp) k es ≡ true) key (and_parts _ _ sorted).0) b
 apart (e ∷ es) q v w (suc i) zero sorted lt a b = absurd (omega arith)
-apart (e ∷ es) q v w (suc i) (suc j) sorted lt a b = apart es q v w i j (and_right _ _ sorted) (omega arith) a b
+apart (e ∷ es) q v w (suc i) (suc j) sorted lt a b = apart es q v w i j (and_parts _ _ sorted).1 (omega arith) a b
 
 sorted_true : (b : Bool) → T b → b ≡ true
 sorted_true true h = refl

@@ -6,7 +6,7 @@ use Rattle.net_core.specs.Nets.{WireTree, Netlist}
 use Rattle.design_rules.specs.Formed.{IsWellFormed, targets_known}
 use Rattle.design_rules.specs.FormedScope.{sorts, right_known}
 use Rattle.design_rules.proofs.FormedItemLaws.{wire_kept, assign_kept, block_kept}
-use Rattle.design_rules.proofs.SolvedWires.SolvingLaws.{AreKnownRights}
+use Rattle.design_rules.proofs.SolvedWires.SolvingLaws.{AreKnownRights, known_from}
 use Rattle.net_optimize.specs.Reading.{ReadsWhatIsThere}
 
 pub formed_reads : (d : Netlist) → IsWellFormed d → ReadsWhatIsThere d
@@ -15,13 +15,6 @@ formed_reads d f = record {
   assigns = λ i a l e. (assign_kept d f i a l e).known;
   always = λ i a l e. (and_parts (targets_known d a) _ (block_kept d f i a l e).known).1;
 }
-
-known_from : (d : Netlist) (at : ℕ) (ws : List WireTree) → ((i : ℕ) (w : WireTree) → i < length ws → w ≡ get_or ws i w → right_known (sorts d (at + i)) w.right ≡ true) → AreKnownRights d at ws
-known_from d at [] h = tt
-known_from d at (w ∷ ws) h = (
-  subst (λ n. right_known (sorts d n) w.right ≡ true) (omega arith) (h 0 w (omega arith) refl),
-  known_from d (suc at) ws (λ i x l e. subst (λ n. right_known (sorts d n) x.right ≡ true) (omega arith) (h (suc i) x (omega arith) e)),
-)
 
 pub known_rights : (d : Netlist) → ReadsWhatIsThere d → AreKnownRights d 0 d.wires
 known_rights d f = known_from d 0 d.wires (λ i w l e. subst (λ n. right_known (sorts d n) w.right ≡ true) (omega arith) (f.wires i w l e))

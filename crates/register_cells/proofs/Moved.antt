@@ -22,7 +22,7 @@ use Rattle.kind_core.specs.Numbers.{number_arithmetic, number_sum, number_differ
 use Rattle.kind_core.specs.Kinds.{value_bytes}
 use Rattle.kind_core.specs.Tests.{within}
 use Rattle.kind_core.specs.Pointers as kind
-use Rattle.kind_core.proofs.TestLaws.{bind_ok, bind_all}
+use Rattle.kind_core.proofs.TestLaws.{bind_ok, bind_all, within_is}
 use Rattle.cell_core.specs.Cells.{CellView}
 use Rattle.operator_cells.specs.Making.{Makes}
 use Rattle.operator_cells.specs.HeldCells.RegisterCells.{PointerView, Holds, Counts, number_of, key_of, pointer_at}
@@ -80,9 +80,6 @@ module _ (decls : List MapDecl) (ps : List PointerView) (old new : List CellView
 
 -- ---- pointers that are moved
 
-within_is : (z : ℤ) (n len a : ℕ) → within z n len ≡ Ok a → z ≡ pos a
-within_is (negsuc b) n len a e = absurd cc
-within_is (pos b) n len a e = by (nat_le (b + n) len) e
   where
     by : (t : Bool) → cond t (Ok b) (Err why.Offset) ≡ Ok a → pos b ≡ pos a
     by true f = let same : b ≡ a = cc in ap pos same
@@ -114,7 +111,7 @@ moved_all decls ps n back (Entry q o) m p h = bind_ok (within (pos o +ℤ so_far
   holds = λ packet v s y G on r e.
       let key : List ℕ = key_of decls v q (pointer_at ps p) in
       let f : machine.at_offset (is.Entry q key) (pos o +ℤ so_far back m) ≡ Some y = sym (on q key (pos o)) ∙ ap G (sym r.1) ∙ e in
-      (r.0, came _ (is.Entry q key (pos o +ℤ so_far back m)) y f ∙ ap (is.Entry q key) (within_is (pos o +ℤ so_far back m) 0 (value_bytes decls q) a at));
+      (r.0, came _ (is.Entry q key (pos o +ℤ so_far back m)) y f ∙ ap (is.Entry q key) (within_is (pos o +ℤ so_far back m) 0 (value_bytes decls q) a at).0);
 })
 moved_all decls ps n back k m p h = tt
 

@@ -20,7 +20,7 @@ abbrev pub AreKnownRights : Netlist → ℕ → List WireTree → Type 0
 AreKnownRights d at [] = Unit {0}
 AreKnownRights d at (w ∷ ws) = (right_known (sorts d at) w.right ≡ true) × AreKnownRights d (suc at) ws
 
-known_from : (d : Netlist) (at : ℕ) (ws : List WireTree) → ((i : ℕ) (w : WireTree) → i < length ws → w ≡ get_or ws i w → right_known (sorts d (at + i)) w.right ≡ true) → AreKnownRights d at ws
+pub known_from : (d : Netlist) (at : ℕ) (ws : List WireTree) → ((i : ℕ) (w : WireTree) → i < length ws → w ≡ get_or ws i w → right_known (sorts d (at + i)) w.right ≡ true) → AreKnownRights d at ws
 known_from d at [] h = tt
 known_from d at (w ∷ ws) h = (
   subst (λ n. right_known (sorts d n) w.right ≡ true) (omega arith) (h 0 w (omega arith) refl),
