@@ -80,11 +80,6 @@ module _ (decls : List MapDecl) (ps : List PointerView) (old new : List CellView
 
 -- ---- pointers that are moved
 
-  where
-    by : (t : Bool) → cond t (Ok b) (Err why.Offset) ≡ Ok a → pos b ≡ pos a
-    by true f = let same : b ≡ a = cc in ap pos same
-    by false f = absurd cc
-
 came : (t : Bool) (u y : Value) → cond t (Some u) None ≡ Some y → y ≡ u
 came true u y e = cc
 came false u y e = absurd cc
