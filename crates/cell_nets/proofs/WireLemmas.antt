@@ -7,6 +7,7 @@ use Rattle.std.proofs.lemmas.List.Elements.{Contains-append_left, Contains-appen
 use Rattle.net_core.specs.Nets.{Tree, TConst, TRead, TBit, TPartSelect, TMemoryWord, TUnary, TBinary, TConditional, TConcatenation, Trees, TLast, TMore, RightTree, RPlain, RQuotient, RRemainder}
 use Rattle.net_core.specs.Value.{Env, right_value, stops}
 use Rattle.net_core.specs.Width.{Scope, right_width, same}
+use Rattle.frame_net.specs.GatherNets as gathering
 use Rattle.block_core.specs.design_rules.FormedSyntax.{right_spelled}
 use Rattle.block_core.specs.declared.name.Name.{Name}
 use Rattle.block_core.specs.declared.name.Name.TheVariants as name
@@ -158,25 +159,22 @@ last_there p ws w outside = subst (λ l. Contains l (Net (name.Wire p (length ws
 pub last_is : {P : Type 0} (p : P) (v : Env (Name P)) (ws : List (BlockWireTree (Name P))) (w : BlockWireTree (Name P)) → Solve v p 0 (ws ++ w ∷ []) → Solve v p 0 ws × (v.net (name.Wire p (length ws)) ≡ right_value v w.right)
 last_is p v ws w h = solve_more p v 0 ws w (length ws) (omega arith) h
 
-abbrev plain_wire : {N : Type 0} → ℕ → Tree N → BlockWireTree N
-plain_wire w t = record { width = w; right = RPlain t }
-
 -- a wire with an expression
 pub wire_gives :
     {P : Type 0} {b : Bool} (p : P) (old new : List (BlockWireTree (Name P))) (args : List (Operand (Name P))) (f : Env (Name P) → ℕ) (w : ℕ) (t : Tree (Name P)) (n : Name P) → new ≡ old ++ record { width = w; right = RPlain t } ∷ [] → n ≡ name.Wire p (length old)
     → IsWide w → ((v : Env (Name P)) → f v < 2 ^ w) → ((ins : List (Operand (Name P))) → All (IsAvailable ins) args → ComputesBy b ins w f t) → GivesBy b p old new args always f w (Net n w)
-wire_gives {P} {b} p old new args f w t n is called wide small comp = subst (λ l. GivesBy b p old l args always f w (Net n w)) (sym is) (subst (λ m. GivesBy b p old (old ++ plain_wire w t ∷ []) args always f w (Net m w)) (sym called) whole)
+wire_gives {P} {b} p old new args f w t n is called wide small comp = subst (λ l. GivesBy b p old l args always f w (Net n w)) (sym is) (subst (λ m. GivesBy b p old (old ++ gathering.wire w t ∷ []) args always f w (Net m w)) (sym called) whole)
   where
-    whole : GivesBy b p old (old ++ plain_wire w t ∷ []) args always f w (Net (name.Wire p (length old)) w)
+    whole : GivesBy b p old (old ++ gathering.wire w t ∷ []) args always f w (Net (name.Wire p (length old)) w)
     whole = record {
-      before = λ v h. (last_is p v old (plain_wire w t) h).0;
-      stays = stays_more p old (plain_wire w t);
+      before = λ v h. (last_is p v old (gathering.wire w t) h).0;
+      stays = stays_more p old (gathering.wire w t);
       operand = wide;
       bits = refl;
       given = λ outside a there.
           let c = comp (behind p outside old) there in
           record {
-            wires = wires_more p outside old (plain_wire w t) a (record {
+            wires = wires_more p outside old (gathering.wire w t) a (record {
               wide = wide;
               typed = c.typed;
               width = λ v f s. ap (λ k. k.width) (c.value v (a.fits v f s));
@@ -185,10 +183,10 @@ wire_gives {P} {b} p old new args f w t n is called wide small comp = subst (λ 
               reads = c.reads;
               spelled = c.spelled;
             });
-            there = last_there p old (plain_wire w t) outside;
-            value = λ v g h u. let s = last_is p v old (plain_wire w t) h in ap (λ k. k.value) s.1 ∙ ap (λ k. k.value) (c.value v (a.fits v g s.0));
+            there = last_there p old (gathering.wire w t) outside;
+            value = λ v g h u. let s = last_is p v old (gathering.wire w t) h in ap (λ k. k.value) s.1 ∙ ap (λ k. k.value) (c.value v (a.fits v g s.0));
           };
-      apart = stay_wire p old args (plain_wire w t) w (λ made c. mine.flat made (net_clean made args c)) (λ e made c. none_in made (IsNetOf args) (net_clean made args c) t mine.reads (mine.no_product e)) (λ e made. flat_without made t (mine.no_product e));
+      apart = stay_wire p old args (gathering.wire w t) w (λ made c. mine.flat made (net_clean made args c)) (λ e made c. none_in made (IsNetOf args) (net_clean made args c) t mine.reads (mine.no_product e)) (λ e made. flat_without made t (mine.no_product e));
     }
       where
         mine : ComputesBy b args w f t

@@ -4,6 +4,7 @@ use Rattle.std.specs.List.{list_all}
 use Rattle.std.proofs.Common.{get_or, refl, ap, ◌∙◌, arith, inl}
 use Rattle.std.proofs.lemmas.Bool.{and_from, le-leb, leb-true, eq-eqb}
 use Rattle.std.proofs.lemmas.Nat.{pow_pos}
+use Rattle.net_core.specs.Chains.{all_of}
 use Rattle.net_core.specs.declared.tree.Op.{Op}
 use Rattle.net_core.specs.declared.tree.Op.TheVariants.{Add, And, Or, Equal, NotEqual}
 use Rattle.net_core.specs.declared.tree.UnaryOp.TheVariants.{Not}
@@ -36,7 +37,7 @@ use Rattle.control_net.specs.declared.names.Wire.TheVariants.{Ready, Over, Ends,
 use Rattle.control_net.specs.declared.names.ControlNets.{ControlNets}
 use Rattle.control_net.specs.Names.{lap_number, slot_number, lap_name, slot_name, wire_number, back_name}
 use Rattle.control_net.specs.Block.{register_widths, AreNets}
-use Rattle.control_net.specs.Trees.{before, by_place, wire, back_read, kept, enters, pass, resume, move, move_lap, move_slot, zeros, control_wires, control_statements, control_tree, all_of}
+use Rattle.control_net.specs.Trees.{before, by_place, wire, back_read, kept, enters, pass, resume, move, move_lap, move_slot, zeros, control_wires, control_statements, control_tree}
 use Rattle.control_net.proofs.Lists.{by_before, all_typed, all_deep, all_elses, all_pass, all_flat, all_read, all_within}
 use Rattle.control_net.proofs.Shown.{zeros_length}
 use Rattle.control_net.proofs.Widths.{registers_are, lap_width, slot_width, holds_width, number_lap_width, number_slot_width, zeros_fit, bits, wire_width}

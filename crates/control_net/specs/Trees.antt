@@ -7,7 +7,7 @@ use Rattle.net_core.specs.declared.tree.Op.TheVariants.{Add, Or, Equal, NotEqual
 use Rattle.net_core.specs.declared.tree.UnaryOp.TheVariants.{Not}
 use Rattle.net_core.specs.declared.ports.TheConstants.{IN_VALID, IN_LAST, OUT_READY}
 use Rattle.net_core.specs.Nets.{Tree, TConst, TRead, TUnary, TBinary, TConditional, StatementTree, SBlock, SIf, SSet, SEnd, SThen}
-use Rattle.net_core.specs.Chains.{statements_before}
+use Rattle.net_core.specs.Chains.{all_of}
 use Rattle.net_core.specs.Value.{word}
 use Rattle.block_core.specs.declared.name.Name.{Name}
 use Rattle.block_core.specs.declared.name.Name.TheVariants as name
@@ -28,10 +28,6 @@ use Rattle.control_net.specs.Names.{lap_number, slot_number, lap_name, slot_name
 -- what is had by the place before place k, and of place 0 a value
 abbrev pub before : {N : Type 0} → Tree N → (ℕ → Tree N) → ℕ → Tree N
 before e f k = if k == 0 then e else f (k - 1)
-
--- statements, as one
-abbrev pub all_of : {N : Type 0} → List (StatementTree N) → StatementTree N
-all_of statements = SBlock (statements_before statements SEnd)
 
 -- those of so many places, from place 0 on
 abbrev pub by_place : {N : Type 0} → (ℕ → StatementTree N) → ℕ → StatementTree N

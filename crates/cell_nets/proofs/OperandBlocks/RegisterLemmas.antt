@@ -4,6 +4,7 @@ use Rattle.std.proofs.lemmas.Nat.{pow_pos}
 use Rattle.std.proofs.lemmas.Bool.{le-leb, lt-ltb}
 use Rattle.std.proofs.lemmas.List.{length-map}
 use Rattle.std.proofs.lemmas.List.Elements.{All-head, All-tail}
+use Rattle.net_core.specs.Chains.{all_of}
 use Rattle.net_core.specs.Nets.{StatementTree}
 use Rattle.net_core.specs.Ports.{port_list}
 use Rattle.block_core.specs.declared.name.Name.{Name}
@@ -13,7 +14,7 @@ use Rattle.cell_nets.specs.declared.operand.Operand.{Operand}
 use Rattle.cell_nets.specs.Operands.{IsWide, IsAvailable}
 use Rattle.cell_nets.specs.Wires.{behind, AreWires}
 use Rattle.cell_nets.specs.declared.operand_blocks.registers.Taken.{Taken}
-use Rattle.cell_nets.specs.OperandBlocks.Sets.{AreSets, set_block}
+use Rattle.cell_nets.specs.OperandBlocks.Sets.{AreSets}
 use Rattle.cell_nets.specs.OperandBlocks.Registers.{operand_in, width_in, zero_word, IsRegistered}
 use Rattle.cell_nets.proofs.OperandBlocks.WiringLaws.{behind_declared}
 use Rattle.cell_nets.proofs.OperandBlocks.SetLemmas.{AreThere, are_there, are_some, sets_typed, sets_read, sets_within, sets_spelled, sets_flat, sets_leave}
@@ -32,7 +33,7 @@ module _
     {P : Type 0} (part : P) (outside : List (Operand (Name P))) (all : List (Taken (Name P))) (ws : List (BlockWireTree (Name P))) (ss : List (StatementTree (Name P))) (wide : All (λ t. IsWide (width_in t)) all) (sets : AreSets 0 all ss) (wires : AreWires part outside ws)
     (available : All (IsAvailable (behind part outside ws)) (map_list operand_in all)) where
   abbrev b : BlockTree (Name P)
-  b = record { registers = map_list zero_word all; memories = []; wires = ws; statement = set_block ss }
+  b = record { registers = map_list zero_word all; memories = []; wires = ws; statement = all_of ss }
 
   abbrev ins : List (Operand (Name P))
   ins = behind part outside ws

@@ -6,7 +6,7 @@ use Rattle.std.proofs.lemmas.List.{take_all, take_more_set, length-set, append-n
 use Rattle.std.proofs.lemmas.List.Elements.{All-head, All-tail}
 use Rattle.net_core.specs.declared.tree.Word.{Word}
 use Rattle.net_core.specs.Nets.{StatementTree, SEnd}
-use Rattle.net_core.specs.Chains.{statements_before}
+use Rattle.net_core.specs.Chains.{statements_before, all_of}
 use Rattle.net_core.specs.Value.{Env, value}
 use Rattle.net_core.specs.Clock.{Stored, done, all_done}
 use Rattle.net_core.specs.Width.{Scope, width_of, same, statements_typed}
@@ -22,7 +22,7 @@ use Rattle.cell_nets.proofs.WireLemmas.{reads_as}
 use Rattle.frame_net.proofs.FormLaws.{same_is}
 use Rattle.cell_nets.specs.declared.operand_blocks.registers.Taken.{Taken}
 use Rattle.cell_nets.specs.OperandBlocks.Registers.{operand_in, width_in, taken_word}
-use Rattle.cell_nets.specs.OperandBlocks.Sets.{IsSet, AreSets, set_block}
+use Rattle.cell_nets.specs.OperandBlocks.Sets.{IsSet, AreSets}
 
 -- ---- one more
 pub sets_more : {N : Type 0} (at n : ℕ) (ts : List (Taken N)) (ss : List (StatementTree N)) (t : Taken N) (s : StatementTree N) → n ≡ at + length ts → IsSet n t s → AreSets at ts ss → AreSets at (ts ++ t ∷ []) (ss ++ s ∷ [])
@@ -92,7 +92,7 @@ module _ {N : Type 0} where
       let deep = k.0 in
       subst (λ y. all_spelled (y ∷ ss)) (sym h.0.is) (omega arith, k.1, and_is (tree_spelled h.0.tree) _ (and_is _ _ (le-leb (depth h.0.tree) 64 shallow) p.apart) k.2)
 
-  pub sets_spelled : (ins : List (Operand N)) (ts : List (Taken N)) (ss : List (StatementTree N)) → AreThere ins ts → AreSets 0 ts ss → statement_spelled (set_block ss) ≡ true
+  pub sets_spelled : (ins : List (Operand N)) (ts : List (Taken N)) (ss : List (StatementTree N)) → AreThere ins ts → AreSets 0 ts ss → statement_spelled (all_of ss) ≡ true
   sets_spelled ins ts ss there h =
       let k = spelled_all ins ts ss 0 there h in
       let deep = k.0 in
@@ -132,5 +132,5 @@ module _ {N : Type 0} where
 
   pub sets_leave :
       (v : Env N) (ins : List (Operand N)) → AreFit v ins → (ts : List (Taken N)) (ss : List (StatementTree N)) (s : Stored) → AreThere ins ts → AreSets 0 ts ss → length s.registers ≡ length ts
-      → ((done v (set_block ss) s).registers ≡ map_list (taken_word v) ts) × ((done v (set_block ss) s).memories ≡ s.memories)
+      → ((done v (all_of ss) s).registers ≡ map_list (taken_word v) ts) × ((done v (all_of ss) s).memories ≡ s.memories)
   sets_leave v ins f ts ss s there h e = let z : length s.registers ≡ 0 + length ts = omega (arith, e) in (registers_from v ins f ts ss 0 s there h z, memories_from v ts ss 0 s h)

@@ -1,7 +1,6 @@
 -- Statements by which registers take operands.
 use Rattle.std.specs.Prelude.{◌≡◌, ℕ, suc, List, [], ◌∷◌}
-use Rattle.net_core.specs.Nets.{Tree, StatementTree, SSet, SBlock, SEnd}
-use Rattle.net_core.specs.Chains.{statements_before}
+use Rattle.net_core.specs.Nets.{Tree, StatementTree, SSet}
 use Rattle.cell_core.specs.Cells.{bits_from}
 use Rattle.cell_nets.specs.declared.operand.Operand.{Operand}
 use Rattle.cell_nets.specs.Operands.{number_in, IsAvailable}
@@ -20,6 +19,3 @@ AreSets at [] [] = Unit {0}
 AreSets at [] (s ∷ ss) = ⊥
 AreSets at (t ∷ ts) [] = ⊥
 AreSets at (t ∷ ts) (s ∷ ss) = IsSet at t s × AreSets (suc at) ts ss
-
-abbrev pub set_block : {N : Type 0} → List (StatementTree N) → StatementTree N
-set_block ss = SBlock (statements_before ss SEnd)

@@ -15,6 +15,7 @@ use Rattle.block_core.specs.Formed.{names_scope, IsTypedBlock, StatementReads, I
 use Rattle.cell_nets.specs.declared.operand.Operand.{Operand}
 use Rattle.cell_nets.specs.Operands.{IsOperand, AreFit, AreDeclared, IsNetOf}
 
+-- a block that stores nothing
 abbrev pub wires_block : {N : Type 0} → List (BlockWireTree N) → BlockTree N
 wires_block ws = record { registers = []; memories = []; wires = ws; statement = SBlock SEnd }
 

@@ -30,14 +30,15 @@ use Rattle.turn_net.specs.declared.host_net.names.HostNets.{HostNets}
 use Rattle.turn_net.specs.declared.host_net.names.Wire.TheVariants.{Idle, Ready, Writes}
 use Rattle.turn_net.specs.HostNet.Names.{wire_name}
 use Rattle.turn_net.specs.HostNet.Trees as trees
-use Rattle.turn_net.specs.HostNet.Trees.{any_of, of_wires, host_wires}
+use Rattle.cell_nets.specs.OperandBlocks.Wiring.{wires_block}
+use Rattle.turn_net.specs.HostNet.Trees.{any_of, host_wires}
 use Rattle.turn_net.specs.HostNet.Host.{Signals, idle, ready, writes, Sees, may_tree, HaveWidths, AreNets, IsShallow, IsHost}
 use Rattle.turn_net.proofs.HostNet.TreeLemmas.{each, low, wide}
 use Rattle.turn_net.proofs.HostNet.BitLemmas.{some_number, counted, any_bit}
 
 module _ {P : Type 0} (part : P) (nets : HostNets P) (may : List (Tree (Name P))) where
   abbrev block : BlockTree (Name P)
-  block = of_wires (host_wires part nets may)
+  block = wires_block (host_wires part nets may)
 
   abbrev none : Tree (Name P)
   none = TConst (word 1 0)

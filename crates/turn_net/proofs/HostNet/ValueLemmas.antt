@@ -18,14 +18,15 @@ use Rattle.block_core.specs.Parts.{Solve}
 use Rattle.block_core.specs.Order.{Reads, IsBefore, InOrder}
 use Rattle.block_core.specs.Formed.{block_wires_typed, name_width, names_scope}
 use Rattle.turn_net.specs.HostNet.Names.{value_name}
-use Rattle.turn_net.specs.HostNet.Trees.{any_of, of_wires, shown, value_wires}
+use Rattle.cell_nets.specs.OperandBlocks.Wiring.{wires_block}
+use Rattle.turn_net.specs.HostNet.Trees.{any_of, shown, value_wires}
 use Rattle.turn_net.specs.HostNet.Values.{word_name, one_word, read, IsValue}
 use Rattle.turn_net.proofs.HostNet.TreeLemmas.{each, low, wide}
 use Rattle.turn_net.proofs.HostNet.BitLemmas.{no_word, some_word}
 
 module _ {P : Type 0} (part : P) (ready : Name P) (words : List (Name P)) (few : length words ≤ 16) where
   abbrev block : BlockTree (Name P)
-  block = of_wires (value_wires ready words)
+  block = wires_block (value_wires ready words)
 
   abbrev none : Tree (Name P)
   none = TConst (word 64 0)

@@ -3,10 +3,10 @@ use Rattle.std.specs.Prelude.{List, [], ◌∷◌, map}
 use Rattle.net_core.specs.declared.tree.Op.TheVariants.{And, Or, NotEqual}
 use Rattle.net_core.specs.declared.tree.UnaryOp.TheVariants.{Not, ReduceOr}
 use Rattle.net_core.specs.declared.ports.TheConstants.{HOST_WRITE}
-use Rattle.net_core.specs.Nets.{Tree, TConst, TRead, TUnary, TBinary, TConditional, RPlain, SBlock, SEnd}
+use Rattle.net_core.specs.Nets.{Tree, TConst, TRead, TUnary, TBinary, TConditional, RPlain}
 use Rattle.net_core.specs.Value.{word}
 use Rattle.block_core.specs.declared.name.Name.{Name}
-use Rattle.block_core.specs.Blocks.{BlockTree, BlockWireTree}
+use Rattle.block_core.specs.Blocks.{BlockWireTree}
 use Rattle.control_net.specs.declared.ring_net.names.Counter.TheVariants.{Given, Gathered}
 use Rattle.control_net.specs.RingNet.Trees.{port, bit_wire, compared}
 use Rattle.turn_net.specs.declared.host_net.names.HostNets.{HostNets}
@@ -18,10 +18,6 @@ use Rattle.turn_net.specs.HostNet.Names.{wire_name}
 abbrev pub any_of : {N : Type 0} → List (Tree N) → Tree N → Tree N
 any_of [] last = last
 any_of (t ∷ ts) last = TBinary Or t (any_of ts last)
-
--- a block that stores nothing
-abbrev pub of_wires : {N : Type 0} → List (BlockWireTree N) → BlockTree N
-of_wires ws = record { registers = []; memories = []; wires = ws; statement = SBlock SEnd }
 
 -- ---- what the host may do
 abbrev pub wire : {P : Type 0} → P → Wire → Tree (Name P)
