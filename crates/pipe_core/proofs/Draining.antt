@@ -232,6 +232,12 @@ with_length : (part : Option Arrival) (i : Input) (x : Beat) → length (came_wi
 with_length None i x = omega arith
 with_length (Some c) i x = length-append c.frame (bytes_of_beat x)
 
+-- a beat makes what has come of a frame one longer
+pub came_weight : (part : Option Arrival) (i : Input) (x : Beat) → 8 * part_beats part ≡ part_length part → IsOffer x → beats (length (came_with part i x).frame) ≡ part_beats part + 1
+came_weight part i x full o =
+    let q = IsOffer-count x o in
+    beats_last (part_beats part) (length (came_with part i x).frame) x.bytes (omega (arith, with_length part i x, length_beat x o, full)) q.0 q.1
+
 pub took_none : (w : State) (left : List Beat) → 8 * part_beats w.part ≡ part_length w.part → AreOffers (part_beats w.part) left → EndsWhole (is_some w.part) left → Took w w left left
 took_none w left f o n = record { beats_stay = refl; frames_stay = refl; fewer = omega arith; full = f; offers = o; ends = n; places = refl; answers = refl; pos_stays = refl }
 
@@ -246,7 +252,7 @@ took_one w i x left f o n = by x.last refl o.2 n (λ e. IsOffer-eight x o.0 e)
     size = omega (arith, with_length w.part i x, length_beat x o.0, f)
 
     weight : beats (length c.frame) ≡ part_beats w.part + 1
-    weight = let q = IsOffer-count x o.0 in beats_last (part_beats w.part) (length c.frame) x.bytes size q.0 q.1
+    weight = came_weight w.part i x f o.0
 
     by : (l : Bool) → x.last ≡ l → AreOffers (if l then zero else suc (part_beats w.part)) left → EndsWhole (not l) left → (l ≡ false → x.bytes ≡ 8) →
         Took w (if l then record w { frames = w.frames ++ c ∷ []; part = None } else record w { part = Some c }) (x ∷ left) left

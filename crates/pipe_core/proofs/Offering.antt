@@ -16,7 +16,7 @@ use Rattle.pipe_core.proofs.Order.{Worked, work_keeps, beats_keep, keeps_order}
 use Rattle.pipe_core.proofs.Draining.{beats, answer_beats, frame_beats, part_beats, part_length, EndsWhole, IsAt, to_give, answer_append, at_append, at_within, gave, Took, took_none, took_one, Driving}
 
 -- answers have the beats of their frames
-answers_beats : (p : ProgramView) (hs : List StageValues) (cs : List Arrival) → length hs ≤ length cs → answer_beats (answers_of p hs cs) + frame_beats (drop (length hs) cs) ≡ frame_beats cs
+pub answers_beats : (p : ProgramView) (hs : List StageValues) (cs : List Arrival) → length hs ≤ length cs → answer_beats (answers_of p hs cs) + frame_beats (drop (length hs) cs) ≡ frame_beats cs
 answers_beats p [] cs l = omega arith
 answers_beats p (h ∷ hs) [] l = absurd (omega (arith, l))
 answers_beats p (h ∷ hs) (c ∷ cs) l =

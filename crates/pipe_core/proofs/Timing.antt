@@ -345,7 +345,7 @@ ends_in_time keeps loads b maps fit sound slots frames whole clocks long =
 
 -- ---- from a reached state on
 
-reaches : (n : ℕ) (b : Build) (is : List Input) (t : Trace) (left : List Beat) → Driving n b (record { left = beats_in b is t.state ++ left; trace = t }) →
+pub reaches : (n : ℕ) (b : Build) (is : List Input) (t : Trace) (left : List Beat) → Driving n b (record { left = beats_in b is t.state ++ left; trace = t }) →
     Driving n b (record { left = left; trace = run b is t }) × (to_give (record { left = left; trace = run b is t }) ≤ to_give (record { left = beats_in b is t.state ++ left; trace = t }))
 unfolding next
 reaches n b [] t left v = (v, omega arith)

@@ -31,4 +31,5 @@ pub mod Meeting
 pub mod ChangeCauses
 pub mod Found
 pub mod Unconflicting
+pub mod LineRate
 pub mod HostRuns

@@ -9,6 +9,7 @@ ghost use Rattle.pipe_core.specs.Meeting.{TouchesWhatIsRead, ChangesAreWritten};
 ghost use Rattle.pipe_core.specs.ChangeCauses.{KeepsChangeCauses, BeginsChangeCauses, ReadsNothingWritten};
 ghost use Rattle.pipe_core.specs.Found.{KeepsFound, BeginsFound};
 ghost use Rattle.pipe_core.specs.Unconflicting.{NothingMustReload, StaysForward, EndsWithoutConflicts};
+ghost use Rattle.pipe_core.specs.LineRate.{DrivesAtLineRate, FullDriveAtLineRate};
 ghost use Rattle.pipe_core.specs.Sending.{AlwaysSendsBack};
 ghost use Rattle.pipe_core.specs.Agreement.{EnteringAgrees, MarkingAgrees};
 ghost use Rattle.pipe_core.specs.Agreed.{KeepsAgreed, PathsAreMade};
@@ -225,4 +226,14 @@ pub fn ends_without_conflicts()
     commits();
     hazard_core::laws::loads_tables();
     hazard_core::laws::tables_stand();
+}
+
+/// A beat comes and one goes at each clock: beside these a drive takes the longest frame and the places once, a clock for each operation that is committed, and those of
+/// the way to the commit place for each clock that sends back. It may begin at any time, and of frames without conflicts nothing is sent back.
+pub fn line_rate()
+    ensures drives { DrivesAtLineRate }
+    ensures full { FullDriveAtLineRate }
+{
+    ends_without_conflicts();
+    commits();
 }
