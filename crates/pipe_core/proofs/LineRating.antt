@@ -11,6 +11,7 @@ use Rattle.realization.specs.beat_core.declared.answer.Answer.{Answer}
 use Rattle.realization.specs.beat_core.Beats.{beats_of}
 use Rattle.realization.specs.beat_core.Laws.{IsFrame}
 use Rattle.realization.specs.beat_core.Ports.{Arrival}
+use Rattle.realization.specs.Bounds.{most_beats, beats_before, FollowWithin, line_clocks}
 use Rattle.hazard_core.specs.xdp_maps.State.{MapState}
 use Rattle.hazard_core.specs.cell_core.Cells.{bit}
 use Rattle.hazard_core.specs.Tables.{TableState}
@@ -23,7 +24,7 @@ use Rattle.pipe_core.specs.Forward.{GoesForward, commit_count, commits_in}
 use Rattle.pipe_core.specs.Apart.{CommitsAreWrites}
 use Rattle.pipe_core.specs.Unconflicting.{StaysForward}
 use Rattle.pipe_core.specs.SeenChanges.{rest_of, action_in}
-use Rattle.pipe_core.specs.LineRate.{beats_before, HaveAtMost, FollowWithin, reloads_in, line_clocks, DrivesAtLineRate, FullDriveAtLineRate}
+use Rattle.pipe_core.specs.LineRate.{reloads_in, DrivesAtLineRate, FullDriveAtLineRate}
 use Rattle.pipe_core.proofs.Order.{last_or, place_last, moved_inside, marked_by_inside, beats_keep}
 use Rattle.pipe_core.proofs.FlushLaws.{flushed_length, flushed_inside, flushed_none}
 use Rattle.pipe_core.proofs.HistoryLaws.{ahead_append}
@@ -31,7 +32,7 @@ use Rattle.pipe_core.proofs.Acting.{ActionIs, action_is}
 use Rattle.pipe_core.proofs.Draining.{part_beats, lasts, no_lasts, to_give, all_given, Driving, begins_driving}
 use Rattle.pipe_core.proofs.Offering.{Offered, offered_on}
 use Rattle.pipe_core.proofs.Timing.{ahead_is, left_after, reaches}
-use Rattle.pipe_core.proofs.LineSums.{upto, total, AreSome, upto_next, upto_more, frame_counts, all_counts, coming_frames, upto_frames, frame_counts_length, total_frames, counts_stay, Counted, counted}
+use Rattle.pipe_core.proofs.LineSums.{upto, total, AreSome, upto_next, upto_more, frame_counts, all_counts, coming_frames, upto_frames, frame_counts_length, counts_stay, Counted, counted}
 
 -- ---- of each packet in a place, by its number and its place, where e have left
 
@@ -438,45 +439,50 @@ lateness_rises b late positive i j l = mul-le-mul_left late ((le-div_iff_mul-le 
 lateness_jumps : (b : Build) (late : ℕ) → 1 ≤ b.slots → (i : ℕ) → lateness b late (i + b.slots) ≡ lateness b late i + late
 lateness_jumps b late positive i = let q = add-div_right i positive in ap (λ n. late * n) q ∙ omega arith
 
-at_most : (most : ℕ) (frames : List (List ℕ)) → HaveAtMost most frames → (i : ℕ) → i < length frames → upto (suc i) (frame_counts frames) ≤ upto i (frame_counts frames) + most
+at_most : (most : ℕ) (frames : List (List ℕ)) → most_beats frames ≤ most → (i : ℕ) → i < length frames → upto (suc i) (frame_counts frames) ≤ upto i (frame_counts frames) + most
 at_most most [] h i l = absurd (omega (arith, l))
-at_most most (f ∷ frames) h zero l = omega (arith, h.0)
-at_most most (f ∷ frames) h (suc i) l = omega (arith, at_most most frames h.1 i (omega (arith, l)))
+at_most most (f ∷ frames) h zero l = omega (arith, h)
+at_most most (f ∷ frames) h (suc i) l = omega (arith, at_most most frames (omega (arith, h)) i (omega (arith, l)))
 
 counts_reach : (n : ℕ) (b : Build) (is : List Input) (t : Trace) (left : List Beat) → Driving n b (record { left = beats_in b is t.state ++ left; trace = t }) →
     all_counts (record { left = left; trace = run b is t }) ≡ all_counts (record { left = beats_in b is t.state ++ left; trace = t })
 unfolding next
-counts_reach n b [] t left v = refl
-counts_reach n b (i ∷ is) t left v =
-    let rest = beats_in b is (clock b i t.state) ++ left in
-    let same = ahead_append (beat_over b t.state i) (beats_in b is (clock b i t.state)) left in
+counts_reach n b [] t over v = refl
+counts_reach n b (i ∷ is) t over v =
+    let rest = beats_in b is (clock b i t.state) ++ over in
+    let same = ahead_append (beat_over b t.state i) (beats_in b is (clock b i t.state)) over in
     let here = subst (λ l. Driving n b (record { left = l; trace = t })) same v in
-    counts_reach n b is (next b i t) left (offered_on n b i t rest here).driving ∙ counts_stay n b i t rest here ∙ ap (λ l. all_counts (record { left = l; trace = t })) (sym same)
+    counts_reach n b is (next b i t) over (offered_on n b i t rest here).driving ∙ counts_stay n b i t rest here ∙ ap (λ l. all_counts (record { left = l; trace = t })) (sym same)
 
 pub drives_at_line_rate : DrivesAtLineRate
-drives_at_line_rate b maps positive frames whole most late short close is left over clocks d is_it long =
+drives_at_line_rate b maps slots frames whole late close is left over clocks d is_it long =
     let ms = frame_counts frames in
+    let most = most_beats frames in
     let count = frame_counts_length frames in
-    let start = begins_driving b maps frames whole in
-    let begun = subst (λ l. Driving (length frames) b (record { left = l; trace = begin b maps })) (sym over) start in
+    let positive : 1 ≤ b.slots = omega (arith, slots) in
+    let reaching : Driven = record { left = left; trace = run b is (begin b maps) } in
+    let begun = subst (λ l. Driving (length frames) b (record { left = l; trace = begin b maps })) (sym over) (begins_driving b maps frames whole) in
     let reached = (reaches (length frames) b is (begin b maps) left begun).0 in
     let counts = counts_reach (length frames) b is (begin b maps) left begun ∙ ap (λ l. all_counts (record { left = l; trace = begin b maps })) over ∙ coming_frames frames whole in
-    let c = counted (length frames) b (record { left = left; trace = run b is (begin b maps) }) reached in
-    let cs = subst (λ l. Counted l (record { left = left; trace = run b is (begin b maps) })) counts c in
+    let cs = subst (λ l. Counted l reaching) counts (counted (length frames) b reaching reached) in
     let extra = lateness b late in
-    let rated : Rated b ms most extra 0 0 (record { left = left; trace = run b is (begin b maps) }) = record {
-      driving = subst (λ n. Driving n b (record { left = left; trace = run b is (begin b maps) })) (sym count) reached;
+    let rated : Rated b ms most extra 0 0 reaching = record {
+      driving = subst (λ n. Driving n b reaching) (sym count) reached;
       counts = counts;
       gathers = λ l. omega (arith, cs.part);
-      placing = record { injects = λ l. omega arith; moves = from_zero ms extra (length (run b is (begin b maps)).left) 0 (run b is (begin b maps)).state.places };
+      placing = record { injects = λ l. omega arith; moves = from_zero ms extra (length reaching.trace.left) 0 reaching.trace.state.places };
       gives = λ l. omega (arith, cs.give);
     } in
+    let all = upto_frames (length frames) frames in
+    let whole_total : total ms ≡ beats_before (length frames) frames = subst (λ k. upto k ms ≡ beats_before (length frames) frames) (sym count) all in
+    let room : (i : ℕ) → i + b.slots ≡ i + b.plan.last + 4 = λ i. omega (arith, slots) in
+    let turns : late * ((length frames - 1) / b.slots) ≡ late * ((length frames - 1) / (b.plan.last + 4)) = ap (λ k. late * ((length frames - 1) / k)) slots in
     let ends = goes_on b ms most late extra (lateness_rises b late positive) (lateness_jumps b late positive) positive
-        (λ i l. at_most most frames short i (omega (arith, l, count)))
-        (λ i l. omega (arith, close i (omega (arith, l, count)), upto_frames (suc i) frames, upto_frames (i + b.slots) frames))
+        (λ i l. at_most most frames (omega arith) i (omega (arith, l, count)))
+        (λ i l. omega (arith, close i (omega (arith, l, count, slots)), upto_frames (suc i) frames, upto_frames (i + b.slots) frames, ap (λ k. beats_before k frames) (room i)))
         (late * ((length frames - 1) / b.slots)) (λ g l. lateness_rises b late positive g (length frames - 1) (omega (arith, l, count)))
-        clocks 0 0 (record { left = left; trace = run b is (begin b maps) }) rated
-        (omega (arith, total_frames frames, subst (λ k. line_clocks b frames most late + commits_in b clocks k + reloads_in b clocks k * (b.plan.commit + 2) ≤ length clocks) is_it long)) in
+        clocks 0 0 reaching rated
+        (omega (arith, whole_total, turns, subst (λ k. line_clocks b.plan.last frames late + commits_in b clocks k + reloads_in b clocks k * (b.plan.commit + 2) ≤ length clocks) is_it long)) in
     subst (λ k. length (drive b clocks k).trace.gave ≡ length frames) (sym is_it) (ends ∙ count)
   where
     from_zero : (ms : List ℕ) (extra : ℕ → ℕ) (e k : ℕ) (xs : List (Option Packet)) → Placed (InTime ms extra 0 0) e k xs
@@ -491,8 +497,8 @@ no_reloads b [] d h = refl
 no_reloads b (x ∷ xs) d h = omega (arith, ap bit h.0, no_reloads b xs (drive_clock b x.ifindex x.time d) h.1)
 
 pub full_drive_at_line_rate : DrivesAtLineRate → StaysForward → CommitsAreWrites → FullDriveAtLineRate
-full_drive_at_line_rate drives stays commits b maps fit sound slots frames whole clocks more long apart q bound most late short close enough =
+full_drive_at_line_rate drives stays commits b maps fit sound slots frames whole clocks more long apart q bound late close enough =
     let d = drive_start b maps frames in
     let none = ap (λ n. n * (b.plan.commit + 2)) (no_reloads b clocks d (stays b maps fit sound frames clocks more apart)) in
     let writes = commits b maps fit sound slots frames whole clocks more long q bound in
-    drives b maps (omega (arith, slots)) frames whole most late short close [] (flat_map beats_of frames) refl clocks d refl (omega (arith, none, writes, enough))
+    drives b maps slots frames whole late close [] (flat_map beats_of frames) refl clocks d refl (omega (arith, none, writes, enough))

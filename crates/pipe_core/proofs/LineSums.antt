@@ -1,15 +1,16 @@
 -- How many beats frames have, one after another: of those that came whole, of the one that is coming, and of those to come.
 use Rattle.std.proofs.Common.{◌≡◌, ℕ, zero, suc, ◌+◌, ◌-◌, ◌*◌, ◌<◌, ◌≤◌, inl, inr, Bool, true, false, List, [], ◌∷◌, ◌++◌, Option, Some, None, length, drop, refl, sym, ap, ◌∙◌, subst, arith, not, length-append, length-drop}
-use Rattle.std.specs.Prelude.{if◌then◌else◌, is_some, take}
+use Rattle.std.specs.Prelude.{if◌then◌else◌, is_some}
 use Rattle.std.specs.List.{flat_map, AllByRecursion}
 use Rattle.std.proofs.lemmas.Bool.{cases_lt}
 use Rattle.realization.specs.beat_core.declared.beat.Beat.{Beat}
 use Rattle.realization.specs.beat_core.declared.answer.Answer.{Answer}
-use Rattle.realization.specs.beat_core.Beats.{IsWhole, beats_of}
+use Rattle.realization.specs.beat_core.Beats.{beat_count, IsWhole, beats_of}
 use Rattle.realization.specs.beat_core.Clocks.{AreOffers}
 use Rattle.realization.specs.beat_core.Laws.{IsFrame}
 use Rattle.realization.specs.beat_core.Ports.{Arrival}
-use Rattle.realization.proofs.beat_core_laws.BeatLaws.{IsOffer-count, IsWhole-beats_of}
+use Rattle.realization.specs.Bounds.{beats_before}
+use Rattle.realization.proofs.beat_core_laws.BeatLaws.{length-beats_of, IsWhole-beats_of}
 use Rattle.hazard_core.specs.cell_core.Cells.{bit}
 use Rattle.hazard_core.specs.cell_core.Sites.{ProgramView}
 use Rattle.hazard_core.specs.StageValues.{StageValues, stage_value}
@@ -17,7 +18,6 @@ use Rattle.hazard_core.proofs.cell_core_laws.FrameLaws.{with_bytes_length}
 use Rattle.pipe_core.specs.Machine.{State, Input, Build, came_with, gathered, work, beat_over, taken_beat, scattered, clock}
 use Rattle.pipe_core.specs.History.{Trace, came_in, left_in, next, answers_of, IsInOrder}
 use Rattle.pipe_core.specs.Drive.{Driven, ahead}
-use Rattle.pipe_core.specs.LineRate.{beats_before}
 use Rattle.pipe_core.proofs.Order.{Worked, work_keeps}
 use Rattle.pipe_core.proofs.HistoryLaws.{answers_length}
 use Rattle.pipe_core.proofs.Draining.{beats, answer_beats, frame_beats, part_beats, part_length, lasts, EndsWhole, IsAt, to_give, answer_append, at_within, came_weight, Driving}
@@ -86,7 +86,7 @@ coming_counts m (x ∷ xs) = if x.last then suc m ∷ coming_counts 0 xs else co
 
 abbrev pub frame_counts : List (List ℕ) → List ℕ
 frame_counts [] = []
-frame_counts (f ∷ frames) = length (beats_of f) ∷ frame_counts frames
+frame_counts (f ∷ frames) = beat_count (length f) ∷ frame_counts frames
 
 abbrev pub all_counts : Driven → List ℕ
 all_counts d = came_counts d.trace.came ++ coming_counts (part_beats d.trace.state.part) d.left
@@ -180,20 +180,16 @@ coming_whole m (x ∷ y ∷ bs) rest h = by x.last h.1 (coming_whole (suc m) (y 
 
 pub coming_frames : (frames : List (List ℕ)) → AllByRecursion IsFrame frames → coming_counts 0 (flat_map beats_of frames) ≡ frame_counts frames
 coming_frames [] h = refl
-coming_frames (f ∷ frames) h = coming_whole 0 (beats_of f) (flat_map beats_of frames) (IsWhole-beats_of f h.0.some) ∙ ap (λ n. n ∷ coming_counts 0 (flat_map beats_of frames)) (none_more (length (beats_of f))) ∙ ap (λ l. length (beats_of f) ∷ l) (coming_frames frames h.1)
+coming_frames (f ∷ frames) h = coming_whole 0 (beats_of f) (flat_map beats_of frames) (IsWhole-beats_of f h.0.some) ∙ ap (λ n. n ∷ coming_counts 0 (flat_map beats_of frames)) (none_more (length (beats_of f)) ∙ length-beats_of f) ∙ ap (λ l. beat_count (length f) ∷ l) (coming_frames frames h.1)
 
 pub upto_frames : (k : ℕ) (frames : List (List ℕ)) → upto k (frame_counts frames) ≡ beats_before k frames
 upto_frames zero frames = refl
 upto_frames (suc k) [] = refl
-upto_frames (suc k) (f ∷ frames) = omega (arith, length-append (beats_of f) (flat_map beats_of (take k frames)), upto_frames k frames)
+upto_frames (suc k) (f ∷ frames) = omega (arith, upto_frames k frames)
 
 pub frame_counts_length : (frames : List (List ℕ)) → length (frame_counts frames) ≡ length frames
 frame_counts_length [] = refl
 frame_counts_length (f ∷ frames) = ap suc (frame_counts_length frames)
-
-pub total_frames : (frames : List (List ℕ)) → total (frame_counts frames) ≡ length (flat_map beats_of frames)
-total_frames [] = refl
-total_frames (f ∷ frames) = omega (arith, length-append (beats_of f) (flat_map beats_of frames), total_frames frames)
 
 -- ---- a clock
 

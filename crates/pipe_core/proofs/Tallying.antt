@@ -29,7 +29,8 @@ use Rattle.hazard_core.proofs.HeldLaws.{answer_is}
 use Rattle.pipe_core.specs.Machine.{Build, packet_of}
 use Rattle.pipe_core.specs.Pipeable.{IsPipelinable}
 use Rattle.pipe_core.specs.Sequential.{AreCellRuns}
-use Rattle.pipe_core.specs.Apart.{AllRun, all_writing}
+use Rattle.realization.specs.Bounds.{all_writing}
+use Rattle.pipe_core.specs.Apart.{AllRun}
 use Rattle.pipe_core.proofs.Holding.{Told, ErrorsTold, errors_told, told_hash, told_array, told_none}
 use Rattle.pipe_core.proofs.Resources.{update_none, delete_there}
 use Rattle.pipe_core.proofs.Elsewhere.{applied_decls}

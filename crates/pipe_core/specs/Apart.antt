@@ -12,6 +12,7 @@ use Rattle.hazard_core.specs.cell_core.Cells.{cell_at, is_read, site_in, on}
 use Rattle.hazard_core.specs.cell_core.Sites.{ProgramView, IsCellRun, site_at, after, touched}
 use Rattle.hazard_core.specs.cell_core.Formed.{AreFormed, AllFit, AreSited}
 use Rattle.realization.specs.beat_core.Ports.{Arrival}
+use Rattle.realization.specs.Bounds.{all_writing}
 use Rattle.pipe_core.specs.Machine.{Build, packet_of}
 use Rattle.pipe_core.specs.Agreement.{ReadsArePlanned}
 use Rattle.pipe_core.specs.Pipeable.{IsPipelinable}
@@ -39,11 +40,6 @@ ReadOthers (suc n) writes (t ∷ ts) = AreOthers t.reads writes × ReadOthers n 
 abbrev pub ConflictFree : ℕ → List Touched → Type 0
 ConflictFree n [] = Unit {0}
 ConflictFree n (t ∷ ts) = ReadOthers n t.writes ts × ConflictFree n ts
-
--- how many operations of these runs wrote
-abbrev pub all_writing : List Touched → ℕ
-all_writing [] = 0
-all_writing (t ∷ ts) = t.writing + all_writing ts
 
 -- ---- the full drive
 

@@ -14,7 +14,8 @@ use Rattle.pipe_core.specs.Marked.{AreMarked}
 use Rattle.pipe_core.specs.SequentialOrder.{IsSequential}
 use Rattle.pipe_core.specs.ChangeCauses.{HaveChangeCauses}
 use Rattle.pipe_core.specs.Found.{AreFound}
-use Rattle.pipe_core.specs.Apart.{AllRun, ConflictFree, all_writing}
+use Rattle.realization.specs.Bounds.{all_writing}
+use Rattle.pipe_core.specs.Apart.{AllRun, ConflictFree}
 use Rattle.pipe_core.specs.Drive.{Beside, drive, drive_start, clocks_of}
 use Rattle.pipe_core.specs.Forward.{GoesForward}
 

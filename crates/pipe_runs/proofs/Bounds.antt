@@ -17,8 +17,8 @@ use Rattle.cell_core.specs.Rows.{record_count}
 use Rattle.pipe_core.specs.Machine.{Build}
 use Rattle.pipe_core.specs.Drive.{clocks_of}
 use Rattle.pipe_core.specs.Apart as pipe
-use Rattle.pipe_core.specs.Apart.{AllRun, all_writing}
-use Rattle.pipe_core.specs.realization.Bounds.{most_beats, clock_bound, packet_clocks, ReadOthers, ConflictFree}
+use Rattle.pipe_core.specs.Apart.{AllRun}
+use Rattle.pipe_core.specs.realization.Bounds.{all_writing, most_beats, clock_bound, packet_clocks, ReadOthers, ConflictFree}
 use Rattle.pipe_core.specs.realization.Realizes.{IsPacket, IsBeside, offers_from, all_offers, beats_offered}
 use Rattle.pipe_runs.proofs.Histories.{all_append}
 use Rattle.pipe_runs.proofs.Drives.{Fits}

@@ -1,9 +1,9 @@
 -- In the stated clocks of a drive the machine gives all answers.
-use Rattle.std.specs.Prelude.{◌≡◌, ℕ, suc, ◌+◌, ◌≤◌, List, [], ◌∷◌, ◌++◌, length, map}
+use Rattle.std.specs.Prelude.{◌≡◌, ℕ, suc, ◌+◌, ◌*◌, ◌≤◌, List, [], ◌∷◌, ◌++◌, length, map}
 use Rattle.std.specs.List.{flat_map, AllByRecursion}
 use Rattle.std.proofs.Common.{refl, sym, ap, ◌∙◌, subst, arith}
 use Rattle.cell_core.specs.beat_core.declared.beat.Beat.{Beat}
-use Rattle.cell_core.specs.beat_core.Beats.{beats_of}
+use Rattle.cell_core.specs.beat_core.Beats.{beat_count, beats_of}
 use Rattle.cell_core.specs.beat_core.Filling.{filled_up}
 use Rattle.cell_core.specs.beat_core.Ports.{Arrival, Offered}
 use Rattle.cell_core.specs.xdp_maps.State.{MapState, IsSound}
@@ -12,14 +12,16 @@ use Rattle.pipe_core.specs.net_core.declared.ports.Inputs.{Inputs}
 use Rattle.cell_core.specs.Rows.{record_count}
 use Rattle.pipe_core.specs.Machine.{Build, new_state}
 use Rattle.pipe_core.specs.History.{Trace, run, begin}
-use Rattle.pipe_core.specs.Drive.{Driven, Beside, drive, drive_start, beats_in, EndsInTime, EndsLate}
-use Rattle.pipe_core.specs.Apart.{AllRun, ConflictFree, all_writing}
+use Rattle.pipe_core.specs.Drive.{Driven, Beside, drive, drive_start, clocks_of, beats_in, EndsInTime, EndsLate}
+use Rattle.pipe_core.specs.Apart.{AllRun, ConflictFree}
 use Rattle.pipe_core.specs.Unconflicting.{EndsWithoutConflicts}
+use Rattle.pipe_core.specs.LineRate.{FullDriveAtLineRate}
 use Rattle.pipe_core.specs.Pipeable.{IsPipelinable}
 use Rattle.pipe_core.specs.HostRuns.Inputs.{input_of}
 use Rattle.pipe_core.specs.HostRuns.Silent.{silent, ReadsAreSilent, RunsAreSilent}
-use Rattle.pipe_core.specs.realization.Bounds.{most_beats, clock_bound, clock_bound_apart}
+use Rattle.pipe_core.specs.realization.Bounds.{all_writing, most_beats, clock_bound, clock_bound_apart, beats_before, FollowWithin, line_clocks}
 use Rattle.pipe_core.specs.realization.Realizes.{IsPacket, frames_in, all_offers, beats_offered}
+use Rattle.pipe_core.proofs.realization_laws.LineLaws.{equal_before, equal_most, equal_follow}
 use Rattle.pipe_runs.specs.PipePorts.Followed.{WriteNothing, ran}
 use Rattle.pipe_runs.specs.Apart.{DoNotConflict}
 use Rattle.pipe_runs.proofs.Histories.{beats_of_all, frames_of_packets}
@@ -33,6 +35,7 @@ pub record ClockLaws : Type 0 where
   pub in_time : EndsInTime
   pub late : EndsLate
   pub apart : EndsWithoutConflicts
+  pub line : FullDriveAtLineRate
 
 pub as_many_frames : (packets : List Arrival) → length (frames_in packets) ≡ length packets
 as_many_frames [] = refl
@@ -82,28 +85,56 @@ module _ (laws : ClockLaws) (b : Build) (maps : MapState) (pipelinable : IsPipel
   abbrev all_clocks : ℕ → ℕ
   all_clocks limit = limit + clock_bound (length packets) b.plan.last (most_beats frames) (record_count b.program.sites)
 
-  pub gives_apart : (limit : ℕ) (ts : List Touched) → DoNotConflict b maps packets ts → clock_bound_apart b.plan.last frames ts ≤ limit
-      → (behind b (all_clocks limit) (begin b maps) (all_offers packets)).came ≡ packets → Gives (begin b maps) (all_offers packets) limit
-  gives_apart limit ts apart long came =
-      let t = begin b maps in
-      let left = all_offers packets in
-      let more = clock_bound (length packets) b.plan.last (most_beats frames) (record_count b.program.sites) in
-      let clocks = besides b limit t left in
-      let later = besides b more (behind b limit t left) (left_behind b limit t left) in
-      let all : clocks ++ later ≡ besides b (limit + more) t left = sym (besides_more b limit more (limit + more) refl t left) in
-      let driven : (drive b (clocks ++ later) (drive_start b maps frames)).trace.came ≡ packets =
-      ap (λ (xs : List Beside). (drive b xs (drive_start b maps frames)).trace.came) all ∙ ap (λ (d : Driven). (drive b (besides b (limit + more) t left) d).trace.came) starts
-      ∙ ap (λ (d : Driven). d.trace.came) (same_drive laws.reads b (limit + more) t left) ∙ came in
-      let touch : (us : List Touched) → AllRun b.program maps (drive b (clocks ++ later) (drive_start b maps frames)).trace.came us → us ≡ ts =
-      λ us run. apart.touch are us (subst (λ (cs : List Arrival). AllRun b.program maps cs us) driven run) in
-      let long_enough = bound_enough b frames in
-      let many : clock_bound (length frames) b.plan.last (most_beats frames) (record_count b.program.sites) ≡ more = ap (λ n. clock_bound n b.plan.last (most_beats frames) (record_count b.program.sites)) (as_many_frames packets) in
-      let count = length_besides b limit t left in
-      given_by t left limit
-      (ap (λ (d : Driven). length (drive b clocks d).trace.gave) (sym starts)
-      ∙ laws.apart b maps pipelinable sound slots frames (frames_of_packets packets are) clocks later
-      (omega (arith, long_enough, many, ap length all, length_besides b (limit + more) t left))
-      (λ us run. subst (ConflictFree (b.plan.last + 3)) (sym (touch us run)) (conflict_free (b.plan.last + 3) ts apart.apart))
-      (written frames ts)
-      (λ us run. subst (λ vs. all_writing us ≤ written frames vs) (touch us run) (all_written b.program maps packets us frames (subst (λ (cs : List Arrival). AllRun b.program maps cs us) driven run) (as_many_frames packets)))
-      (omega (arith, apart_enough frames ts, long, count)))
+  module _ (limit : ℕ) (ts : List Touched) (apart : DoNotConflict b maps packets ts) (came : (behind b (all_clocks limit) (begin b maps) (all_offers packets)).came ≡ packets) where
+    abbrev clocks : List Beside
+    clocks = besides b limit (begin b maps) (all_offers packets)
+
+    abbrev more : ℕ
+    more = clock_bound (length packets) b.plan.last (most_beats frames) (record_count b.program.sites)
+
+    abbrev later : List Beside
+    later = besides b more (behind b limit (begin b maps) (all_offers packets)) (left_behind b limit (begin b maps) (all_offers packets))
+
+    all : clocks ++ later ≡ besides b (limit + more) (begin b maps) (all_offers packets)
+    all = sym (besides_more b limit more (limit + more) refl (begin b maps) (all_offers packets))
+
+    driven : (drive b (clocks ++ later) (drive_start b maps frames)).trace.came ≡ packets
+    driven =
+        ap (λ (xs : List Beside). (drive b xs (drive_start b maps frames)).trace.came) all ∙ ap (λ (d : Driven). (drive b (besides b (limit + more) (begin b maps) (all_offers packets)) d).trace.came) starts
+        ∙ ap (λ (d : Driven). d.trace.came) (same_drive laws.reads b (limit + more) (begin b maps) (all_offers packets)) ∙ came
+
+    runs_of : (us : List Touched) → AllRun b.program maps (drive b (clocks ++ later) (drive_start b maps frames)).trace.came us → AllRun b.program maps packets us
+    runs_of us run = subst (λ (cs : List Arrival). AllRun b.program maps cs us) driven run
+
+    touch : (us : List Touched) → AllRun b.program maps (drive b (clocks ++ later) (drive_start b maps frames)).trace.came us → us ≡ ts
+    touch us run = apart.touch are us (runs_of us run)
+
+    all_come : clocks_of b frames ≤ length (clocks ++ later) + 1
+    all_come =
+        let many : clock_bound (length frames) b.plan.last (most_beats frames) (record_count b.program.sites) ≡ more = ap (λ n. clock_bound n b.plan.last (most_beats frames) (record_count b.program.sites)) (as_many_frames packets) in
+        omega (arith, bound_enough b frames, many, ap length all, length_besides b (limit + more) (begin b maps) (all_offers packets))
+
+    without_conflicts : (us : List Touched) → AllRun b.program maps (drive b (clocks ++ later) (drive_start b maps frames)).trace.came us → ConflictFree (b.plan.last + 3) us
+    without_conflicts us run = subst (ConflictFree (b.plan.last + 3)) (sym (touch us run)) (conflict_free (b.plan.last + 3) ts apart.apart)
+
+    given_all : length (drive b clocks (drive_start b maps frames)).trace.gave ≡ length frames → Gives (begin b maps) (all_offers packets) limit
+    given_all e = given_by (begin b maps) (all_offers packets) limit (ap (λ (d : Driven). length (drive b clocks d).trace.gave) (sym starts) ∙ e)
+
+    pub gives_apart : clock_bound_apart b.plan.last frames ts ≤ limit → Gives (begin b maps) (all_offers packets) limit
+    gives_apart long =
+        given_all (laws.apart b maps pipelinable sound slots frames (frames_of_packets packets are) clocks later all_come without_conflicts (written frames ts)
+        (λ us run. subst (λ vs. all_writing us ≤ written frames vs) (touch us run) (all_written b.program maps packets us frames (runs_of us run) (as_many_frames packets)))
+        (omega (arith, apart_enough frames ts, long, length_besides b limit (begin b maps) (all_offers packets))))
+
+    -- at line rate
+    pub gives_at_line_rate : (late : ℕ) → FollowWithin b.plan.last frames late → line_clocks b.plan.last frames late + all_writing ts ≤ limit → Gives (begin b maps) (all_offers packets) limit
+    gives_at_line_rate late follow long =
+        given_all (laws.line b maps pipelinable sound slots frames (frames_of_packets packets are) clocks later all_come without_conflicts (all_writing ts)
+        (λ us run. subst (λ vs. all_writing us ≤ all_writing vs) (touch us run) (omega arith))
+        late follow (omega (arith, long, length_besides b limit (begin b maps) (all_offers packets))))
+
+    pub gives_of_equal : (beats : ℕ) → AllByRecursion (λ f. beat_count (length f) ≡ beats) frames → length packets * beats + all_writing ts + beats + b.plan.last + 2 ≤ limit → Gives (begin b maps) (all_offers packets) limit
+    gives_of_equal beats equal long =
+        let count = as_many_frames packets in
+        let all_beats : beats_before (length frames) frames ≡ length packets * beats = equal_before beats frames equal (length frames) (omega arith) ∙ ap (λ n. n * beats) count in
+        gives_at_line_rate 0 (equal_follow b.plan.last beats frames (frames_of_packets packets are) equal) (omega (arith, long, all_beats, equal_most beats frames equal))

@@ -1,9 +1,9 @@
 -- A design that follows the machine of a pipeline with maps meets what is wanted of one.
-use Rattle.std.specs.Prelude.{◌≡◌, ℕ, ◌+◌, ◌-◌, ◌≤◌, is_some, false, None, List, [], ◌∷◌, ◌++◌, length, map}
+use Rattle.std.specs.Prelude.{◌≡◌, ℕ, ◌+◌, ◌*◌, ◌-◌, ◌≤◌, is_some, false, None, List, [], ◌∷◌, ◌++◌, length, map}
 use Rattle.std.specs.List.{flat_map, AllByRecursion}
 use Rattle.std.proofs.Common.{refl, sym, ap, ◌∙◌, subst, arith, append_assoc}
 use Rattle.cell_core.specs.beat_core.declared.answer.Answer.{Answer}
-use Rattle.cell_core.specs.beat_core.Beats.{beats_of, IsFilledUp}
+use Rattle.cell_core.specs.beat_core.Beats.{beat_count, beats_of, IsFilledUp}
 use Rattle.cell_core.specs.beat_core.Clocks.{AreOffers}
 use Rattle.cell_core.specs.beat_core.Filling.{filled_up}
 use Rattle.cell_core.specs.beat_core.Ports.{Arrival, Offered, arrivals_among}
@@ -31,7 +31,7 @@ use Rattle.pipe_runs.specs.PipeAnswers.Coming.{AllMayCome, HostMayCome}
 use Rattle.pipe_runs.specs.PipeAnswers.Following.{FollowsAlways}
 use Rattle.pipe_runs.specs.PipeAnswers.Runs.{ReadsRunInTurn}
 use Rattle.pipe_runs.specs.PipeAnswers.Dumps.{RunsGoOn, DumpsAreShown}
-use Rattle.pipe_core.specs.realization.Bounds.{most_beats, clock_bound, clock_bound_apart}
+use Rattle.pipe_core.specs.realization.Bounds.{most_beats, clock_bound, clock_bound_apart, FollowWithin, line_clocks, all_writing}
 use Rattle.pipe_core.specs.realization.Realizes.{IsPattern, IsPacket, IsBeside, IsWhole, Meets, frames_in, all_offers, beats_offered, inputs_in}
 use Rattle.pipe_runs.specs.PipePorts.Answered.{AreAnswered}
 use Rattle.pipe_runs.specs.PipePorts.Followed.{WriteNothing, IsFollowed, ran}
@@ -45,7 +45,7 @@ use Rattle.pipe_runs.proofs.Reading.{silent_append, dumps_write_nothing}
 use Rattle.pipe_runs.proofs.Filled.{quiet}
 use Rattle.pipe_runs.proofs.Drives.{Fits, driven, left_behind, behind, drives_silent}
 use Rattle.pipe_runs.proofs.Coming.{drives_come, part_open}
-use Rattle.pipe_runs.proofs.Clocks.{ClockLaws, gives_in_time, gives_late, gives_apart}
+use Rattle.pipe_runs.proofs.Clocks.{ClockLaws, gives_in_time, gives_late, gives_apart, gives_at_line_rate, gives_of_equal}
 use Rattle.pipe_runs.proofs.Driving.{DrivesTo, drives, drives_over, inputs_of_trace}
 use Rattle.pipe_runs.proofs.Ending.{given_few, IsEnded, ended}
 use Rattle.pipe_runs.proofs.Bounds.{all_filled, all_behind, all_fit, all_beside}
@@ -263,11 +263,18 @@ module _ (laws : AllLaws) (l : Layout) (maps : MapState) (n : Netlist) (st : Sto
       (behind b limit (begin b maps) (all_offers packets)).came ≡ packets
   come_in packets are limit long = came_all [] first packets are (all_offers packets) (all_beside packets are) (beats_of_all packets) (packets_arrive packets are) limit (in_time packets are limit long)
 
-  without_conflicts : (packets : List Arrival) → AllByRecursion IsPacket packets → (limit : ℕ) (ts : List Touched) → DoNotConflict b maps packets ts → clock_bound_apart (last_of l) (frames_in packets) ts ≤ limit →
-      length (behind b limit (begin b maps) (all_offers packets)).gave ≡ length packets
-  without_conflicts packets are limit ts apart long =
-      gives_apart laws.clocks b maps followed.pipelinable followed.sound slots packets are limit ts apart long
-      (come_in packets are (limit + clock_bound (length packets) (last_of l) (most_beats (frames_in packets)) (record_count b.program.sites)) (omega arith))
+  module _ (packets : List Arrival) (are : AllByRecursion IsPacket packets) (limit : ℕ) (ts : List Touched) (apart : DoNotConflict b maps packets ts) where
+    packets_come : (behind b (limit + clock_bound (length packets) (last_of l) (most_beats (frames_in packets)) (record_count b.program.sites)) (begin b maps) (all_offers packets)).came ≡ packets
+    packets_come = come_in packets are (limit + clock_bound (length packets) (last_of l) (most_beats (frames_in packets)) (record_count b.program.sites)) (omega arith)
+
+    whole_apart : clock_bound_apart (last_of l) (frames_in packets) ts ≤ limit → IsWhole n st [] (drive n st (all_offers packets) (length packets) limit) packets wanted
+    whole_apart long = full_from packets are limit (gives_apart laws.clocks b maps followed.pipelinable followed.sound slots packets are limit ts apart packets_come long)
+
+    whole_at_line_rate : (late : ℕ) → FollowWithin (last_of l) (frames_in packets) late → line_clocks (last_of l) (frames_in packets) late + all_writing ts ≤ limit → IsWhole n st [] (drive n st (all_offers packets) (length packets) limit) packets wanted
+    whole_at_line_rate late follow long = full_from packets are limit (gives_at_line_rate laws.clocks b maps followed.pipelinable followed.sound slots packets are limit ts apart packets_come late follow long)
+
+    whole_of_equal : (beats : ℕ) → AllByRecursion (λ f. beat_count (length f) ≡ beats) (frames_in packets) → length packets * beats + all_writing ts + beats + last_of l + 2 ≤ limit → IsWhole n st [] (drive n st (all_offers packets) (length packets) limit) packets wanted
+    whole_of_equal beats equal long = full_from packets are limit (gives_of_equal laws.clocks b maps followed.pipelinable followed.sound slots packets are limit ts apart packets_come beats equal long)
 
   late_from : (is : List Inputs) (packets : List Arrival) (left : List Offered) (limit : ℕ) → IsPattern n st is → AllByRecursion IsPacket packets → AllByRecursion IsBeside left →
       map filled_up (beats_in (trace n st is)) ++ beats_offered left ≡ flat_map beats_of (frames_in packets) → arrivals_among None (offers_in (trace n st is) ++ left) ≡ packets →
@@ -282,7 +289,13 @@ module _ (laws : AllLaws) (l : Layout) (maps : MapState) (n : Netlist) (st : Sto
   meets = record {
     safe = λ is p. laws.safe b maps n st followed is p;
     complete = λ packets limit are long. full_from packets are limit (in_time packets are limit long);
-    complete_apart = λ packets limit ts are apart long. full_from packets are limit (without_conflicts packets are limit ts apart long);
+    complete_apart = λ packets limit ts are apart long. whole_apart packets are limit ts apart long;
+    at_line_rate = record {
+      last = last_of l;
+      within = omega arith;
+      follow = λ packets limit late ts are apart follow long. whole_at_line_rate packets are limit ts apart late follow long;
+      equal = λ packets limit beats ts are apart equal long. whole_of_equal packets are limit ts apart beats equal long;
+    };
     late = late_from;
   }
 

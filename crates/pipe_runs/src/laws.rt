@@ -9,6 +9,7 @@ pub fn followers_meet()
     pipe_core::laws::in_order();
     pipe_core::laws::ends_in_time();
     pipe_core::laws::ends_without_conflicts();
+    pipe_core::laws::line_rate();
     pipe_core::host_runs::laws::reads_are_silent();
     pipe_core::host_runs::laws::loads_fit();
     crate::pipe_answers::laws::loads_may_come();

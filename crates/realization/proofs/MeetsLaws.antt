@@ -45,6 +45,14 @@ meets_more d s wanted wider apart closer stages more_stages records more_records
   complete_apart = λ packets limit ts are close enough.
       whole_more d s wanted wider wants [] (drive d s (all_offers packets) (length packets) limit) packets are
       (m.complete_apart packets limit ts are (aparts packets ts close) (omega (arith, enough, apart_more stages more_stages (frames_in packets) ts few_stages)));
+  at_line_rate = record {
+    last = m.at_line_rate.last;
+    within = omega (arith, m.at_line_rate.within, few_stages);
+    follow = λ packets limit late ts are close follow enough.
+        whole_more d s wanted wider wants [] (drive d s (all_offers packets) (length packets) limit) packets are (m.at_line_rate.follow packets limit late ts are (aparts packets ts close) follow enough);
+    equal = λ packets limit beats ts are close same enough.
+        whole_more d s wanted wider wants [] (drive d s (all_offers packets) (length packets) limit) packets are (m.at_line_rate.equal packets limit beats ts are (aparts packets ts close) same (omega (arith, enough, few_stages)));
+  };
   late = λ is packets left limit pattern are beside beats frames enough.
       whole_more d s wanted wider wants is (drive d (stored_after d s is) left (length packets - length (answers_given [] (trace d s is))) limit) packets are
       (m.late is packets left limit pattern are beside beats frames

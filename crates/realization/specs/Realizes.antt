@@ -2,10 +2,10 @@
 -- wanted maps.
 --
 -- What is wanted is a relation of packets that came, in their order, their answers, and the maps after the last of them.
-use Rattle.std.specs.Prelude.{◌≡◌, ℕ, ◌+◌, ◌-◌, ◌^◌, ◌<◌, ◌≤◌, None, List, [], ◌∷◌, ◌++◌, length, map as map_list}
+use Rattle.std.specs.Prelude.{◌≡◌, ℕ, ◌+◌, ◌-◌, ◌*◌, ◌^◌, ◌<◌, ◌≤◌, None, List, [], ◌∷◌, ◌++◌, length, map as map_list}
 use Rattle.std.specs.List.{flat_map, AllByRecursion}
 use Rattle.beat_core.specs.declared.beat.Beat.{Beat}
-use Rattle.beat_core.specs.Beats.{beats_of}
+use Rattle.beat_core.specs.Beats.{beat_count, beats_of}
 use Rattle.beat_core.specs.Filling.{filled_up}
 use Rattle.beat_core.specs.Clocks.{AreOffers}
 use Rattle.beat_core.specs.Laws.{IsFrame}
@@ -19,7 +19,7 @@ use Rattle.net_core.specs.Trace.{Cycle, trace, stored_after, NeverStops, IsInput
 use Rattle.beat_core.specs.declared.answer.Answer.{Answer}
 use Rattle.realization.specs.History.{beats_in, offers_in, Arrival, arrivals, answers_given, open_beats, Drive, Answered, drive}
 use Rattle.realization.specs.HostHistory.Host.{ShowsMaps}
-use Rattle.realization.specs.Bounds.{clock_bound, clock_bound_apart, most_beats}
+use Rattle.realization.specs.Bounds.{clock_bound, clock_bound_apart, most_beats, FollowWithin, line_clocks, all_writing}
 
 -- Clocks with the host silent and offers well formed: each beat that goes over has 8 bytes unless it is a last one with 1 to 8,
 -- and a frame has at least one beat and no more than the bound.
@@ -77,6 +77,19 @@ pub record IsBeside (o : Offered) : Type 0 where
   pub ifindex : o.ifindex < 2 ^ 32
   pub time : o.time < 2 ^ 64
 
+-- Offered and taken at every clock, packets that are apart are answered at line rate: a clock for each beat and for each operation of their runs that writes.
+pub record AtLineRate (d : Netlist) (s : Stored) (wanted : List Arrival → List Answer → MapState → Type 0) (apart : List Arrival → List Touched → Type 0) (stages : ℕ) : Type 0 where
+  -- the last place that a packet passes
+  pub last : ℕ
+  pub within : last ≤ stages
+  pub follow : (packets : List Arrival) (limit late : ℕ) (ts : List Touched) → AllByRecursion IsPacket packets → apart packets ts →
+      FollowWithin last (frames_in packets) late → line_clocks last (frames_in packets) late + all_writing ts ≤ limit →
+      IsWhole d s [] (drive d s (all_offers packets) (length packets) limit) packets wanted
+  -- frames of one length, of so many beats, come late by none
+  pub equal : (packets : List Arrival) (limit beats : ℕ) (ts : List Touched) → AllByRecursion IsPacket packets → apart packets ts →
+      AllByRecursion (λ f. beat_count (length f) ≡ beats) (frames_in packets) → length packets * beats + all_writing ts + beats + stages + 2 ≤ limit →
+      IsWhole d s [] (drive d s (all_offers packets) (length packets) limit) packets wanted
+
 -- A design that holds these values answers as is wanted, with so many stages and record sites. Packets are apart where their runs,
 -- which touch this, do not conflict.
 pub record Meets (d : Netlist) (s : Stored) (wanted : List Arrival → List Answer → MapState → Type 0) (apart : List Arrival → List Touched → Type 0) (stages records : ℕ) : Type 0 where
@@ -90,6 +103,8 @@ pub record Meets (d : Netlist) (s : Stored) (wanted : List Arrival → List Answ
   pub complete_apart : (packets : List Arrival) (limit : ℕ) (ts : List Touched) → AllByRecursion IsPacket packets →
       apart packets ts → clock_bound_apart stages (frames_in packets) ts ≤ limit →
       IsWhole d s [] (drive d s (all_offers packets) (length packets) limit) packets wanted
+  -- and at line rate
+  pub at_line_rate : AtLineRate d s wanted apart stages
   -- The same from every state that a pattern leads to, by which some of these packets' beats went over. Bytes that do not count are
   -- not asked, nor which numbers stand beside a beat that is no first one.
   pub late : (is : List Inputs) (packets : List Arrival) (left : List Offered) (limit : ℕ) → IsPattern d s is → AllByRecursion IsPacket packets → AllByRecursion IsBeside left →

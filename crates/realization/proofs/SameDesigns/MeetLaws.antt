@@ -71,6 +71,14 @@ same_designs_meet a b same before wanted apart stages records m = record {
   complete = λ packets limit are enough. same_driven a b same before wanted [] (all_offers packets) (length packets) limit packets (m.complete packets limit are enough);
   complete_apart = λ packets limit ts are close enough.
       same_driven a b same before wanted [] (all_offers packets) (length packets) limit packets (m.complete_apart packets limit ts are close enough);
+  at_line_rate = record {
+    last = m.at_line_rate.last;
+    within = m.at_line_rate.within;
+    follow = λ packets limit late ts are close follow enough.
+        same_driven a b same before wanted [] (all_offers packets) (length packets) limit packets (m.at_line_rate.follow packets limit late ts are close follow enough);
+    equal = λ packets limit beats ts are close alike enough.
+        same_driven a b same before wanted [] (all_offers packets) (length packets) limit packets (m.at_line_rate.equal packets limit beats ts are close alike enough);
+  };
   late = λ is packets left limit pattern are beside beats frames enough. let e : trace b (reached b before) is ≡ trace a (reached a before) is = same_trace a b same before is in
       rw e
       (same_driven a b same before wanted is left (length packets - length (answers_given [] (trace a (reached a before) is))) limit packets

@@ -9,6 +9,7 @@ returns c = followers_meet (record {
     in_time = c.ends_in_time.ensures.full;
     late = c.ends_in_time.ensures.late;
     apart = c.ends_without_conflicts.ensures.ends;
+    line = c.line_rate.ensures.full;
   };
   order = c.in_order.ensures.always;
   fit = c.loads_fit.ensures;
