@@ -208,9 +208,9 @@ module _ (b : Build) (ms : List ℕ) (some : AreSome ms) (extra : ℕ → ℕ) (
             let before : u ≤ upto (suc (e + inside rest)) ms + extra (e + inside rest) + rho = subst (λ n. u ≤ upto (suc (e + n)) ms + extra (e + n) + rho) (sym same) (h.injects (omega (arith, same, l, all))) in
             let y : e + suc (inside rest) ≡ suc (e + inside rest) = omega arith in
             with_new false (Some (injected b.program)) (omega (arith, before)) (λ m.
-                let more = upto_next ms (suc (e + inside rest)) some (omega (arith, m)) in
-                let rise = rises (e + inside rest) (suc (e + inside rest)) (omega arith) in
-                subst (λ n. u + 1 ≤ upto (suc n) ms + extra n + (rho + paid b false)) (sym y) (omega (arith, before, more, rise)))
+            let more = upto_next ms (suc (e + inside rest)) some (omega (arith, m)) in
+            let rise = rises (e + inside rest) (suc (e + inside rest)) (omega arith) in
+            subst (λ n. u + 1 ≤ upto (suc n) ms + extra n + (rho + paid b false)) (sym y) (omega (arith, before, more, rise)))
         by false q false w =
             let same = same_inside q in
             let l : length fs ≤ inside rest = grind (arith, nat_tests) in
@@ -330,13 +330,13 @@ module _ (b : Build) (ms : List ℕ) (most late : ℕ) (extra : ℕ → ℕ) (ri
       | inl goes ↦ omega (arith, r.gathers (omega (arith, l, more_came)), goes, rises got (length d'.trace.came) more_came)
       | inr why ↦ elim why [
         | inl no_room ↦
-          let f = full b s no_room in
-          let at : got ≡ g + b.slots = omega (arith, f.held, r.driving.order.room, c.frames, c.answers) in
-          let k : g + b.slots < length ms = omega (arith, l, more_came, at) in
-          let h : g < length ms = omega (arith, k) in
-          let part : length d.left + upto (g + b.slots) ms ≡ total ms = subst (λ n. length d.left + upto n ms ≡ total ms) at (omega (arith, c.part, f.part)) in
-          let rise : extra g + late ≤ extra (length d'.trace.came) = omega (arith, jumps g, rises (g + b.slots) (length d'.trace.came) (omega (arith, at, more_came))) in
-          omega (arith, r.gives h, c.give, c.first h, part, close g k, rise, fewer)
+            let f = full b s no_room in
+            let at : got ≡ g + b.slots = omega (arith, f.held, r.driving.order.room, c.frames, c.answers) in
+            let k : g + b.slots < length ms = omega (arith, l, more_came, at) in
+            let h : g < length ms = omega (arith, k) in
+            let part : length d.left + upto (g + b.slots) ms ≡ total ms = subst (λ n. length d.left + upto n ms ≡ total ms) at (omega (arith, c.part, f.part)) in
+            let rise : extra g + late ≤ extra (length d'.trace.came) = omega (arith, jumps g, rises (g + b.slots) (length d'.trace.came) (omega (arith, at, more_came))) in
+            omega (arith, r.gives h, c.give, c.first h, part, close g k, rise, fewer)
         | inr none ↦ absurd (omega (arith, l, more_came, c.count, no_lasts d.left none))
       ]
     ]
@@ -348,8 +348,8 @@ module _ (b : Build) (ms : List ℕ) (most late : ℕ) (extra : ℕ → ℕ) (ri
         elim (cases_lt 0 (length s.answers)) [
           | inl answers ↦ omega (arith, goes (omega (arith, answers)), r.gives h, rise)
           | inr none ↦
-            let at : e ≡ g = omega (arith, c.answers, none) in
-            omega (arith, no_more, c.give, short g h, rise, bound at h (cases_lt 0 (inside s.places)))
+              let at : e ≡ g = omega (arith, c.answers, none) in
+              omega (arith, no_more, c.give, short g h, rise, bound at h (cases_lt 0 (inside s.places)))
         ]
       where
         bound : e ≡ g → g < length ms → (0 < inside s.places) ⊎ (inside s.places ≤ 0) → u ≤ upto (suc g) ms + extra g + 1 + b.plan.last + rho
@@ -478,11 +478,11 @@ drives_at_line_rate b maps slots frames whole late close is left over clocks d i
     let room : (i : ℕ) → i + b.slots ≡ i + b.plan.last + 4 = λ i. omega (arith, slots) in
     let turns : late * ((length frames - 1) / b.slots) ≡ late * ((length frames - 1) / (b.plan.last + 4)) = ap (λ k. late * ((length frames - 1) / k)) slots in
     let ends = goes_on b ms most late extra (lateness_rises b late positive) (lateness_jumps b late positive) positive
-        (λ i l. at_most most frames (omega arith) i (omega (arith, l, count)))
-        (λ i l. omega (arith, close i (omega (arith, l, count, slots)), upto_frames (suc i) frames, upto_frames (i + b.slots) frames, ap (λ k. beats_before k frames) (room i)))
-        (late * ((length frames - 1) / b.slots)) (λ g l. lateness_rises b late positive g (length frames - 1) (omega (arith, l, count)))
-        clocks 0 0 reaching rated
-        (omega (arith, whole_total, turns, subst (λ k. line_clocks b.plan.last frames late + commits_in b clocks k + reloads_in b clocks k * (b.plan.commit + 2) ≤ length clocks) is_it long)) in
+    (λ i l. at_most most frames (omega arith) i (omega (arith, l, count)))
+    (λ i l. omega (arith, close i (omega (arith, l, count, slots)), upto_frames (suc i) frames, upto_frames (i + b.slots) frames, ap (λ k. beats_before k frames) (room i)))
+    (late * ((length frames - 1) / b.slots)) (λ g l. lateness_rises b late positive g (length frames - 1) (omega (arith, l, count)))
+    clocks 0 0 reaching rated
+    (omega (arith, whole_total, turns, subst (λ k. line_clocks b.plan.last frames late + commits_in b clocks k + reloads_in b clocks k * (b.plan.commit + 2) ≤ length clocks) is_it long)) in
     subst (λ k. length (drive b clocks k).trace.gave ≡ length frames) (sym is_it) (ends ∙ count)
   where
     from_zero : (ms : List ℕ) (extra : ℕ → ℕ) (e k : ℕ) (xs : List (Option Packet)) → Placed (InTime ms extra 0 0) e k xs
