@@ -9,6 +9,7 @@ ghost use Rattle.control_net.specs.declared.ring_net.names.Register.TheVariants.
 ghost use Rattle.control_net.specs.RingNet.Trees as ring;
 ghost use Rattle.control_net.specs.declared.names.Wire.TheVariants.{Advances, Injects};
 ghost use Rattle.control_net.specs.Names as names;
+ghost use Rattle.net_core.specs.Chains as chains;
 ghost use Rattle.control_net.specs.Trees as trees;
 
 use crate::control::{kept, read_register, read_wire};
@@ -28,7 +29,7 @@ pub(crate) fn statement<P: Copy>(
     shape: &ControlShape,
     of: P,
 ) -> Result<Stmt<Name<P>>, AllocError>
-    ensures { IfOk result (λ s. statement_of s ≡ trees.all_of (trees.control_statements shape.now part of)) }
+    ensures { IfOk result (λ s. statement_of s ≡ chains.all_of (trees.control_statements shape.now part of)) }
 {
     let all = listed(alloc, part, shape, of)?;
     all_of(alloc, all)
@@ -72,7 +73,7 @@ fn add<P: Copy>(all: &mut Vec<Stmt<Name<P>>>, statement: Stmt<Name<P>>) -> Resul
 }
 
 fn all_of<P: Copy>(alloc: Global, all: Vec<Stmt<Name<P>>>) -> Result<Stmt<Name<P>>, AllocError>
-    ensures { IfOk result (λ s. statement_of s ≡ trees.all_of (map statement_of all.items)) }
+    ensures { IfOk result (λ s. statement_of s ≡ chains.all_of (map statement_of all.items)) }
 {
     let listed = build::statements(alloc, all)?;
     build::block(alloc, listed)
