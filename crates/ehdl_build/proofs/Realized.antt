@@ -33,7 +33,7 @@ use Rattle.pipe_runs.specs.Apart as cells
 use Rattle.pipe_runs.specs.Meeting.{MeetsLoaded, PipelinesMeet}
 use Rattle.pipe_runs.specs.realization.Realizes.{IsPacket, Meets}
 use Rattle.pipe_runs.proofs.realization_laws.MeetsLaws.{meets_more}
-use Rattle.ehdl_build.specs.Compiled.{PipelineSize, IsSequential, DoNotConflict, AreMapsOf, Realizes}
+use Rattle.ehdl_build.specs.Compiled.{PipelineSize, IsSequential, Touch, DoNotConflict, AreMapsOf, Realizes}
 use Rattle.ehdl_build.specs.Steps.{IsPipelineOf}
 use Rattle.ehdl_build.proofs.Sequential.{in_sequence}
 use Rattle.ehdl_build.proofs.Apart.{runs_touch, apart_by_less}
@@ -62,6 +62,10 @@ module _ (meet : PipelinesMeet) (suits : ProgramsArePipelinable) (p : XdpProgram
       (subst (λ (q : ProgramView). AreAnswered q maps packets answers left) same h)
 
   -- and touch what these touch
+  touches : (maps : MapState) → AreMapsOf p maps → (packets : List Arrival) (ts : List Touched) → Touch p maps packets ts → cells.Touch made.layout.build maps packets ts
+  touches maps are packets ts h = subst (λ (b : Build). cells.Touch b maps packets ts) (sym build)
+      (λ come us run. runs_touch p is.are_cells.graph is.cells program is.are_cells.law maps packets ts us are.sound are.declared come h run)
+
   apart : (maps : MapState) → AreMapsOf p maps → (packets : List Arrival) (ts : List Touched) → DoNotConflict p maps z.stages packets ts → cells.DoNotConflict made.layout.build maps packets ts
   apart maps are packets ts h = subst (λ (b : Build). cells.DoNotConflict b maps packets ts) (sym build) (record {
     touch = λ come us run. runs_touch p is.are_cells.graph is.cells program is.are_cells.law maps packets ts us are.sound are.declared come h.touch run;
@@ -73,12 +77,12 @@ module _ (meet : PipelinesMeet) (suits : ProgramsArePipelinable) (p : XdpProgram
       (meet made.layout made.whole (names_of made.whole) made.made.pipeline (subst AccessesLead (sym build) is.prepared.leads) pipelinable
       (ap (λ (b : Build). b.slots) build ∙ ap (λ k. k + 4) (sym last)) maps (are.declared ∙ sym made.made.decls_are) are.sound (let few = ap length are.declared in omega (arith, few, program.maps)))
 
-  meets : (maps : MapState) → AreMapsOf p maps → Meets n (stored_after n (first_stored n) (load maps)) (IsSequential p maps) (DoNotConflict p maps z.stages) z.stages z.records
+  meets : (maps : MapState) → AreMapsOf p maps → Meets n (stored_after n (first_stored n) (load maps)) (IsSequential p maps) (Touch p maps) (DoNotConflict p maps z.stages) z.stages z.records
   meets maps are =
       let records = ap (λ (b : Build). record_count b.program.sites) build in
-      meets_more n (stored_after n (first_stored n) (load maps)) (AreAnswered made.layout.build.program maps) (IsSequential p maps) (cells.DoNotConflict made.layout.build maps) (DoNotConflict p maps z.stages)
+      meets_more n (stored_after n (first_stored n) (load maps)) (AreAnswered made.layout.build.program maps) (IsSequential p maps) (cells.Touch made.layout.build maps) (Touch p maps) (cells.DoNotConflict made.layout.build maps) (DoNotConflict p maps z.stages)
       (last_of made.layout) z.stages (record_count made.layout.build.program.sites) z.records
-      (wanted maps are) (apart maps are) (omega (arith, last, is.planned.within)) (omega (arith, records, is.records)) (loaded maps are).meets
+      (wanted maps are) (touches maps are) (apart maps are) (omega (arith, last, is.planned.within)) (omega (arith, records, is.records)) (loaded maps are).meets
 
   -- a design that shows the same realizes the program, too
   pub realizes : (m : Netlist) → ShowTheSame n m → IsTrue (no_product_chains m) → (text : List ℕ) → Spells text m → Realizes text p z
@@ -87,5 +91,5 @@ module _ (meet : PipelinesMeet) (suits : ProgramsArePipelinable) (p : XdpProgram
     spells = spells;
     products = products;
     loads = λ maps are. same_never_stops n m same (load maps) (loaded maps are).loads;
-    meets = λ maps are. same_designs_meet n m same (load maps) (IsSequential p maps) (DoNotConflict p maps z.stages) z.stages z.records (meets maps are);
+    meets = λ maps are. same_designs_meet n m same (load maps) (IsSequential p maps) (Touch p maps) (DoNotConflict p maps z.stages) z.stages z.records (meets maps are);
   }

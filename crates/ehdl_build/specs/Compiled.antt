@@ -44,9 +44,13 @@ pub record IsSequential (p : XdpProgram) (maps : MapState) (packets : List Arriv
   pub runs : AreRuns (code_of p) maps (packets_in packets) leaves after
   pub answers_are : answers ≡ map_list answer_of leaves
 
+-- the runs of packets touch this
+abbrev pub Touch : XdpProgram → MapState → List Arrival → List Touched → Type 0
+Touch p maps packets ts = AllTouch (code_of p) maps (packets_in packets) ts
+
 -- The runs of packets touch this, and none reads what one of fewer than S + 4 before it wrote.
 pub record DoNotConflict (p : XdpProgram) (maps : MapState) (stages : ℕ) (packets : List Arrival) (ts : List Touched) : Type 0 where
-  pub touch : AllTouch (code_of p) maps (packets_in packets) ts
+  pub touch : Touch p maps packets ts
   pub apart : ConflictFree (stages + 3) ts
 
 -- the last stage of a program's pipeline, the number of its record sites, and the nodes of its unfolded graph
@@ -75,7 +79,7 @@ pub record Realizes (text : List ℕ) (p : XdpProgram) (z : PipelineSize) : Type
   pub products : IsTrue (no_product_chains design)
   pub loads : (maps : MapState) → AreMapsOf p maps → NeverStops design (first_stored design) (load maps)
   pub meets : (maps : MapState) → AreMapsOf p maps →
-      Meets design (stored_after design (first_stored design) (load maps)) (IsSequential p maps) (DoNotConflict p maps z.stages) z.stages z.records
+      Meets design (stored_after design (first_stored design) (load maps)) (IsSequential p maps) (Touch p maps) (DoNotConflict p maps z.stages) z.stages z.records
 
 -- the size of the pipeline that was built
 abbrev pub size_of : Built → PipelineSize

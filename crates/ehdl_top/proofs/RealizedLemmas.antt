@@ -33,7 +33,7 @@ use Rattle.port_drive.specs.realization.HostHistory.Host.{load, ShowsMaps}
 use Rattle.ehdl_build.specs.declared.built.Built.{Built}
 use Rattle.port_drive.specs.realization.Bounds.{clock_bound, most_beats}
 use Rattle.port_drive.specs.realization.Realizes.{Meets, IsWhole, IsPacket, frames_in, all_offers}
-use Rattle.ehdl_build.specs.Compiled.{PipelineSize, IsSequential, DoNotConflict, answer_of, code_of, packets_in, size_of}
+use Rattle.ehdl_build.specs.Compiled.{PipelineSize, IsSequential, Touch, DoNotConflict, answer_of, code_of, packets_in, size_of}
 use Rattle.capture_run.specs.Results.{came_by}
 use Rattle.capture_run.specs.Runs.{IsLegal}
 use Rattle.ehdl_top.specs.Steps.{IsRealized, DrivesAsRuns, IsPipelineOf, AreDeclared}
@@ -103,7 +103,7 @@ abbrev pub loaded : Netlist → MapState → Stored
 loaded d maps = stored_after d (first_stored d) (load maps)
 
 whole : (p : XdpProgram) (first : MapState) (d : Netlist) (s : Stored) (z : PipelineSize) (ifindex limit : ℕ) (packets : List Timed)
-    → Meets d s (IsSequential p first) (DoNotConflict p first z.stages) z.stages z.records
+    → Meets d s (IsSequential p first) (Touch p first) (DoNotConflict p first z.stages) z.stages z.records
     → AllByRecursion IsLegal packets → ifindex < 2 ^ 32 → clock_bound (length packets) z.stages (most_beats (map (λ p. p.frame) packets)) z.records ≤ limit → DrivesAsRuns p first d s ifindex limit packets
 whole p first d s z ifindex limit packets meets are fits enough =
     let came : List Arrival = came_by ifindex packets in

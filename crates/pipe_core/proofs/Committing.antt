@@ -7,8 +7,10 @@ use Rattle.std.proofs.lemmas.List.Sums.{passes_at_first}
 use Rattle.realization.specs.beat_core.declared.beat.Beat.{Beat}
 use Rattle.realization.specs.beat_core.Beats.{beats_of}
 use Rattle.realization.specs.beat_core.Ports.{Arrival}
+use Rattle.realization.specs.Bounds.{all_writing}
 use Rattle.hazard_core.specs.xdp_maps.declared.decl.MapDecl.{MapDecl}
 use Rattle.hazard_core.specs.xdp_maps.State.{MapState}
+use Rattle.hazard_core.specs.xdp_machine.Touched.{Touched}
 use Rattle.hazard_core.specs.cell_core.Cells.{cell_at, no_cell, site_in, bit, on}
 use Rattle.hazard_core.specs.cell_core.Sites.{site_at}
 use Rattle.hazard_core.specs.Tables.{TableState, decl_of}
@@ -19,25 +21,25 @@ use Rattle.hazard_core.specs.Rows.{with_row}
 use Rattle.hazard_core.specs.Commits.{change_by}
 use Rattle.hazard_core.proofs.HeldLaws.{answer_is}
 use Rattle.pipe_core.specs.Machine.{Packet, State, Input, Build, Action, Commits, Writes, Moves, no_frame, place_at, inside, some_send, marked_below, moved, newcomer, entered, packet_of, worked, work, is_ready, clock}
-use Rattle.pipe_core.specs.History.{left_as, left_in, next}
+use Rattle.pipe_core.specs.History.{Trace, left_as, left_in, next, run, begin}
 use Rattle.pipe_core.specs.Computed.{IsAlwaysComputed}
-use Rattle.pipe_core.specs.Drive.{Driven, driving, drive_clock, Beside, drive, drive_start, EndsInTime}
+use Rattle.pipe_core.specs.Drive.{Driven, driving, drive_clock, Beside, drive, EndsInTime, EndsLate}
 use Rattle.pipe_core.specs.Forward.{commit_count, commits_in, EndsForward}
 use Rattle.pipe_core.specs.Pipeable.{IsPipelinable}
 use Rattle.pipe_core.specs.Right.{IsAlwaysRight}
 use Rattle.pipe_core.specs.SequentialOrder.{IsSequential, KeepsSequential, left_maps}
-use Rattle.pipe_core.specs.SeenChanges.{SeenChanges, rest_of, action_in, observed, watch_start}
-use Rattle.pipe_core.specs.Apart.{AllRun, CommitsAreWrites, EndsUnsent}
+use Rattle.pipe_core.specs.SeenChanges.{SeenChanges, rest_of, action_in, observed, watch, watch_start}
+use Rattle.pipe_core.specs.Apart.{AllRun, CommitsAreWrites, LateCommitsAreWrites, EndsUnsent}
 use Rattle.pipe_core.proofs.Order.{last_or, beats_keep}
 use Rattle.pipe_core.proofs.Agreeing.{keeps_other}
 use Rattle.pipe_core.proofs.Acting.{ActionIs, action_is}
 use Rattle.pipe_core.proofs.Righting.{not_marked_by, keeps_place}
 use Rattle.pipe_core.proofs.Passing.{drop_moved, drop_marked_by, drop_flushed}
 use Rattle.pipe_core.proofs.Sequencing.{last_dropped}
-use Rattle.pipe_core.proofs.Overlapping.{begins_sequential}
+use Rattle.pipe_core.proofs.Overlapping.{watch_runs, begins_sequential, sequential}
 use Rattle.pipe_core.proofs.Draining.{Driving, begins_driving}
 use Rattle.pipe_core.proofs.Offering.{Offered, offered_on}
-use Rattle.pipe_core.proofs.Timing.{ahead_is, left_after}
+use Rattle.pipe_core.proofs.Timing.{ahead_is, left_after, reaches}
 use Rattle.pipe_core.proofs.Tallying.{made, made_more, made_one, left_made, left_append, Runs, all_run}
 use Rattle.pipe_core.proofs.FlushLaws.{flushed_at, flushed_length}
 use Rattle.pipe_core.proofs.HistoryLaws.{answers_length}
@@ -250,58 +252,71 @@ nobody_begun b decls n done (Some x ∷ xs) e = absurd (omega (arith, e))
 nobody_begun b decls zero done (None ∷ xs) e = refl
 nobody_begun b decls (suc n) done (None ∷ xs) e = nobody_begun b decls n done xs e
 
-module _ (keeps : KeepsSequential) (right : IsAlwaysRight) (computed : IsAlwaysComputed) (loads : LoadsTables) (stand : TablesStand) (in_time : EndsInTime) where
-  pub commits_are_writes : CommitsAreWrites
+-- so it is from any reached state on
+module _ (keeps : KeepsSequential) (b : Build) (maps : MapState) (fit : IsPipelinable maps.decls b) (n : ℕ) (clocks more : List Beside) (left : List Beat) (from : SeenChanges) (starts : Tallied b maps n 0 left from)
+    (all_gave : length (drive b (clocks ++ more) (record { left = left; trace = from.trace })).trace.gave ≡ n)
+    (q : ℕ) (bound : (ts : List Touched) → AllRun b.program maps (drive b (clocks ++ more) (record { left = left; trace = from.trace })).trace.came ts → all_writing ts ≤ q) where
+  r : Reached keeps b maps fit n 0 (clocks ++ more) left from
+  r = reach keeps b maps fit n (clocks ++ more) 0 left from starts
+
+  abbrev w : SeenChanges
+  w = r.seen_changes
+
+  gave : length w.trace.gave ≡ n
+  gave = sym (ap (λ (e : Driven). length e.trace.gave) r.is) ∙ all_gave
+
+  given : length w.trace.gave ≤ length w.trace.left
+  given =
+      let o = r.tallied.driving.order in
+      omega (arith, ap length o.answers, length-append w.trace.gave w.trace.state.answers, answers_length b.program w.trace.left w.trace.came o.begun)
+
+  all_left : length w.trace.left ≡ length w.trace.came
+  all_left = let v = r.tallied.driving in omega (arith, gave, given, v.order.begun, v.count)
+
+  empty : inside w.trace.state.places ≡ 0
+  empty = let o = r.tallied.driving.order in omega (arith, o.packets, ap length o.frames, length-drop (length w.trace.left) w.trace.came, all_left)
+
+  runs : Runs b maps.decls maps w.trace.left w.trace.came
+  runs = all_run b maps fit maps (left_maps b.program maps w.trace.left) refl w.trace.left w.trace.came all_left r.tallied.sequential.runs
+
+  at_end : commits_in b (clocks ++ more) (record { left = left; trace = from.trace }) ≤ q
   unfolding tally
-  commits_are_writes b maps fit sound slots frames whole clocks more long q bound = omega (arith, more_commits b clocks more d, at_end)
-    where
-      n : ℕ
-      n = length frames
+  at_end =
+      let t = r.tallied.enough in
+      let p = nobody b maps.decls (suc b.plan.commit) w.trace.state.places empty in
+      let g = nobody_begun b maps.decls b.plan.commit w.trace.state.done w.trace.state.places empty in
+      omega (arith, t, p, g, runs.enough, bound runs.ts (subst (λ (e : Driven). AllRun b.program maps e.trace.came runs.ts) (sym r.is) runs.run))
 
-      d : Driven
-      d = drive_start b maps frames
+  commits_written : commits_in b clocks (record { left = left; trace = from.trace }) ≤ q
+  commits_written = omega (arith, more_commits b clocks more (record { left = left; trace = from.trace }), at_end)
 
-      all : List Beside
-      all = clocks ++ more
-
-      starts : Tallied b maps n 0 (flat_map beats_of frames) (watch_start b maps)
-      starts = record {
+module _ (keeps : KeepsSequential) (right : IsAlwaysRight) (computed : IsAlwaysComputed) (loads : LoadsTables) (stand : TablesStand) where
+  pub commits_are_writes : EndsInTime → CommitsAreWrites
+  unfolding tally
+  commits_are_writes in_time b maps fit sound slots frames whole clocks more long q bound =
+      commits_written keeps b maps fit (length frames) clocks more (flat_map beats_of frames) (watch_start b maps) (record {
         driving = begins_driving b maps frames whole;
         sequential = begins_sequential right computed loads stand b maps fit sound;
         enough = omega arith;
-      }
+      }) (in_time b maps fit sound slots frames whole (clocks ++ more) long) q bound
 
-      r : Reached keeps b maps fit n 0 (clocks ++ more) (flat_map beats_of frames) (watch_start b maps)
-      r = reach keeps b maps fit n (clocks ++ more) 0 (flat_map beats_of frames) (watch_start b maps) starts
+  pub late_commits_are_writes : EndsLate → LateCommitsAreWrites
+  unfolding tally
+  late_commits_are_writes ends b maps fit sound slots is silent frames whole left over clocks more long q bound =
+      let n = length frames in
+      let from = watch b is (watch_start b maps) in
+      let runs : run b is (begin b maps) ≡ from.trace = sym (watch_runs b is (watch_start b maps)) in
+      let reached = (reaches n b is (begin b maps) left (subst (λ l. Driving n b (record { left = l; trace = begin b maps })) (sym over) (begins_driving b maps frames whole))).0 in
+      let gives = ends b maps fit sound slots is silent frames whole left over (clocks ++ more) long in
+      subst (λ (t : Trace). commits_in b clocks (record { left = left; trace = t }) ≤ q) (sym runs)
+      (commits_written keeps b maps fit n clocks more left from (record {
+        driving = subst (λ (t : Trace). Driving n b (record { left = left; trace = t })) runs reached;
+        sequential = sequential keeps right computed loads stand b maps fit sound is silent;
+        enough = omega arith;
+      }) (subst (λ (t : Trace). length (drive b (clocks ++ more) (record { left = left; trace = t })).trace.gave ≡ n) runs gives) q
+      (subst (λ (t : Trace). (ts : List Touched) → AllRun b.program maps (drive b (clocks ++ more) (record { left = left; trace = t })).trace.came ts → all_writing ts ≤ q) runs bound))
 
-      w : SeenChanges
-      w = r.seen_changes
-
-      gave : length w.trace.gave ≡ n
-      gave = sym (ap (λ (e : Driven). length e.trace.gave) r.is) ∙ in_time b maps fit sound slots frames whole (clocks ++ more) long
-
-      given : length w.trace.gave ≤ length w.trace.left
-      given =
-          let o = r.tallied.driving.order in
-          omega (arith, ap length o.answers, length-append w.trace.gave w.trace.state.answers, answers_length b.program w.trace.left w.trace.came o.begun)
-
-      all_left : length w.trace.left ≡ length w.trace.came
-      all_left = let v = r.tallied.driving in omega (arith, gave, given, v.order.begun, v.count)
-
-      empty : inside w.trace.state.places ≡ 0
-      empty = let o = r.tallied.driving.order in omega (arith, o.packets, ap length o.frames, length-drop (length w.trace.left) w.trace.came, all_left)
-
-      runs : Runs b maps.decls maps w.trace.left w.trace.came
-      runs = all_run b maps fit maps (left_maps b.program maps w.trace.left) refl w.trace.left w.trace.came all_left r.tallied.sequential.runs
-
-      at_end : commits_in b (clocks ++ more) (drive_start b maps frames) ≤ q
-      at_end =
-          let t = r.tallied.enough in
-          let p = nobody b maps.decls (suc b.plan.commit) w.trace.state.places empty in
-          let g = nobody_begun b maps.decls b.plan.commit w.trace.state.done w.trace.state.places empty in
-          omega (arith, t, p, g, runs.enough, bound runs.ts (subst (λ (e : Driven). AllRun b.program maps e.trace.came runs.ts) (sym r.is) runs.run))
-
-  pub ends_unsent : EndsForward → EndsUnsent
-  ends_unsent forward b maps fit sound slots frames whole clocks more long unsent q bound enough =
-      let c = commits_are_writes b maps fit sound slots frames whole clocks more long q bound in
+  pub ends_unsent : EndsInTime → EndsForward → EndsUnsent
+  ends_unsent in_time forward b maps fit sound slots frames whole clocks more long unsent q bound enough =
+      let c = commits_are_writes in_time b maps fit sound slots frames whole clocks more long q bound in
       forward b slots maps frames whole clocks unsent (omega (arith, c, enough))

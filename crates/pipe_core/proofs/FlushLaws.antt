@@ -1,6 +1,7 @@
 -- The places when those that are sent back are cleared.
-use Rattle.std.proofs.Common.{◌≡◌, ℕ, zero, suc, ◌≤◌, Bool, true, false, List, [], ◌∷◌, Option, Some, None, length, refl, ap, arith}
-use Rattle.std.specs.Prelude.{if◌then◌else◌, ◌||◌}
+use Rattle.std.proofs.Common.{◌≡◌, ℕ, zero, suc, ◌+◌, ◌-◌, ◌<◌, ◌≤◌, Bool, true, false, List, [], ◌∷◌, Option, Some, None, length, refl, ap, arith}
+use Rattle.std.specs.Prelude.{if◌then◌else◌, nat_lt, ◌||◌}
+use Rattle.std.proofs.lemmas.Bool.Decides.{nat_tests}
 use Rattle.pipe_core.specs.Machine.{Packet, Build, place_at, inside, sends, flushed, some_send}
 
 pub flushed_length : (b : Build) (k : ℕ) (xs : List (Option Packet)) → length (flushed b k xs) ≡ length xs
@@ -36,3 +37,29 @@ flushed_none b k (x ∷ xs) e = by (sends b k x) (some_send b (suc k) xs) refl e
     by true d p e more = cc
     by false true p e more = cc
     by false false p e more = ap (λ l. x ∷ l) (more p)
+
+-- where some are sent back fewer are left
+pub flushed_fewer : (b : Build) (k : ℕ) (xs : List (Option Packet)) → some_send b k xs ≡ true → inside (flushed b k xs) + 1 ≤ inside xs
+flushed_fewer b k [] e = cc
+flushed_fewer b k (x ∷ xs) e = by (sends b k x) (some_send b (suc k) xs) x refl refl e (flushed_inside b (suc k) xs) (flushed_fewer b (suc k) xs)
+  where
+    no : (n : ℕ) → sends b n None ≡ true → ⊥
+    no n e = cc
+
+    by : (c d : Bool) (y : Option Packet) → sends b k y ≡ c → some_send b (suc k) xs ≡ d → c || d ≡ true → inside (flushed b (suc k) xs) ≤ inside xs → (some_send b (suc k) xs ≡ true → inside (flushed b (suc k) xs) + 1 ≤ inside xs)
+        → inside ((if c || d then None else y) ∷ flushed b (suc k) xs) + 1 ≤ inside (y ∷ xs)
+    by true d None p q e few fewer = absurd (no k p)
+    by true d (Some y) p q e few fewer = omega (arith, few)
+    by false true None p q e few fewer = omega (arith, fewer q)
+    by false true (Some y) p q e few fewer = omega (arith, fewer q)
+    by false false y p q e few fewer = cc
+
+-- fewer are left exactly where some are sent back
+pub fewer_where_sent : (b : Build) (xs : List (Option Packet)) → nat_lt 0 (inside xs - inside (flushed b 0 xs)) ≡ some_send b 0 xs
+fewer_where_sent b xs = by (some_send b 0 xs) refl (nat_lt 0 (inside xs - inside (flushed b 0 xs))) refl
+  where
+    by : (c : Bool) → some_send b 0 xs ≡ c → (d : Bool) → nat_lt 0 (inside xs - inside (flushed b 0 xs)) ≡ d → d ≡ c
+    by true e true q = refl
+    by true e false q = let l : inside xs - inside (flushed b 0 xs) ≤ 0 = grind (arith, nat_tests) in absurd (omega (arith, l, flushed_fewer b 0 xs e))
+    by false e true q = let l : 0 < inside xs - inside (flushed b 0 xs) = grind (arith, nat_tests) in absurd (omega (arith, l, ap inside (flushed_none b 0 xs e)))
+    by false e false q = refl

@@ -11,8 +11,9 @@ use Rattle.realization.specs.beat_core.declared.answer.Answer.{Answer}
 use Rattle.realization.specs.beat_core.Beats.{beats_of}
 use Rattle.realization.specs.beat_core.Laws.{IsFrame}
 use Rattle.realization.specs.beat_core.Ports.{Arrival}
-use Rattle.realization.specs.Bounds.{most_beats, beats_before, FollowWithin, line_clocks}
+use Rattle.realization.specs.Bounds.{most_beats, beats_before, FollowWithin, line_clocks, all_writing}
 use Rattle.hazard_core.specs.xdp_maps.State.{MapState}
+use Rattle.hazard_core.specs.xdp_machine.Touched.{Touched}
 use Rattle.hazard_core.specs.cell_core.Cells.{bit}
 use Rattle.hazard_core.specs.Tables.{TableState}
 use Rattle.hazard_core.specs.declared.change.Change.{Change}
@@ -21,10 +22,10 @@ use Rattle.pipe_core.specs.Machine.{Packet, State, Input, Build, Action, Commits
 use Rattle.pipe_core.specs.History.{Trace, left_as, left_in, came_in, gave_in, next, run, begin}
 use Rattle.pipe_core.specs.Drive.{Driven, driving, drive_clock, Beside, drive, drive_start, ahead, beats_in}
 use Rattle.pipe_core.specs.Forward.{GoesForward, commit_count, commits_in}
-use Rattle.pipe_core.specs.Apart.{CommitsAreWrites}
+use Rattle.pipe_core.specs.Apart.{AllRun, CommitsAreWrites, LateCommitsAreWrites}
 use Rattle.pipe_core.specs.Unconflicting.{StaysForward}
 use Rattle.pipe_core.specs.SeenChanges.{rest_of, action_in}
-use Rattle.pipe_core.specs.LineRate.{reloads_in, DrivesAtLineRate, FullDriveAtLineRate}
+use Rattle.pipe_core.specs.LineRate.{reloads_in, DrivesAtLineRate, FullDriveAtLineRate, LateDriveAtLineRate}
 use Rattle.pipe_core.proofs.Order.{last_or, place_last, moved_inside, marked_by_inside, beats_keep}
 use Rattle.pipe_core.proofs.FlushLaws.{flushed_length, flushed_inside, flushed_none}
 use Rattle.pipe_core.proofs.HistoryLaws.{ahead_append}
@@ -502,3 +503,12 @@ full_drive_at_line_rate drives stays commits b maps fit sound slots frames whole
     let none = ap (λ n. n * (b.plan.commit + 2)) (no_reloads b clocks d (stays b maps fit sound frames clocks more apart)) in
     let writes = commits b maps fit sound slots frames whole clocks more long q bound in
     drives b maps slots frames whole late close [] (flat_map beats_of frames) refl clocks d refl (omega (arith, none, writes, enough))
+
+-- ---- whatever is sent back
+
+pub late_drive_at_line_rate : DrivesAtLineRate → LateCommitsAreWrites → LateDriveAtLineRate
+late_drive_at_line_rate drives commits b maps fit sound slots is silent frames whole left over clocks more long d is_it q bound late close enough =
+    let writes = commits b maps fit sound slots is silent frames whole left over clocks more long q
+    (subst (λ (e : Driven). (ts : List Touched) → AllRun b.program maps (drive b (clocks ++ more) e).trace.came ts → all_writing ts ≤ q) is_it bound) in
+    let here : commits_in b clocks d ≤ q = subst (λ (e : Driven). commits_in b clocks e ≤ q) (sym is_it) writes in
+    drives b maps slots frames whole late close is left over clocks d is_it (omega (arith, here, enough))

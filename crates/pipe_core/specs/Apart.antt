@@ -1,6 +1,7 @@
 -- Packets without conflicts: what the runs of frames touch, one after another, and when none of them reads what one shortly before it wrote.
-use Rattle.std.specs.Prelude.{◌≡◌, ℕ, zero, suc, ◌+◌, ◌*◌, ◌^◌, ◌<◌, ◌≤◌, true, false, Some, List, [], ◌∷◌, ◌++◌, length, take, Contains}
+use Rattle.std.specs.Prelude.{◌≡◌, ℕ, zero, suc, ◌+◌, ◌*◌, ◌^◌, ◌<◌, ◌≤◌, true, false, Some, None, List, [], ◌∷◌, ◌++◌, length, take, Contains}
 use Rattle.std.specs.List.{flat_map, AllByRecursion}
+use Rattle.realization.specs.beat_core.declared.beat.Beat.{Beat}
 use Rattle.realization.specs.beat_core.Beats.{beats_of}
 use Rattle.realization.specs.beat_core.Laws.{IsFrame}
 use Rattle.hazard_core.specs.xdp_maps.declared.decl.MapDecl.{MapDecl}
@@ -13,10 +14,11 @@ use Rattle.hazard_core.specs.cell_core.Sites.{ProgramView, IsCellRun, site_at, a
 use Rattle.hazard_core.specs.cell_core.Formed.{AreFormed, AllFit, AreSited}
 use Rattle.realization.specs.beat_core.Ports.{Arrival}
 use Rattle.realization.specs.Bounds.{all_writing}
-use Rattle.pipe_core.specs.Machine.{Build, packet_of}
+use Rattle.pipe_core.specs.Machine.{Build, Input, packet_of, new_state}
+use Rattle.pipe_core.specs.History.{run, begin}
 use Rattle.pipe_core.specs.Agreement.{ReadsArePlanned}
 use Rattle.pipe_core.specs.Pipeable.{IsPipelinable}
-use Rattle.pipe_core.specs.Drive.{Beside, drive, drive_start, clocks_of}
+use Rattle.pipe_core.specs.Drive.{Beside, drive, drive_start, clocks_of, beats_in}
 use Rattle.pipe_core.specs.Forward.{GoesForward, commits_in}
 
 -- These frames are run one after another, each on the maps that the one before it left, and touch this.
@@ -49,6 +51,15 @@ CommitsAreWrites =
     (b : Build) (maps : MapState) → IsPipelinable maps.decls b → IsSound maps → b.slots ≡ b.plan.last + 4 → (frames : List (List ℕ)) → AllByRecursion IsFrame frames → (clocks more : List Beside) → clocks_of b frames ≤ length (clocks ++ more) + 1
     → (q : ℕ) → ((ts : List Touched) → AllRun b.program maps (drive b (clocks ++ more) (drive_start b maps frames)).trace.came ts → all_writing ts ≤ q)
     → commits_in b clocks (drive_start b maps frames) ≤ q
+
+-- So it is in one that begins late, after any clocks with a silent host.
+abbrev pub LateCommitsAreWrites : Type 0
+LateCommitsAreWrites =
+    (b : Build) (maps : MapState) → IsPipelinable maps.decls b → IsSound maps → b.slots ≡ b.plan.last + 4 → (is : List Input) → AllByRecursion (λ i. i.host ≡ None) is
+    → (frames : List (List ℕ)) → AllByRecursion IsFrame frames → (left : List Beat) → beats_in b is (new_state b maps) ++ left ≡ flat_map beats_of frames
+    → (clocks more : List Beside) → clocks_of b frames + b.plan.last + 2 ≤ length (clocks ++ more) + 1
+    → (q : ℕ) → ((ts : List Touched) → AllRun b.program maps (drive b (clocks ++ more) (record { left = left; trace = run b is (begin b maps) })).trace.came ts → all_writing ts ≤ q)
+    → commits_in b clocks (record { left = left; trace = run b is (begin b maps) }) ≤ q
 
 -- So if nothing is sent back these clocks suffice: each beat counts one in and one out, each frame one more and one for each operation of its run that
 -- writes, and the places count once.

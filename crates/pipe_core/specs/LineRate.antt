@@ -1,5 +1,5 @@
 -- Line rate: a beat comes and one goes at each clock. What a drive takes beside that.
-use Rattle.std.specs.Prelude.{◌≡◌, ℕ, ◌+◌, ◌*◌, ◌≤◌, List, [], ◌∷◌, ◌++◌, length}
+use Rattle.std.specs.Prelude.{◌≡◌, ℕ, ◌+◌, ◌*◌, ◌≤◌, None, List, [], ◌∷◌, ◌++◌, length}
 use Rattle.std.specs.List.{flat_map, AllByRecursion}
 use Rattle.realization.specs.beat_core.declared.beat.Beat.{Beat}
 use Rattle.realization.specs.beat_core.Beats.{beats_of}
@@ -38,3 +38,13 @@ FullDriveAtLineRate =
     → (q : ℕ) → ((ts : List Touched) → AllRun b.program maps (drive b (clocks ++ more) (drive_start b maps frames)).trace.came ts → all_writing ts ≤ q)
     → (late : ℕ) → FollowWithin b.plan.last frames late → line_clocks b.plan.last frames late + q ≤ length clocks
     → length (drive b clocks (drive_start b maps frames)).trace.gave ≡ length frames
+
+-- Whatever conflicts, so it is after any clocks with a silent host, with those in which packets are sent back: each costs the way to the commit place once more.
+abbrev pub LateDriveAtLineRate : Type 0
+LateDriveAtLineRate =
+    (b : Build) (maps : MapState) → IsPipelinable maps.decls b → IsSound maps → b.slots ≡ b.plan.last + 4 → (is : List Input) → AllByRecursion (λ i. i.host ≡ None) is
+    → (frames : List (List ℕ)) → AllByRecursion IsFrame frames → (left : List Beat) → beats_in b is (new_state b maps) ++ left ≡ flat_map beats_of frames
+    → (clocks more : List Beside) → clocks_of b frames + b.plan.last + 2 ≤ length (clocks ++ more) + 1 → (d : Driven) → d ≡ record { left = left; trace = run b is (begin b maps) }
+    → (q : ℕ) → ((ts : List Touched) → AllRun b.program maps (drive b (clocks ++ more) d).trace.came ts → all_writing ts ≤ q)
+    → (late : ℕ) → FollowWithin b.plan.last frames late → line_clocks b.plan.last frames late + q + reloads_in b clocks d * (b.plan.commit + 2) ≤ length clocks
+    → length (drive b clocks d).trace.gave ≡ length frames

@@ -4,12 +4,12 @@ ghost use Rattle.pipe_core.specs.History.{KeepsOrder, IsAlwaysInOrder};
 ghost use Rattle.pipe_core.specs.Computed.{KeepsComputed, IsAlwaysComputed};
 ghost use Rattle.pipe_core.specs.Drive.{EndsInTime, EndsLate};
 ghost use Rattle.pipe_core.specs.Forward.{EndsForward};
-ghost use Rattle.pipe_core.specs.Apart.{RunsElsewhere, RunsComplete, InTurnToo, CommitsAreWrites, EndsUnsent};
+ghost use Rattle.pipe_core.specs.Apart.{RunsElsewhere, RunsComplete, InTurnToo, CommitsAreWrites, LateCommitsAreWrites, EndsUnsent};
 ghost use Rattle.pipe_core.specs.Meeting.{TouchesWhatIsRead, ChangesAreWritten};
 ghost use Rattle.pipe_core.specs.ChangeCauses.{KeepsChangeCauses, BeginsChangeCauses, ReadsNothingWritten};
 ghost use Rattle.pipe_core.specs.Found.{KeepsFound, BeginsFound};
 ghost use Rattle.pipe_core.specs.Unconflicting.{NothingMustReload, StaysForward, EndsWithoutConflicts};
-ghost use Rattle.pipe_core.specs.LineRate.{DrivesAtLineRate, FullDriveAtLineRate};
+ghost use Rattle.pipe_core.specs.LineRate.{DrivesAtLineRate, FullDriveAtLineRate, LateDriveAtLineRate};
 ghost use Rattle.pipe_core.specs.Sending.{AlwaysSendsBack};
 ghost use Rattle.pipe_core.specs.Agreement.{EnteringAgrees, MarkingAgrees};
 ghost use Rattle.pipe_core.specs.Agreed.{KeepsAgreed, PathsAreMade};
@@ -140,6 +140,7 @@ pub fn ends_in_time()
 /// In a full drive no more operations are committed than the runs of its frames write, so where nothing is sent back it ends so too.
 pub fn commits()
     ensures writes { CommitsAreWrites }
+    ensures late { LateCommitsAreWrites }
     ensures unsent { EndsUnsent }
 {
     runs_in_turn();
@@ -233,6 +234,7 @@ pub fn ends_without_conflicts()
 pub fn line_rate()
     ensures drives { DrivesAtLineRate }
     ensures full { FullDriveAtLineRate }
+    ensures late { LateDriveAtLineRate }
 {
     ends_without_conflicts();
     commits();

@@ -15,7 +15,7 @@ use Rattle.pipe_core.specs.History.{Trace, run, begin}
 use Rattle.pipe_core.specs.Drive.{Driven, Beside, drive, drive_start, clocks_of, beats_in, EndsInTime, EndsLate}
 use Rattle.pipe_core.specs.Apart.{AllRun, ConflictFree}
 use Rattle.pipe_core.specs.Unconflicting.{EndsWithoutConflicts}
-use Rattle.pipe_core.specs.LineRate.{FullDriveAtLineRate}
+use Rattle.pipe_core.specs.LineRate.{FullDriveAtLineRate, LateDriveAtLineRate}
 use Rattle.pipe_core.specs.Pipeable.{IsPipelinable}
 use Rattle.pipe_core.specs.HostRuns.Inputs.{input_of}
 use Rattle.pipe_core.specs.HostRuns.Silent.{silent, ReadsAreSilent, RunsAreSilent}
@@ -23,10 +23,10 @@ use Rattle.pipe_core.specs.realization.Bounds.{all_writing, most_beats, clock_bo
 use Rattle.pipe_core.specs.realization.Realizes.{IsPacket, frames_in, all_offers, beats_offered}
 use Rattle.pipe_core.proofs.realization_laws.LineLaws.{equal_before, equal_most, equal_follow}
 use Rattle.pipe_runs.specs.PipePorts.Followed.{WriteNothing, ran}
-use Rattle.pipe_runs.specs.Apart.{DoNotConflict}
+use Rattle.pipe_runs.specs.Apart.{Touch, DoNotConflict}
 use Rattle.pipe_runs.proofs.Histories.{beats_of_all, frames_of_packets}
 use Rattle.pipe_runs.proofs.Filled.{quiet_filled, all_silent, run_quiet, beats_quiet}
-use Rattle.pipe_runs.proofs.Drives.{behind, left_behind, besides, length_besides, drive_from, same_drive, besides_more}
+use Rattle.pipe_runs.proofs.Drives.{behind, left_behind, besides, reloads_by, length_besides, drive_from, same_drive, same_reloads, besides_more}
 use Rattle.pipe_runs.proofs.Bounds.{bound_enough, late_enough, written, apart_enough, all_written, conflict_free}
 
 pub record ClockLaws : Type 0 where
@@ -36,6 +36,7 @@ pub record ClockLaws : Type 0 where
   pub late : EndsLate
   pub apart : EndsWithoutConflicts
   pub line : FullDriveAtLineRate
+  pub sent : LateDriveAtLineRate
 
 pub as_many_frames : (packets : List Arrival) → length (frames_in packets) ≡ length packets
 as_many_frames [] = refl
@@ -80,6 +81,30 @@ module _ (laws : ClockLaws) (b : Build) (maps : MapState) (pipelinable : IsPipel
       (ap (λ (u : Trace). length (drive b clocks (drive_from u left)).trace.gave) (sym same)
       ∙ laws.late b maps pipelinable sound slots (quiet_filled is) (all_silent is) frames (frames_of_packets packets are) (beats_offered left) (ap (λ bs. bs ++ beats_offered left) (beats_quiet b is (new_state b maps)) ∙ over)
       clocks (omega (arith, late_enough b frames, many, length_besides b limit t left)))
+
+  -- ---- the same at line rate, whatever is sent back: in as many clocks as needed all of them have come
+  pub gives_sent : (is : List Inputs) → WriteNothing is → (left : List Offered)
+      → map filled_up (beats_in b (map (λ (i : Inputs). silent (input_of i)) is) (new_state b maps)) ++ beats_offered left ≡ flat_map beats_of frames
+      → (limit late : ℕ) (ts : List Touched) → Touch b maps packets ts → FollowWithin b.plan.last frames late
+      → (behind b (limit + clock_bound (length packets + 1) b.plan.last (most_beats frames) (record_count b.program.sites)) (ran b maps is) left).came ≡ packets
+      → line_clocks b.plan.last frames late + all_writing ts + reloads_by b limit (ran b maps is) left * (b.plan.commit + 2) ≤ limit → Gives (ran b maps is) left limit
+  gives_sent is quiet left over limit late ts touch follow came long =
+      let t = ran b maps is in
+      let more = clock_bound (length packets + 1) b.plan.last (most_beats frames) (record_count b.program.sites) in
+      let clocks = besides b limit t left in
+      let later = besides b more (behind b limit t left) (left_behind b limit t left) in
+      let all : clocks ++ later ≡ besides b (limit + more) t left = sym (besides_more b limit more (limit + more) refl t left) in
+      let same : run b (quiet_filled is) (begin b maps) ≡ t = run_quiet b is (begin b maps) ∙ sym (laws.silence b is quiet (begin b maps)) in
+      let driven : (drive b (clocks ++ later) (drive_from t left)).trace.came ≡ packets =
+      ap (λ (xs : List Beside). (drive b xs (drive_from t left)).trace.came) all ∙ ap (λ (d : Driven). d.trace.came) (same_drive laws.reads b (limit + more) t left) ∙ came in
+      let many : clock_bound (length frames + 1) b.plan.last (most_beats frames) (record_count b.program.sites) ≡ more = ap (λ n. clock_bound (n + 1) b.plan.last (most_beats frames) (record_count b.program.sites)) (as_many_frames packets) in
+      let sent = ap (λ n. n * (b.plan.commit + 2)) (same_reloads laws.reads b limit t left) in
+      given_by t left limit
+      (laws.sent b maps pipelinable sound slots (quiet_filled is) (all_silent is) frames (frames_of_packets packets are) (beats_offered left) (ap (λ bs. bs ++ beats_offered left) (beats_quiet b is (new_state b maps)) ∙ over)
+      clocks later (omega (arith, late_enough b frames, many, ap length all, length_besides b (limit + more) t left))
+      (drive_from t left) (ap (λ (u : Trace). drive_from u left) (sym same)) (all_writing ts)
+      (λ us run. subst (λ vs. all_writing us ≤ all_writing vs) (touch are us (subst (λ (cs : List Arrival). AllRun b.program maps cs us) driven run)) (omega arith))
+      late follow (omega (arith, long, sent, length_besides b limit t left)))
 
   -- ---- packets that do not conflict: in as many clocks as needed all of them have come
   abbrev all_clocks : ℕ → ℕ

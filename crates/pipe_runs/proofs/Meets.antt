@@ -1,7 +1,8 @@
 -- A design that follows the machine of a pipeline with maps meets what is wanted of one.
-use Rattle.std.specs.Prelude.{◌≡◌, ℕ, ◌+◌, ◌*◌, ◌-◌, ◌≤◌, is_some, false, None, List, [], ◌∷◌, ◌++◌, length, map}
+use Rattle.std.specs.Prelude.{◌≡◌, ℕ, ◌+◌, ◌*◌, ◌-◌, ◌≤◌, ◌⊎◌, is_some, false, None, List, [], ◌∷◌, ◌++◌, length, map}
 use Rattle.std.specs.List.{flat_map, AllByRecursion}
-use Rattle.std.proofs.Common.{refl, sym, ap, ◌∙◌, subst, arith, append_assoc}
+use Rattle.std.proofs.Common.{refl, sym, ap, ◌∙◌, subst, arith, inl, inr, append_assoc}
+use Rattle.std.proofs.Math.Nat.{mul-le-mul_left}
 use Rattle.cell_core.specs.beat_core.declared.answer.Answer.{Answer}
 use Rattle.cell_core.specs.beat_core.Beats.{beat_count, beats_of, IsFilledUp}
 use Rattle.cell_core.specs.beat_core.Clocks.{AreOffers}
@@ -16,7 +17,7 @@ use Rattle.pipe_core.specs.net_core.declared.ports.Inputs.{Inputs}
 use Rattle.pipe_core.specs.net_core.Nets.{Netlist}
 use Rattle.pipe_core.specs.net_core.Clock.{Stored}
 use Rattle.pipe_core.specs.net_core.Trace.{Cycle, trace, stored_after}
-use Rattle.pipe_core.specs.realization.History.{beats_in, offers_in, arrivals, answers_given, Drive, drive}
+use Rattle.pipe_core.specs.realization.History.{beats_in, offers_in, arrivals, answers_given, reload_clocks, Drive, Stopped, drive}
 use Rattle.pipe_core.specs.realization.HostHistory.Host.{dump, ShowsMaps}
 use Rattle.pipe_net.specs.frame_net.Frames.{position_of}
 use Rattle.cell_core.specs.Rows.{record_count}
@@ -32,21 +33,21 @@ use Rattle.pipe_runs.specs.PipeAnswers.Following.{FollowsAlways}
 use Rattle.pipe_runs.specs.PipeAnswers.Runs.{ReadsRunInTurn}
 use Rattle.pipe_runs.specs.PipeAnswers.Dumps.{RunsGoOn, DumpsAreShown}
 use Rattle.pipe_core.specs.realization.Bounds.{most_beats, clock_bound, clock_bound_apart, FollowWithin, line_clocks, all_writing}
-use Rattle.pipe_core.specs.realization.Realizes.{IsPattern, IsPacket, IsBeside, IsWhole, Meets, frames_in, all_offers, beats_offered, inputs_in}
+use Rattle.pipe_core.specs.realization.Realizes.{IsPattern, IsPacket, IsBeside, IsWhole, IsAmid, Meets, drive_on, frames_in, all_offers, beats_offered, inputs_in}
 use Rattle.pipe_runs.specs.PipePorts.Answered.{AreAnswered}
 use Rattle.pipe_runs.specs.PipePorts.Followed.{WriteNothing, IsFollowed, ran}
 use Rattle.pipe_runs.specs.PipePorts.Ports.{PortsShowClocks, PortsShowHistories, ShowsHistory}
 use Rattle.pipe_runs.specs.PipePorts.Patterns.{PatternsMayCome, IsInPattern}
 use Rattle.pipe_runs.specs.PipePorts.Answering.{RunsAreAnswers, PatternsAnswerInTurn}
-use Rattle.pipe_runs.specs.Apart.{DoNotConflict}
+use Rattle.pipe_runs.specs.Apart.{Touch, DoNotConflict}
 use Rattle.pipe_runs.specs.Meeting.{FollowersMeet}
 use Rattle.pipe_runs.proofs.Histories.{trace_append, stored_append, offers_append, beats_of_offers, offered_append, same_arrive, arrive_few, packets_arrive, beats_of_all, frames_of_packets, is_open, open_append, open_filled, open_frames, all_closed}
 use Rattle.pipe_runs.proofs.Reading.{silent_append, dumps_write_nothing}
 use Rattle.pipe_runs.proofs.Filled.{quiet}
-use Rattle.pipe_runs.proofs.Drives.{Fits, driven, left_behind, behind, drives_silent}
+use Rattle.pipe_runs.proofs.Drives.{Fits, driven, left_behind, behind, reloads_by, drives_silent}
 use Rattle.pipe_runs.proofs.Coming.{drives_come, part_open}
-use Rattle.pipe_runs.proofs.Clocks.{ClockLaws, gives_in_time, gives_late, gives_apart, gives_at_line_rate, gives_of_equal}
-use Rattle.pipe_runs.proofs.Driving.{DrivesTo, drives, drives_over, inputs_of_trace}
+use Rattle.pipe_runs.proofs.Clocks.{ClockLaws, gives_in_time, gives_late, gives_sent, gives_apart, gives_at_line_rate, gives_of_equal}
+use Rattle.pipe_runs.proofs.Driving.{DrivesTo, drives, drives_over, never_stops, gave_on, sends, inputs_of_trace}
 use Rattle.pipe_runs.proofs.Ending.{given_few, IsEnded, ended}
 use Rattle.pipe_runs.proofs.Bounds.{all_filled, all_behind, all_fit, all_beside}
 
@@ -285,7 +286,47 @@ module _ (laws : AllLaws) (l : Layout) (maps : MapState) (n : Netlist) (st : Sto
       whole_of is pattern packets are left beside over come limit
       (gives_late laws.clocks b maps followed.pipelinable followed.sound slots packets are is pattern.silent left (ap (λ bs. map filled_up bs ++ beats_offered left) (sym pattern.history.beats) ∙ over) limit long)
 
-  pub meets : Meets n st wanted (DoNotConflict b maps) (last_of l) (record_count b.program.sites)
+  -- ---- at line rate, whatever is sent back
+  module _ (is : List Inputs) (packets : List Arrival) (left : List Offered) (limit : ℕ) (amid : IsAmid n st is packets left) where
+    abbrev more : ℕ
+    more = clock_bound (length packets + 1) (last_of l) (most_beats (frames_in packets)) (record_count b.program.sites)
+
+    in_pattern : IsInPattern b maps n st is
+    in_pattern = laws.patterns b maps n st followed is amid.pattern
+
+    -- in as many clocks more all is given, and has come
+    gives_all : length (behind b (limit + more) (ran b maps is) left).gave ≡ length packets
+    gives_all =
+        gives_late laws.clocks b maps followed.pipelinable followed.sound slots packets amid.are is in_pattern.silent left (ap (λ bs. map filled_up bs ++ beats_offered left) (sym in_pattern.history.beats) ∙ amid.beats) (limit + more) (omega arith)
+
+    packets_there : (behind b (limit + more) (ran b maps is) left).came ≡ packets
+    packets_there =
+        let same = end_is is in_pattern packets amid.are left amid.beside amid.beats amid.frames (limit + more) in
+        ap (λ (t : Trace). t.came) (sym same) ∙ came_all is in_pattern packets amid.are left amid.beside amid.beats amid.frames (limit + more) (ap (λ (t : Trace). length t.gave) same ∙ gives_all)
+
+    follows_on : FollowsAlways b n (driven b limit (ran b maps is) left) (ran b maps is) (stored_after n st is)
+    follows_on = follow is in_pattern packets amid.are left amid.beside amid.beats amid.frames limit
+
+    owes_on : length packets - length (answers_given [] (trace n st is)) + length (ran b maps is).gave ≡ length packets
+    owes_on = owes is in_pattern packets amid.are left amid.beside amid.beats amid.frames
+
+    goes_on : (w : ℕ) → (drive_on n st is packets left limit).ended ≡ Stopped w → ⊥
+    goes_on w e = never_stops laws.shows b n limit (ran b maps is) (stored_after n st is) left (length packets - length (answers_given [] (trace n st is))) w follows_on e
+
+    whole_sent : (late : ℕ) (ts : List Touched) → Touch b maps packets ts → FollowWithin (last_of l) (frames_in packets) late
+        → line_clocks (last_of l) (frames_in packets) late + all_writing ts + reload_clocks (drive_on n st is packets left limit).trace * (b.plan.commit + 2) ≤ limit → IsWhole n st is (drive_on n st is packets left limit) packets wanted
+    whole_sent late ts touch follow long = whole_of is in_pattern packets amid.are left amid.beside amid.beats amid.frames limit (elim sent [
+      | inl given ↦ omega (arith, given, gave_on laws.shows b n limit more (ran b maps is) left, gives_all)
+      | inr few ↦
+          let paid = mul-le-mul_left (b.plan.commit + 2) few in
+          gives_sent laws.clocks b maps followed.pipelinable followed.sound slots packets amid.are is in_pattern.silent left (ap (λ bs. map filled_up bs ++ beats_offered left) (sym in_pattern.history.beats) ∙ amid.beats)
+          limit late ts touch follow packets_there (omega (arith, long, paid))
+    ])
+      where
+        sent : (length packets ≤ length (behind b limit (ran b maps is) left).gave) ⊎ (reloads_by b limit (ran b maps is) left ≤ reload_clocks (drive_on n st is packets left limit).trace)
+        sent = sends laws.shows b n limit (ran b maps is) (stored_after n st is) left (length packets - length (answers_given [] (trace n st is))) (length packets) follows_on owes_on
+
+  pub meets : Meets n st wanted (Touch b maps) (DoNotConflict b maps) (last_of l) (record_count b.program.sites)
   meets = record {
     safe = λ is p. laws.safe b maps n st followed is p;
     complete = λ packets limit are long. full_from packets are limit (in_time packets are limit long);
@@ -293,6 +334,10 @@ module _ (laws : AllLaws) (l : Layout) (maps : MapState) (n : Netlist) (st : Sto
     at_line_rate = record {
       last = last_of l;
       within = omega arith;
+      commit = b.plan.commit;
+      before = followed.pipelinable.rows.commit;
+      goes_on = λ is packets left limit w amid stopped. goes_on is packets left limit amid w stopped;
+      drives = λ is packets left limit late ts amid touched follow long. whole_sent is packets left limit amid late ts touched follow long;
       follow = λ packets limit late ts are apart follow long. whole_at_line_rate packets are limit ts apart late follow long;
       equal = λ packets limit beats ts are apart equal long. whole_of_equal packets are limit ts apart beats equal long;
     };

@@ -16,11 +16,11 @@ use Rattle.pipe_net.specs.PipeForms.Parts.{design}
 use Rattle.pipe_net.specs.PipeClocks.Following.{IsPipeline}
 use Rattle.pipe_runs.specs.PipePorts.Answered.{AreAnswered}
 use Rattle.pipe_runs.specs.PipePorts.Followed.{IsFollowed}
-use Rattle.pipe_runs.specs.Apart.{DoNotConflict}
+use Rattle.pipe_runs.specs.Apart.{Touch, DoNotConflict}
 
 -- it answers packets by their cell runs on these maps, one after another, in the clocks of so many stages and record sites
 abbrev pub MeetsRuns : Layout → MapState → Netlist → Stored → Type 0
-MeetsRuns l maps n st = Meets n st (AreAnswered l.build.program maps) (DoNotConflict l.build maps) (last_of l) (record_count l.build.program.sites)
+MeetsRuns l maps n st = Meets n st (AreAnswered l.build.program maps) (Touch l.build maps) (DoNotConflict l.build maps) (last_of l) (record_count l.build.program.sites)
 
 -- So does every design that follows the machine over the maps, whatever it stores.
 abbrev pub FollowersMeet : Type 0

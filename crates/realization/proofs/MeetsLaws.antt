@@ -12,7 +12,7 @@ use Rattle.net_core.specs.Clock.{Stored}
 use Rattle.net_core.specs.Trace.{stored_after, trace}
 use Rattle.realization.specs.History.{Arrival, Drive, drive, arrivals, answers_given}
 use Rattle.realization.specs.Bounds.{clock_bound, clock_bound_apart, most_beats}
-use Rattle.realization.specs.Realizes.{IsPacket, IsPattern, IsPrefix, IsWhole, frames_in, all_offers}
+use Rattle.realization.specs.Realizes.{drive_on, IsPacket, IsPattern, IsPrefix, IsWhole, frames_in, all_offers}
 use Rattle.realization.specs.Laws.{MeetsMore}
 use Rattle.realization.proofs.PacketLaws.{patterns_bring_packets}
 
@@ -37,7 +37,7 @@ module _ (d : Netlist) (s : Stored) (wanted wider : List Arrival → List Answer
   whole_more is r packets are w = record { ended = w.ended; maps = w.maps; all = wants packets (answers_given [] (trace d s is ++ r.trace)) w.maps are w.all; shown = w.shown }
 
 pub meets_more : MeetsMore
-meets_more d s wanted wider apart closer stages more_stages records more_records wants aparts few_stages few_records m = record {
+meets_more d s wanted wider touch finer apart closer stages more_stages records more_records wants touches aparts few_stages few_records m = record {
   safe = λ is pattern. prefix_more d s wanted wider wants is pattern (m.safe is pattern);
   complete = λ packets limit are enough.
       whole_more d s wanted wider wants [] (drive d s (all_offers packets) (length packets) limit) packets are
@@ -48,6 +48,11 @@ meets_more d s wanted wider apart closer stages more_stages records more_records
   at_line_rate = record {
     last = m.at_line_rate.last;
     within = omega (arith, m.at_line_rate.within, few_stages);
+    commit = m.at_line_rate.commit;
+    before = m.at_line_rate.before;
+    goes_on = m.at_line_rate.goes_on;
+    drives = λ is packets left limit late ts amid touched follow enough.
+        whole_more d s wanted wider wants is (drive_on d s is packets left limit) packets amid.are (m.at_line_rate.drives is packets left limit late ts amid (touches packets ts touched) follow enough);
     follow = λ packets limit late ts are close follow enough.
         whole_more d s wanted wider wants [] (drive d s (all_offers packets) (length packets) limit) packets are (m.at_line_rate.follow packets limit late ts are (aparts packets ts close) follow enough);
     equal = λ packets limit beats ts are close same enough.

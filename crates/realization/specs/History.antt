@@ -1,5 +1,5 @@
 -- What goes over at the ports in a list of clocks: frames inwards, answers outwards.
-use Rattle.std.specs.Prelude.{ℕ, zero, suc, if◌then◌else◌, Bool, true, ◌&&◌, Option, Some, None, List, [], ◌∷◌, ◌++◌}
+use Rattle.std.specs.Prelude.{ℕ, zero, suc, ◌+◌, if◌then◌else◌, Bool, true, ◌&&◌, Option, Some, None, List, [], ◌∷◌, ◌++◌}
 use Rattle.beat_core.specs.declared.answer.Answer.{Answer}
 use Rattle.beat_core.specs.declared.beat.Beat.{Beat}
 use Rattle.beat_core.specs.Ports.{Offered, arrivals_among, Given, answers_among}
@@ -57,6 +57,11 @@ open_beats before [] = before
 open_beats before (m ∷ ms) =
     if goes_out m then (if m.shown.out_last then open_beats [] ms else open_beats (before ++ shown_beat m ∷ []) ms)
     else open_beats before ms
+
+-- in how many of these clocks packets are sent back
+abbrev pub reload_clocks : List Cycle → ℕ
+reload_clocks [] = 0
+reload_clocks (m ∷ ms) = (if m.shown.out_reload then 1 else 0) + reload_clocks ms
 
 -- ---- the full drive
 -- what stands at the inputs while a beat is offered beside its interface number and its time, or none: what is shown is taken, and

@@ -17,7 +17,7 @@ use Rattle.net_core.specs.Nets.{Netlist}
 use Rattle.net_core.specs.Clock.{Stored}
 use Rattle.net_core.specs.Trace.{Cycle, trace, stored_after, NeverStops, IsInput, IsSilent}
 use Rattle.beat_core.specs.declared.answer.Answer.{Answer}
-use Rattle.realization.specs.History.{beats_in, offers_in, Arrival, arrivals, answers_given, open_beats, Drive, Answered, drive}
+use Rattle.realization.specs.History.{beats_in, offers_in, Arrival, arrivals, answers_given, open_beats, reload_clocks, Drive, Answered, Stopped, drive}
 use Rattle.realization.specs.HostHistory.Host.{ShowsMaps}
 use Rattle.realization.specs.Bounds.{clock_bound, clock_bound_apart, most_beats, FollowWithin, line_clocks, all_writing}
 
@@ -77,11 +77,32 @@ pub record IsBeside (o : Offered) : Type 0 where
   pub ifindex : o.ifindex < 2 ^ 32
   pub time : o.time < 2 ^ 64
 
--- Offered and taken at every clock, packets that are apart are answered at line rate: a clock for each beat and for each operation of their runs that writes.
-pub record AtLineRate (d : Netlist) (s : Stored) (wanted : List Arrival → List Answer → MapState → Type 0) (apart : List Arrival → List Touched → Type 0) (stages : ℕ) : Type 0 where
-  -- the last place that a packet passes
+-- A pattern by which some of these packets' beats went over, and the beats that are left. Bytes that do not count are not asked, nor which numbers stand beside a beat that is no first one.
+pub record IsAmid (d : Netlist) (s : Stored) (is : List Inputs) (packets : List Arrival) (left : List Offered) : Type 0 where
+  pub pattern : IsPattern d s is
+  pub are : AllByRecursion IsPacket packets
+  pub beside : AllByRecursion IsBeside left
+  pub beats : map_list filled_up (beats_in (trace d s is)) ++ beats_offered left ≡ flat_map beats_of (frames_in packets)
+  pub frames : arrivals_among None (offers_in (trace d s is) ++ left) ≡ packets
+
+-- the drive of what is left, in at most so many clocks
+abbrev pub drive_on : Netlist → Stored → List Inputs → List Arrival → List Offered → ℕ → Drive
+drive_on d s is packets left limit = drive d (stored_after d s is) left (length packets - length (answers_given [] (trace d s is))) limit
+
+-- Offered and taken at every clock, packets are answered at line rate: a clock for each beat and for each operation of their runs, which touch this, that writes.
+pub record AtLineRate (d : Netlist) (s : Stored) (wanted : List Arrival → List Answer → MapState → Type 0) (touch apart : List Arrival → List Touched → Type 0) (stages : ℕ) : Type 0 where
+  -- the last place that a packet passes, and the one at which operations are committed
   pub last : ℕ
   pub within : last ≤ stages
+  pub commit : ℕ
+  pub before : commit ≤ last
+  -- no drive stops at a divisor
+  pub goes_on : (is : List Inputs) (packets : List Arrival) (left : List Offered) (limit w : ℕ) → IsAmid d s is packets left → (drive_on d s is packets left limit).ended ≡ Stopped w → ⊥
+  -- from every state that a pattern leads to, and whatever conflicts: each clock in which packets are sent back costs the way to the commit place once more
+  pub drives : (is : List Inputs) (packets : List Arrival) (left : List Offered) (limit late : ℕ) (ts : List Touched) → IsAmid d s is packets left → touch packets ts → FollowWithin last (frames_in packets) late →
+      line_clocks last (frames_in packets) late + all_writing ts + reload_clocks (drive_on d s is packets left limit).trace * (commit + 2) ≤ limit →
+      IsWhole d s is (drive_on d s is packets left limit) packets wanted
+  -- from the first clock on, of packets that are apart
   pub follow : (packets : List Arrival) (limit late : ℕ) (ts : List Touched) → AllByRecursion IsPacket packets → apart packets ts →
       FollowWithin last (frames_in packets) late → line_clocks last (frames_in packets) late + all_writing ts ≤ limit →
       IsWhole d s [] (drive d s (all_offers packets) (length packets) limit) packets wanted
@@ -90,9 +111,8 @@ pub record AtLineRate (d : Netlist) (s : Stored) (wanted : List Arrival → List
       AllByRecursion (λ f. beat_count (length f) ≡ beats) (frames_in packets) → length packets * beats + all_writing ts + beats + stages + 2 ≤ limit →
       IsWhole d s [] (drive d s (all_offers packets) (length packets) limit) packets wanted
 
--- A design that holds these values answers as is wanted, with so many stages and record sites. Packets are apart where their runs,
--- which touch this, do not conflict.
-pub record Meets (d : Netlist) (s : Stored) (wanted : List Arrival → List Answer → MapState → Type 0) (apart : List Arrival → List Touched → Type 0) (stages records : ℕ) : Type 0 where
+-- A design that holds these values answers as is wanted, with so many stages and record sites. Runs of packets touch this; they are apart where these do not conflict.
+pub record Meets (d : Netlist) (s : Stored) (wanted : List Arrival → List Answer → MapState → Type 0) (touch apart : List Arrival → List Touched → Type 0) (stages records : ℕ) : Type 0 where
   -- under every pattern of offered and taken beats
   pub safe : (is : List Inputs) → IsPattern d s is → IsPrefix d s is wanted
   -- offered and taken at every clock
@@ -104,7 +124,7 @@ pub record Meets (d : Netlist) (s : Stored) (wanted : List Arrival → List Answ
       apart packets ts → clock_bound_apart stages (frames_in packets) ts ≤ limit →
       IsWhole d s [] (drive d s (all_offers packets) (length packets) limit) packets wanted
   -- and at line rate
-  pub at_line_rate : AtLineRate d s wanted apart stages
+  pub at_line_rate : AtLineRate d s wanted touch apart stages
   -- The same from every state that a pattern leads to, by which some of these packets' beats went over. Bytes that do not count are
   -- not asked, nor which numbers stand beside a beat that is no first one.
   pub late : (is : List Inputs) (packets : List Arrival) (left : List Offered) (limit : ℕ) → IsPattern d s is → AllByRecursion IsPacket packets → AllByRecursion IsBeside left →

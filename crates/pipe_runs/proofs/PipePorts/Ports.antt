@@ -1,5 +1,5 @@
 -- What a clock at the ports adds to what came and was given, where the outputs show what the machine does.
-use Rattle.std.specs.Prelude.{◌≡◌, ℕ, suc, ◌+◌, ◌<◌, ◌==◌, if◌then◌else◌, is_some, Bool, true, false, ◌&&◌, Option, Some, None, List, [], ◌∷◌, ◌++◌, length, min}
+use Rattle.std.specs.Prelude.{◌≡◌, ℕ, suc, ◌+◌, ◌-◌, ◌<◌, ◌==◌, nat_lt, if◌then◌else◌, is_some, Bool, true, false, ◌&&◌, Option, Some, None, List, [], ◌∷◌, ◌++◌, length, min}
 use Rattle.std.proofs.Common.{refl, sym, ap, ◌∙◌, subst, arith, length-append}
 use Rattle.cell_core.specs.beat_core.declared.beat.Beat.{Beat}
 use Rattle.cell_core.specs.beat_core.declared.answer.Answer.{Answer}
@@ -11,15 +11,16 @@ use Rattle.cell_core.proofs.beat_core_laws.BeatLaws.{IsOffer-eight}
 use Rattle.cell_core.proofs.beat_core_laws.WordLaws.{length-low_bytes}
 use Rattle.pipe_core.specs.net_core.declared.tree.Word.{Word}
 use Rattle.pipe_core.specs.net_core.declared.ports.Inputs.{Inputs}
-use Rattle.pipe_core.specs.net_core.declared.ports.TheConstants.{IN_READY, OUT_VALID, OUT_DATA, OUT_BYTES, OUT_LAST, OUT_VERDICT, OUT_TARGET}
+use Rattle.pipe_core.specs.net_core.declared.ports.TheConstants.{IN_READY, OUT_VALID, OUT_DATA, OUT_BYTES, OUT_LAST, OUT_VERDICT, OUT_TARGET, OUT_RELOAD}
 use Rattle.pipe_core.specs.net_core.Value.{bit}
 use Rattle.pipe_core.specs.net_core.Trace.{Cycle}
 use Rattle.pipe_core.specs.realization.History.{beats_in, offers_in, given_out, open_beats, owed_after}
 use Rattle.pipe_net.specs.frame_net.Frames.{position_of}
-use Rattle.pipe_core.specs.Machine.{State, Output, Build, is_ready, beat_over, came_with, shown_beat, taken_beat, first_answer, output}
+use Rattle.pipe_core.specs.Machine.{State, Output, Build, inside, some_send, flushed, is_ready, beat_over, came_with, shown_beat, taken_beat, first_answer, output}
 use Rattle.pipe_core.specs.History.{came_in, gave_in}
 use Rattle.pipe_core.specs.Drive.{ahead}
 use Rattle.pipe_core.specs.HostRuns.Inputs.{beat_in, input_of}
+use Rattle.pipe_core.proofs.FlushLaws.{fewer_where_sent}
 use Rattle.pipe_net.specs.Machine.{ShowsBeat, Shows}
 use Rattle.pipe_runs.specs.PipePorts.Ports.{cycle, offers_by, PortsShowClocks}
 use Rattle.pipe_runs.proofs.PipePorts.Beats.{frame_append}
@@ -185,5 +186,9 @@ owes_now b s i at h owed =
     ap (λ valid. length (gave_in s.answers (taken_beat s (input_of i))) + (if (valid && i.out_ready) && (shown_at at).last then owed else suc owed)) (reads_bit (at OUT_VALID) (is_some (shown_beat s)) h.valid)
     ∙ owes_case i.out_ready (output b (input_of i) s) (shown_beat s) at s.answers owed h.beat
 
+sent_now : (b : Build) (s : State) (i : Inputs) (at : ℕ → Word) → Shows (output b (input_of i) s) at → ((at OUT_RELOAD).value == 1) ≡ some_send b 0 s.places
+unfolding output
+sent_now b s i at h = reads_bit (at OUT_RELOAD) (nat_lt 0 (inside s.places - inside (flushed b 0 s.places))) h.reload ∙ fewer_where_sent b s.places
+
 pub ports_show_clocks : PortsShowClocks
-ports_show_clocks b s i at h = record { ready = ready_now b s i at h; offers = offers_now b s i at h; beats = beats_now b s i at h; owes = owes_now b s i at h }
+ports_show_clocks b s i at h = record { ready = ready_now b s i at h; offers = offers_now b s i at h; beats = beats_now b s i at h; sent = sent_now b s i at h; owes = owes_now b s i at h }

@@ -14,7 +14,7 @@ use Rattle.pipe_core.specs.net_core.Clock.{Stored}
 use Rattle.pipe_core.specs.net_core.Trace.{Cycle, trace}
 use Rattle.pipe_core.specs.realization.History.{offers_in, beats_in, arrivals, answers_given, open_beats, owed_after}
 use Rattle.pipe_net.specs.frame_net.Frames.{position_of}
-use Rattle.pipe_core.specs.Machine.{State, Build, is_ready, beat_over, taken_beat, first_answer, new_state, output}
+use Rattle.pipe_core.specs.Machine.{State, Build, is_ready, beat_over, taken_beat, first_answer, new_state, some_send, output}
 use Rattle.pipe_core.specs.History.{gave_in, begin}
 use Rattle.pipe_core.specs.Drive.{ahead, beats_in as machine_beats}
 use Rattle.pipe_core.specs.HostRuns.Inputs.{input_of}
@@ -39,6 +39,8 @@ pub record ShowsClock (b : Build) (s : State) (i : Inputs) (at : ℕ → Word) :
   pub ready : ((at IN_READY).value == 1) ≡ is_ready b s
   pub offers : (ms : List Cycle) → offers_in (cycle i at ∷ ms) ≡ offers_by i (beat_over b s (input_of i)) ++ offers_in ms
   pub beats : (ms : List Cycle) → beats_in (cycle i at ∷ ms) ≡ ahead (beat_over b s (input_of i)) (beats_in ms)
+  -- it shows whether packets are sent back
+  pub sent : (cycle i at).shown.out_reload ≡ some_send b 0 s.places
   -- with each answer that is given whole one fewer is owed
   pub owes : (owed : ℕ) → length (gave_in s.answers (taken_beat s (input_of i))) + owed_after (cycle i at) (suc owed) ≡ suc owed
 

@@ -23,5 +23,5 @@ SameDesignsShowMaps = (a b : Netlist) → ShowTheSame a b → (before : List Inp
 abbrev pub SameDesignsMeet : Type 1
 SameDesignsMeet =
     (a b : Netlist) → ShowTheSame a b
-    → (before : List Inputs) (wanted : List Arrival → List Answer → MapState → Type 0) (apart : List Arrival → List Touched → Type 0) (stages records : ℕ)
-    → Meets a (reached a before) wanted apart stages records → Meets b (reached b before) wanted apart stages records
+    → (before : List Inputs) (wanted : List Arrival → List Answer → MapState → Type 0) (touch apart : List Arrival → List Touched → Type 0) (stages records : ℕ)
+    → Meets a (reached a before) wanted touch apart stages records → Meets b (reached b before) wanted touch apart stages records

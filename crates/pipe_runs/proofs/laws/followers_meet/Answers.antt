@@ -10,6 +10,7 @@ returns c = followers_meet (record {
     late = c.ends_in_time.ensures.late;
     apart = c.ends_without_conflicts.ensures.ends;
     line = c.line_rate.ensures.full;
+    sent = c.line_rate.ensures.late;
   };
   order = c.in_order.ensures.always;
   fit = c.loads_fit.ensures;
