@@ -11,7 +11,7 @@ use Rattle.realization.specs.beat_core.declared.answer.Answer.{Answer}
 use Rattle.realization.specs.beat_core.Beats.{beats_of}
 use Rattle.realization.specs.beat_core.Laws.{IsFrame}
 use Rattle.realization.specs.beat_core.Ports.{Arrival}
-use Rattle.realization.specs.Bounds.{most_beats, beats_before, FollowWithin, line_clocks, all_writing}
+use Rattle.realization.specs.Bounds.{most_beats, beats_before, FollowWithin, line_clocks, wait_clocks, all_writing}
 use Rattle.hazard_core.specs.xdp_maps.State.{MapState}
 use Rattle.hazard_core.specs.xdp_machine.Touched.{Touched}
 use Rattle.hazard_core.specs.cell_core.Cells.{bit}
@@ -25,12 +25,12 @@ use Rattle.pipe_core.specs.Forward.{GoesForward, commit_count, commits_in}
 use Rattle.pipe_core.specs.Apart.{AllRun, CommitsAreWrites, LateCommitsAreWrites}
 use Rattle.pipe_core.specs.Unconflicting.{StaysForward}
 use Rattle.pipe_core.specs.SeenChanges.{rest_of, action_in}
-use Rattle.pipe_core.specs.LineRate.{reloads_in, DrivesAtLineRate, FullDriveAtLineRate, LateDriveAtLineRate}
+use Rattle.pipe_core.specs.LineRate.{reloads_in, DrivesAtLineRate, GivesFirst, FullDriveAtLineRate, LateDriveAtLineRate, LateFirstAtLineRate}
 use Rattle.pipe_core.proofs.Order.{last_or, place_last, moved_inside, marked_by_inside, beats_keep}
 use Rattle.pipe_core.proofs.FlushLaws.{flushed_length, flushed_inside, flushed_none}
 use Rattle.pipe_core.proofs.HistoryLaws.{ahead_append}
 use Rattle.pipe_core.proofs.Acting.{ActionIs, action_is}
-use Rattle.pipe_core.proofs.Draining.{part_beats, lasts, no_lasts, to_give, all_given, Driving, begins_driving}
+use Rattle.pipe_core.proofs.Draining.{part_beats, lasts, no_lasts, to_give, Driving, begins_driving}
 use Rattle.pipe_core.proofs.Offering.{Offered, offered_on}
 use Rattle.pipe_core.proofs.Timing.{ahead_is, left_after, reaches}
 use Rattle.pipe_core.proofs.LineSums.{upto, total, AreSome, upto_next, upto_more, frame_counts, all_counts, coming_frames, upto_frames, frame_counts_length, counts_stay, Counted, counted}
@@ -417,16 +417,24 @@ module _ (b : Build) (ms : List ℕ) (most late : ℕ) (extra : ℕ → ℕ) (ri
         };
       }
 
-  -- in the end nothing is left to be given
-  goes_on : (bound : ℕ) → ((g : ℕ) → g < length ms → extra g ≤ bound) → (clocks : List Beside) (u rho : ℕ) (d : Driven) → Rated b ms most extra u rho d
-      → total ms + most + b.plan.last + 2 + bound + rho + commits_in b clocks d + reloads_in b clocks d * (b.plan.commit + 2) ≤ u + length clocks → length (drive b clocks d).trace.gave ≡ length ms
-  goes_on bound within [] u rho d r long = elim (cases_lt (length d.trace.gave) (length ms)) [
-    | inl l ↦ all_given (length ms) b d r.driving (omega (arith, r.gives l, within (length d.trace.gave) l, long))
-    | inr l ↦ let c = subst (λ k. Counted k d) r.counts (counted (length ms) b d r.driving) in omega (arith, l, c.answers, c.frames, c.count)
+  -- so many answers are given once the clocks are those of the beats of so many frames
+  goes_on : (k bound : ℕ) → k ≤ length ms → ((g : ℕ) → g < k → extra g ≤ bound) → (clocks : List Beside) (u rho : ℕ) (d : Driven) → Rated b ms most extra u rho d
+      → upto k ms + most + b.plan.last + 2 + bound + rho + commits_in b clocks d + reloads_in b clocks d * (b.plan.commit + 2) ≤ u + length clocks → k ≤ length (drive b clocks d).trace.gave
+  goes_on k bound few within [] u rho d r long = elim (cases_lt (length d.trace.gave) k) [
+    | inl l ↦
+        let c = subst (λ m. Counted m d) r.counts (counted (length ms) b d r.driving) in
+        let all : length d.trace.gave < length ms = omega (arith, l, few) in
+        absurd (omega (arith, r.gives all, c.give, c.first all, upto_more ms (suc (length d.trace.gave)) k (omega (arith, l)), within (length d.trace.gave) l, long))
+    | inr l ↦ l
   ]
-  goes_on bound within (x ∷ xs) u rho d r long =
+  goes_on k bound few within (x ∷ xs) u rho d r long =
       let n = steps x.ifindex x.time u rho d r in
-      goes_on bound within xs n.now (rho + paid b (some_send b 0 d.trace.state.places)) (drive_clock b x.ifindex x.time d) n.rated (omega (arith, n.sum, long))
+      goes_on k bound few within xs n.now (rho + paid b (some_send b 0 d.trace.state.places)) (drive_clock b x.ifindex x.time d) n.rated (omega (arith, n.sum, long))
+
+  -- no more than all
+  gave_few : (clocks : List Beside) (u rho : ℕ) (d : Driven) → Rated b ms most extra u rho d → length (drive b clocks d).trace.gave ≤ length ms
+  gave_few [] u rho d r = let c = subst (λ m. Counted m d) r.counts (counted (length ms) b d r.driving) in omega (arith, c.answers, c.frames, c.count)
+  gave_few (x ∷ xs) u rho d r = let n = steps x.ifindex x.time u rho d r in gave_few xs n.now (rho + paid b (some_send b 0 d.trace.state.places)) (drive_clock b x.ifindex x.time d) n.rated
 
 -- ---- from any reached state on
 
@@ -455,41 +463,91 @@ counts_reach n b (i ∷ is) t over v =
     let here = subst (λ l. Driving n b (record { left = l; trace = t })) same v in
     counts_reach n b is (next b i t) over (offered_on n b i t rest here).driving ∙ counts_stay n b i t rest here ∙ ap (λ l. all_counts (record { left = l; trace = t })) (sym same)
 
+from_start : (ms : List ℕ) (extra : ℕ → ℕ) (u n : ℕ) → u ≤ upto n ms → (e k : ℕ) (xs : List (Option Packet)) → n ≤ e → Placed (InTime ms extra u 0) e k xs
+from_start ms extra u n few e k [] l = tt
+from_start ms extra u n few e k (None ∷ xs) l = (tt, from_start ms extra u n few e (suc k) xs l)
+from_start ms extra u n few e k (Some x ∷ xs) l = (omega (arith, few, upto_more ms n (suc (e + inside xs)) (omega (arith, l))), from_start ms extra u n few e (suc k) xs l)
+
+module _ (b : Build) (maps : MapState) (slots : b.slots ≡ b.plan.last + 4) (frames : List (List ℕ)) (whole : AllByRecursion IsFrame frames) (late : ℕ) (close : FollowWithin b.plan.last frames late)
+    (is : List Input) (left : List Beat) (over : beats_in b is (new_state b maps) ++ left ≡ flat_map beats_of frames) where
+  abbrev ms : List ℕ
+  ms = frame_counts frames
+
+  abbrev reaching : Driven
+  reaching = record { left = left; trace = run b is (begin b maps) }
+
+  -- the beats whose answers are given count as clocks that have gone
+  abbrev gone : ℕ
+  gone = upto (length reaching.trace.gave) ms
+
+  count : length (frame_counts frames) ≡ length frames
+  count = frame_counts_length frames
+
+  positive : 1 ≤ b.slots
+  positive = omega (arith, slots)
+
+  begun : Driving (length frames) b (record { left = beats_in b is (new_state b maps) ++ left; trace = begin b maps })
+  begun = subst (λ l. Driving (length frames) b (record { left = l; trace = begin b maps })) (sym over) (begins_driving b maps frames whole)
+
+  reached : Driving (length frames) b reaching
+  reached = (reaches (length frames) b is (begin b maps) left begun).0
+
+  counts_are : all_counts reaching ≡ ms
+  counts_are = counts_reach (length frames) b is (begin b maps) left begun ∙ ap (λ l. all_counts (record { left = l; trace = begin b maps })) over ∙ coming_frames frames whole
+
+  counted_there : Counted ms reaching
+  counted_there = subst (λ l. Counted l reaching) counts_are (counted (length frames) b reaching reached)
+
+  rated : Rated b ms (most_beats frames) (lateness b late) gone 0 reaching
+  rated =
+      let c = counted_there in
+      let e = length reaching.trace.left in
+      let g = length reaching.trace.gave in
+      let y = e + inside reaching.trace.state.places in
+      record {
+        driving = subst (λ n. Driving n b reaching) (sym count) reached;
+        counts = counts_are;
+        gathers = λ l. omega (arith, c.part, upto_more ms g (length reaching.trace.came) (omega (arith, c.answers, c.frames)));
+        placing = record {
+          injects = λ l. omega (arith, upto_more ms g (suc y) (omega (arith, c.answers)));
+          moves = from_start ms (lateness b late) gone g (omega arith) e 0 reaching.trace.state.places (omega (arith, c.answers));
+        };
+        gives = λ l. omega (arith, c.give);
+      }
+
+  -- the first k answers are given
+  first_given : (clocks : List Beside) (k : ℕ) → k ≤ length frames → wait_clocks b.plan.last frames late k + commits_in b clocks reaching + reloads_in b clocks reaching * (b.plan.commit + 2) ≤ length clocks + beats_before (length reaching.trace.gave) frames
+      → k ≤ length (drive b clocks reaching).trace.gave
+  first_given clocks k few long =
+      let room : (i : ℕ) → i + b.slots ≡ i + b.plan.last + 4 = λ i. omega (arith, slots) in
+      let turns : late * ((k - 1) / b.slots) ≡ late * ((k - 1) / (b.plan.last + 4)) = ap (λ n. late * ((k - 1) / n)) slots in
+      goes_on b ms (most_beats frames) late (lateness b late) (lateness_rises b late positive) (lateness_jumps b late positive) positive
+      (λ i l. at_most (most_beats frames) frames (omega arith) i (omega (arith, l, count)))
+      (λ i l. omega (arith, close i (omega (arith, l, count, slots)), upto_frames (suc i) frames, upto_frames (i + b.slots) frames, ap (λ n. beats_before n frames) (room i)))
+      k (late * ((k - 1) / b.slots)) (omega (arith, few, count)) (λ g l. lateness_rises b late positive g (k - 1) (omega (arith, l)))
+      clocks gone 0 reaching rated (omega (arith, turns, upto_frames k frames, upto_frames (length reaching.trace.gave) frames, long))
+
+  gave_at_most : (clocks : List Beside) → length (drive b clocks reaching).trace.gave ≤ length frames
+  gave_at_most clocks =
+      let room : (i : ℕ) → i + b.slots ≡ i + b.plan.last + 4 = λ i. omega (arith, slots) in
+      let few = gave_few b ms (most_beats frames) late (lateness b late) (lateness_rises b late positive) (lateness_jumps b late positive) positive
+      (λ i l. at_most (most_beats frames) frames (omega arith) i (omega (arith, l, count)))
+      (λ i l. omega (arith, close i (omega (arith, l, count, slots)), upto_frames (suc i) frames, upto_frames (i + b.slots) frames, ap (λ n. beats_before n frames) (room i)))
+      clocks gone 0 reaching rated in
+      omega (arith, few, count)
+
+pub gives_first : GivesFirst
+gives_first b maps slots frames whole late close is left over clocks d is_it k few long =
+    subst (λ (e : Driven). k ≤ length (drive b clocks e).trace.gave) (sym is_it)
+    (first_given b maps slots frames whole late close is left over clocks k few
+    (subst (λ (e : Driven). wait_clocks b.plan.last frames late k + commits_in b clocks e + reloads_in b clocks e * (b.plan.commit + 2) ≤ length clocks + beats_before (length e.trace.gave) frames) is_it long))
+
 pub drives_at_line_rate : DrivesAtLineRate
 drives_at_line_rate b maps slots frames whole late close is left over clocks d is_it long =
-    let ms = frame_counts frames in
-    let most = most_beats frames in
-    let count = frame_counts_length frames in
-    let positive : 1 ≤ b.slots = omega (arith, slots) in
-    let reaching : Driven = record { left = left; trace = run b is (begin b maps) } in
-    let begun = subst (λ l. Driving (length frames) b (record { left = l; trace = begin b maps })) (sym over) (begins_driving b maps frames whole) in
-    let reached = (reaches (length frames) b is (begin b maps) left begun).0 in
-    let counts = counts_reach (length frames) b is (begin b maps) left begun ∙ ap (λ l. all_counts (record { left = l; trace = begin b maps })) over ∙ coming_frames frames whole in
-    let cs = subst (λ l. Counted l reaching) counts (counted (length frames) b reaching reached) in
-    let extra = lateness b late in
-    let rated : Rated b ms most extra 0 0 reaching = record {
-      driving = subst (λ n. Driving n b reaching) (sym count) reached;
-      counts = counts;
-      gathers = λ l. omega (arith, cs.part);
-      placing = record { injects = λ l. omega arith; moves = from_zero ms extra (length reaching.trace.left) 0 reaching.trace.state.places };
-      gives = λ l. omega (arith, cs.give);
-    } in
-    let all = upto_frames (length frames) frames in
-    let whole_total : total ms ≡ beats_before (length frames) frames = subst (λ k. upto k ms ≡ beats_before (length frames) frames) (sym count) all in
-    let room : (i : ℕ) → i + b.slots ≡ i + b.plan.last + 4 = λ i. omega (arith, slots) in
-    let turns : late * ((length frames - 1) / b.slots) ≡ late * ((length frames - 1) / (b.plan.last + 4)) = ap (λ k. late * ((length frames - 1) / k)) slots in
-    let ends = goes_on b ms most late extra (lateness_rises b late positive) (lateness_jumps b late positive) positive
-    (λ i l. at_most most frames (omega arith) i (omega (arith, l, count)))
-    (λ i l. omega (arith, close i (omega (arith, l, count, slots)), upto_frames (suc i) frames, upto_frames (i + b.slots) frames, ap (λ k. beats_before k frames) (room i)))
-    (late * ((length frames - 1) / b.slots)) (λ g l. lateness_rises b late positive g (length frames - 1) (omega (arith, l, count)))
-    clocks 0 0 reaching rated
-    (omega (arith, whole_total, turns, subst (λ k. line_clocks b.plan.last frames late + commits_in b clocks k + reloads_in b clocks k * (b.plan.commit + 2) ≤ length clocks) is_it long)) in
-    subst (λ k. length (drive b clocks k).trace.gave ≡ length frames) (sym is_it) (ends ∙ count)
-  where
-    from_zero : (ms : List ℕ) (extra : ℕ → ℕ) (e k : ℕ) (xs : List (Option Packet)) → Placed (InTime ms extra 0 0) e k xs
-    from_zero ms extra e k [] = tt
-    from_zero ms extra e k (None ∷ xs) = (tt, from_zero ms extra e (suc k) xs)
-    from_zero ms extra e k (Some x ∷ xs) = (omega arith, from_zero ms extra e (suc k) xs)
+    let here = subst (λ (e : Driven). line_clocks b.plan.last frames late + commits_in b clocks e + reloads_in b clocks e * (b.plan.commit + 2) ≤ length clocks) is_it long in
+    let first = first_given b maps slots frames whole late close is left over clocks (length frames) (omega arith) (omega (arith, here)) in
+    let few = gave_at_most b maps slots frames whole late close is left over clocks in
+    subst (λ (e : Driven). length (drive b clocks e).trace.gave ≡ length frames) (sym is_it) (omega (arith, first, few))
 
 -- ---- where nothing is sent back
 
@@ -512,3 +570,10 @@ late_drive_at_line_rate drives commits b maps fit sound slots is silent frames w
     (subst (λ (e : Driven). (ts : List Touched) → AllRun b.program maps (drive b (clocks ++ more) e).trace.came ts → all_writing ts ≤ q) is_it bound) in
     let here : commits_in b clocks d ≤ q = subst (λ (e : Driven). commits_in b clocks e ≤ q) (sym is_it) writes in
     drives b maps slots frames whole late close is left over clocks d is_it (omega (arith, here, enough))
+
+pub late_first_at_line_rate : GivesFirst → LateCommitsAreWrites → LateFirstAtLineRate
+late_first_at_line_rate first commits b maps fit sound slots is silent frames whole left over clocks more long d is_it q bound late close k few enough =
+    let writes = commits b maps fit sound slots is silent frames whole left over clocks more long q
+    (subst (λ (e : Driven). (ts : List Touched) → AllRun b.program maps (drive b (clocks ++ more) e).trace.came ts → all_writing ts ≤ q) is_it bound) in
+    let here : commits_in b clocks d ≤ q = subst (λ (e : Driven). commits_in b clocks e ≤ q) (sym is_it) writes in
+    first b maps slots frames whole late close is left over clocks d is_it k few (omega (arith, here, enough))

@@ -4,7 +4,7 @@ use Rattle.std.specs.List.{flat_map, AllByRecursion}
 use Rattle.realization.specs.beat_core.declared.beat.Beat.{Beat}
 use Rattle.realization.specs.beat_core.Beats.{beats_of}
 use Rattle.realization.specs.beat_core.Laws.{IsFrame}
-use Rattle.realization.specs.Bounds.{FollowWithin, line_clocks, all_writing}
+use Rattle.realization.specs.Bounds.{beats_before, FollowWithin, line_clocks, wait_clocks, all_writing}
 use Rattle.hazard_core.specs.xdp_maps.State.{MapState, IsSound}
 use Rattle.hazard_core.specs.xdp_machine.Touched.{Touched}
 use Rattle.hazard_core.specs.cell_core.Cells.{bit}
@@ -30,6 +30,15 @@ DrivesAtLineRate =
     → line_clocks b.plan.last frames late + commits_in b clocks d + reloads_in b clocks d * (b.plan.commit + 2) ≤ length clocks
     → length (drive b clocks d).trace.gave ≡ length frames
 
+-- The first k answers are given that early, beside the clocks of the beats whose answers were given before: so long a packet waits.
+abbrev pub GivesFirst : Type 0
+GivesFirst =
+    (b : Build) (maps : MapState) → b.slots ≡ b.plan.last + 4 → (frames : List (List ℕ)) → AllByRecursion IsFrame frames → (late : ℕ) → FollowWithin b.plan.last frames late
+    → (is : List Input) (left : List Beat) → beats_in b is (new_state b maps) ++ left ≡ flat_map beats_of frames
+    → (clocks : List Beside) (d : Driven) → d ≡ record { left = left; trace = run b is (begin b maps) } → (k : ℕ) → k ≤ length frames
+    → wait_clocks b.plan.last frames late k + commits_in b clocks d + reloads_in b clocks d * (b.plan.commit + 2) ≤ length clocks + beats_before (length d.trace.gave) frames
+    → k ≤ length (drive b clocks d).trace.gave
+
 -- So where no runs of the frames conflict a full drive takes the clocks of line rate, and one more for each operation of the runs that writes.
 abbrev pub FullDriveAtLineRate : Type 0
 FullDriveAtLineRate =
@@ -48,3 +57,14 @@ LateDriveAtLineRate =
     → (q : ℕ) → ((ts : List Touched) → AllRun b.program maps (drive b (clocks ++ more) d).trace.came ts → all_writing ts ≤ q)
     → (late : ℕ) → FollowWithin b.plan.last frames late → line_clocks b.plan.last frames late + q + reloads_in b clocks d * (b.plan.commit + 2) ≤ length clocks
     → length (drive b clocks d).trace.gave ≡ length frames
+
+-- and the first answers likewise
+abbrev pub LateFirstAtLineRate : Type 0
+LateFirstAtLineRate =
+    (b : Build) (maps : MapState) → IsPipelinable maps.decls b → IsSound maps → b.slots ≡ b.plan.last + 4 → (is : List Input) → AllByRecursion (λ i. i.host ≡ None) is
+    → (frames : List (List ℕ)) → AllByRecursion IsFrame frames → (left : List Beat) → beats_in b is (new_state b maps) ++ left ≡ flat_map beats_of frames
+    → (clocks more : List Beside) → clocks_of b frames + b.plan.last + 2 ≤ length (clocks ++ more) + 1 → (d : Driven) → d ≡ record { left = left; trace = run b is (begin b maps) }
+    → (q : ℕ) → ((ts : List Touched) → AllRun b.program maps (drive b (clocks ++ more) d).trace.came ts → all_writing ts ≤ q)
+    → (late : ℕ) → FollowWithin b.plan.last frames late → (k : ℕ) → k ≤ length frames
+    → wait_clocks b.plan.last frames late k + q + reloads_in b clocks d * (b.plan.commit + 2) ≤ length clocks + beats_before (length d.trace.gave) frames
+    → k ≤ length (drive b clocks d).trace.gave

@@ -9,7 +9,7 @@ ghost use Rattle.pipe_core.specs.Meeting.{TouchesWhatIsRead, ChangesAreWritten};
 ghost use Rattle.pipe_core.specs.ChangeCauses.{KeepsChangeCauses, BeginsChangeCauses, ReadsNothingWritten};
 ghost use Rattle.pipe_core.specs.Found.{KeepsFound, BeginsFound};
 ghost use Rattle.pipe_core.specs.Unconflicting.{NothingMustReload, StaysForward, EndsWithoutConflicts};
-ghost use Rattle.pipe_core.specs.LineRate.{DrivesAtLineRate, FullDriveAtLineRate, LateDriveAtLineRate};
+ghost use Rattle.pipe_core.specs.LineRate.{DrivesAtLineRate, FullDriveAtLineRate, LateDriveAtLineRate, GivesFirst, LateFirstAtLineRate};
 ghost use Rattle.pipe_core.specs.Sending.{AlwaysSendsBack};
 ghost use Rattle.pipe_core.specs.Agreement.{EnteringAgrees, MarkingAgrees};
 ghost use Rattle.pipe_core.specs.Agreed.{KeepsAgreed, PathsAreMade};
@@ -235,6 +235,8 @@ pub fn line_rate()
     ensures drives { DrivesAtLineRate }
     ensures full { FullDriveAtLineRate }
     ensures late { LateDriveAtLineRate }
+    ensures first { GivesFirst }
+    ensures late_first { LateFirstAtLineRate }
 {
     ends_without_conflicts();
     commits();

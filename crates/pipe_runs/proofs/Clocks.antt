@@ -15,11 +15,11 @@ use Rattle.pipe_core.specs.History.{Trace, run, begin}
 use Rattle.pipe_core.specs.Drive.{Driven, Beside, drive, drive_start, clocks_of, beats_in, EndsInTime, EndsLate}
 use Rattle.pipe_core.specs.Apart.{AllRun, ConflictFree}
 use Rattle.pipe_core.specs.Unconflicting.{EndsWithoutConflicts}
-use Rattle.pipe_core.specs.LineRate.{FullDriveAtLineRate, LateDriveAtLineRate}
+use Rattle.pipe_core.specs.LineRate.{reloads_in, FullDriveAtLineRate, LateDriveAtLineRate, LateFirstAtLineRate}
 use Rattle.pipe_core.specs.Pipeable.{IsPipelinable}
 use Rattle.pipe_core.specs.HostRuns.Inputs.{input_of}
 use Rattle.pipe_core.specs.HostRuns.Silent.{silent, ReadsAreSilent, RunsAreSilent}
-use Rattle.pipe_core.specs.realization.Bounds.{all_writing, most_beats, clock_bound, clock_bound_apart, beats_before, FollowWithin, line_clocks}
+use Rattle.pipe_core.specs.realization.Bounds.{all_writing, most_beats, clock_bound, clock_bound_apart, beats_before, FollowWithin, line_clocks, wait_clocks}
 use Rattle.pipe_core.specs.realization.Realizes.{IsPacket, frames_in, all_offers, beats_offered}
 use Rattle.pipe_core.proofs.realization_laws.LineLaws.{equal_before, equal_most, equal_follow}
 use Rattle.pipe_runs.specs.PipePorts.Followed.{WriteNothing, ran}
@@ -37,6 +37,7 @@ pub record ClockLaws : Type 0 where
   pub apart : EndsWithoutConflicts
   pub line : FullDriveAtLineRate
   pub sent : LateDriveAtLineRate
+  pub first : LateFirstAtLineRate
 
 pub as_many_frames : (packets : List Arrival) → length (frames_in packets) ≡ length packets
 as_many_frames [] = refl
@@ -83,28 +84,56 @@ module _ (laws : ClockLaws) (b : Build) (maps : MapState) (pipelinable : IsPipel
       clocks (omega (arith, late_enough b frames, many, length_besides b limit t left)))
 
   -- ---- the same at line rate, whatever is sent back: in as many clocks as needed all of them have come
-  pub gives_sent : (is : List Inputs) → WriteNothing is → (left : List Offered)
-      → map filled_up (beats_in b (map (λ (i : Inputs). silent (input_of i)) is) (new_state b maps)) ++ beats_offered left ≡ flat_map beats_of frames
-      → (limit late : ℕ) (ts : List Touched) → Touch b maps packets ts → FollowWithin b.plan.last frames late
-      → (behind b (limit + clock_bound (length packets + 1) b.plan.last (most_beats frames) (record_count b.program.sites)) (ran b maps is) left).came ≡ packets
-      → line_clocks b.plan.last frames late + all_writing ts + reloads_by b limit (ran b maps is) left * (b.plan.commit + 2) ≤ limit → Gives (ran b maps is) left limit
-  gives_sent is quiet left over limit late ts touch follow came long =
-      let t = ran b maps is in
-      let more = clock_bound (length packets + 1) b.plan.last (most_beats frames) (record_count b.program.sites) in
-      let clocks = besides b limit t left in
-      let later = besides b more (behind b limit t left) (left_behind b limit t left) in
-      let all : clocks ++ later ≡ besides b (limit + more) t left = sym (besides_more b limit more (limit + more) refl t left) in
-      let same : run b (quiet_filled is) (begin b maps) ≡ t = run_quiet b is (begin b maps) ∙ sym (laws.silence b is quiet (begin b maps)) in
-      let driven : (drive b (clocks ++ later) (drive_from t left)).trace.came ≡ packets =
-      ap (λ (xs : List Beside). (drive b xs (drive_from t left)).trace.came) all ∙ ap (λ (d : Driven). d.trace.came) (same_drive laws.reads b (limit + more) t left) ∙ came in
-      let many : clock_bound (length frames + 1) b.plan.last (most_beats frames) (record_count b.program.sites) ≡ more = ap (λ n. clock_bound (n + 1) b.plan.last (most_beats frames) (record_count b.program.sites)) (as_many_frames packets) in
-      let sent = ap (λ n. n * (b.plan.commit + 2)) (same_reloads laws.reads b limit t left) in
-      given_by t left limit
-      (laws.sent b maps pipelinable sound slots (quiet_filled is) (all_silent is) frames (frames_of_packets packets are) (beats_offered left) (ap (λ bs. bs ++ beats_offered left) (beats_quiet b is (new_state b maps)) ∙ over)
-      clocks later (omega (arith, late_enough b frames, many, ap length all, length_besides b (limit + more) t left))
-      (drive_from t left) (ap (λ (u : Trace). drive_from u left) (sym same)) (all_writing ts)
-      (λ us run. subst (λ vs. all_writing us ≤ all_writing vs) (touch are us (subst (λ (cs : List Arrival). AllRun b.program maps cs us) driven run)) (omega arith))
-      late follow (omega (arith, long, sent, length_besides b limit t left)))
+  module _ (is : List Inputs) (quiet : WriteNothing is) (left : List Offered) (over : map filled_up (beats_in b (map (λ (i : Inputs). silent (input_of i)) is) (new_state b maps)) ++ beats_offered left ≡ flat_map beats_of frames)
+      (limit late : ℕ) (ts : List Touched) (touches : Touch b maps packets ts) (follow : FollowWithin b.plan.last frames late)
+      (came : (behind b (limit + clock_bound (length packets + 1) b.plan.last (most_beats frames) (record_count b.program.sites)) (ran b maps is) left).came ≡ packets) where
+    abbrev from : Trace
+    from = ran b maps is
+
+    abbrev late_more : ℕ
+    late_more = clock_bound (length packets + 1) b.plan.last (most_beats frames) (record_count b.program.sites)
+
+    abbrev late_clocks : List Beside
+    late_clocks = besides b limit from left
+
+    abbrev late_later : List Beside
+    late_later = besides b late_more (behind b limit from left) (left_behind b limit from left)
+
+    late_all : late_clocks ++ late_later ≡ besides b (limit + late_more) from left
+    late_all = sym (besides_more b limit late_more (limit + late_more) refl from left)
+
+    same_run : run b (quiet_filled is) (begin b maps) ≡ from
+    same_run = run_quiet b is (begin b maps) ∙ sym (laws.silence b is quiet (begin b maps))
+
+    late_driven : (drive b (late_clocks ++ late_later) (drive_from from left)).trace.came ≡ packets
+    late_driven = ap (λ (xs : List Beside). (drive b xs (drive_from from left)).trace.came) late_all ∙ ap (λ (d : Driven). d.trace.came) (same_drive laws.reads b (limit + late_more) from left) ∙ came
+
+    late_long : clocks_of b frames + b.plan.last + 2 ≤ length (late_clocks ++ late_later) + 1
+    late_long =
+        let many : clock_bound (length frames + 1) b.plan.last (most_beats frames) (record_count b.program.sites) ≡ late_more = ap (λ n. clock_bound (n + 1) b.plan.last (most_beats frames) (record_count b.program.sites)) (as_many_frames packets) in
+        omega (arith, late_enough b frames, many, ap length late_all, length_besides b (limit + late_more) from left)
+
+    late_writes : (us : List Touched) → AllRun b.program maps (drive b (late_clocks ++ late_later) (drive_from from left)).trace.came us → all_writing us ≤ all_writing ts
+    late_writes us run = subst (λ vs. all_writing us ≤ all_writing vs) (touches are us (subst (λ (cs : List Arrival). AllRun b.program maps cs us) late_driven run)) (omega arith)
+
+    reloads : reloads_in b late_clocks (drive_from from left) * (b.plan.commit + 2) ≡ reloads_by b limit from left * (b.plan.commit + 2)
+    reloads = ap (λ n. n * (b.plan.commit + 2)) (same_reloads laws.reads b limit from left)
+
+    over_quiet : beats_in b (quiet_filled is) (new_state b maps) ++ beats_offered left ≡ flat_map beats_of frames
+    over_quiet = ap (λ bs. bs ++ beats_offered left) (beats_quiet b is (new_state b maps)) ∙ over
+
+    pub gives_sent : line_clocks b.plan.last frames late + all_writing ts + reloads_by b limit from left * (b.plan.commit + 2) ≤ limit → Gives from left limit
+    gives_sent long =
+        given_by from left limit
+        (laws.sent b maps pipelinable sound slots (quiet_filled is) (all_silent is) frames (frames_of_packets packets are) (beats_offered left) over_quiet late_clocks late_later late_long
+        (drive_from from left) (ap (λ (u : Trace). drive_from u left) (sym same_run)) (all_writing ts) late_writes late follow (omega (arith, long, reloads, length_besides b limit from left)))
+
+    -- the first k answers
+    pub gives_some : (k : ℕ) → k ≤ length packets → wait_clocks b.plan.last frames late k + all_writing ts + reloads_by b limit from left * (b.plan.commit + 2) ≤ limit + beats_before (length from.gave) frames → k ≤ length (behind b limit from left).gave
+    gives_some k few long =
+        subst (λ (d : Driven). k ≤ length d.trace.gave) (same_drive laws.reads b limit from left)
+        (laws.first b maps pipelinable sound slots (quiet_filled is) (all_silent is) frames (frames_of_packets packets are) (beats_offered left) over_quiet late_clocks late_later late_long
+        (drive_from from left) (ap (λ (u : Trace). drive_from u left) (sym same_run)) (all_writing ts) late_writes late follow k (omega (arith, few, as_many_frames packets)) (omega (arith, long, reloads, length_besides b limit from left)))
 
   -- ---- packets that do not conflict: in as many clocks as needed all of them have come
   abbrev all_clocks : ℕ → ℕ

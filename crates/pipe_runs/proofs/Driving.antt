@@ -149,3 +149,31 @@ module _ (shows : PortsShowClocks) (b : Build) (d : Netlist) where
       by_bit : (c : Bool) → (if c then 1 else 0) ≡ bit c
       by_bit true = refl
       by_bit false = refl
+
+  -- The drive's clocks are the first ones of the machine's drive: all of them, or as many as give so many answers.
+  pub record RunsOn (t : Trace) (s : Stored) (left : List Offered) (limit n : ℕ) (r : Drive) : Type 0 where
+    pub clocks : ℕ
+    pub same : r.trace ≡ trace d s (driven b clocks t left)
+    pub all : (clocks ≡ limit) ⊎ (n ≤ length (behind b clocks t left).gave)
+
+  pub runs_on : (limit : ℕ) (t : Trace) (s : Stored) (left : List Offered) (owed n : ℕ) → FollowsAlways b d (driven b limit t left) t s → owed + length t.gave ≡ n → RunsOn t s left limit n (drive d s left owed limit)
+  runs_on limit t s left zero n h owes = subst (RunsOn t s left limit n) (sym (drive_none d s left limit)) (record { clocks = 0; same = refl; all = inr (omega (arith, owes)) })
+  runs_on zero t s left (suc owed) n h owes = subst (RunsOn t s left 0 n) (sym (drive_out d s left owed)) (record { clocks = 0; same = refl; all = inl refl })
+  runs_on (suc limit) t s left (suc owed) n h owes =
+      let i : Inputs = drive_inputs left in
+      let at = shown d (words_of i) s in
+      let m : Cycle = cycle i at in
+      let sh : ShowsClock b t.state i at = shows b t.state i at h.1 in
+      let left_then : left_after m left ≡ left_by (is_ready b t.state) left = left_is (is_ready b t.state) left at sh.ready in
+      let t' = next b (input_of i) t in
+      let s' = after d (words_of i) s in
+      let r = runs_on limit t' s' (left_by (is_ready b t.state) left) (owed_after m (suc owed)) n h.2 (omega (arith, gave_length t (input_of i), sh.owes owed, owes)) in
+      let q = subst (λ (os : List Offered). RunsOn t' s' (left_by (is_ready b t.state) left) limit n (drive d s' os (owed_after m (suc owed)) limit)) (sym left_then) r in
+      subst (RunsOn t s left (suc limit) n) (sym (drive_step d s left owed limit h.0)) (record {
+        clocks = suc q.clocks;
+        same = ap (λ ms. m ∷ ms) q.same;
+        all = elim q.all [
+          | inl e ↦ inl (ap suc e)
+          | inr g ↦ inr g
+        ];
+      })

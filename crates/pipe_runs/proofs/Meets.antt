@@ -32,7 +32,7 @@ use Rattle.pipe_runs.specs.PipeAnswers.Coming.{AllMayCome, HostMayCome}
 use Rattle.pipe_runs.specs.PipeAnswers.Following.{FollowsAlways}
 use Rattle.pipe_runs.specs.PipeAnswers.Runs.{ReadsRunInTurn}
 use Rattle.pipe_runs.specs.PipeAnswers.Dumps.{RunsGoOn, DumpsAreShown}
-use Rattle.pipe_core.specs.realization.Bounds.{most_beats, clock_bound, clock_bound_apart, FollowWithin, line_clocks, all_writing}
+use Rattle.pipe_core.specs.realization.Bounds.{most_beats, clock_bound, clock_bound_apart, beats_before, FollowWithin, line_clocks, wait_clocks, all_writing}
 use Rattle.pipe_core.specs.realization.Realizes.{IsPattern, IsPacket, IsBeside, IsWhole, IsAmid, Meets, drive_on, frames_in, all_offers, beats_offered, inputs_in}
 use Rattle.pipe_runs.specs.PipePorts.Answered.{AreAnswered}
 use Rattle.pipe_runs.specs.PipePorts.Followed.{WriteNothing, IsFollowed, ran}
@@ -46,8 +46,8 @@ use Rattle.pipe_runs.proofs.Reading.{silent_append, dumps_write_nothing}
 use Rattle.pipe_runs.proofs.Filled.{quiet}
 use Rattle.pipe_runs.proofs.Drives.{Fits, driven, left_behind, behind, reloads_by, drives_silent}
 use Rattle.pipe_runs.proofs.Coming.{drives_come, part_open}
-use Rattle.pipe_runs.proofs.Clocks.{ClockLaws, gives_in_time, gives_late, gives_sent, gives_apart, gives_at_line_rate, gives_of_equal}
-use Rattle.pipe_runs.proofs.Driving.{DrivesTo, drives, drives_over, never_stops, gave_on, sends, inputs_of_trace}
+use Rattle.pipe_runs.proofs.Clocks.{ClockLaws, gives_in_time, gives_late, gives_sent, gives_some, gives_apart, gives_at_line_rate, gives_of_equal}
+use Rattle.pipe_runs.proofs.Driving.{DrivesTo, drives, drives_over, never_stops, gave_on, sends, RunsOn, runs_on, inputs_of_trace}
 use Rattle.pipe_runs.proofs.Ending.{given_few, IsEnded, ended}
 use Rattle.pipe_runs.proofs.Bounds.{all_filled, all_behind, all_fit, all_beside}
 
@@ -326,6 +326,36 @@ module _ (laws : AllLaws) (l : Layout) (maps : MapState) (n : Netlist) (st : Sto
         sent : (length packets ≤ length (behind b limit (ran b maps is) left).gave) ⊎ (reloads_by b limit (ran b maps is) left ≤ reload_clocks (drive_on n st is packets left limit).trace)
         sent = sends laws.shows b n limit (ran b maps is) (stored_after n st is) left (length packets - length (answers_given [] (trace n st is))) (length packets) follows_on owes_on
 
+    -- the first k answers: all are given, or the drive has shown what packets that were sent back cost
+    module _ (late k : ℕ) (ts : List Touched) (touch : Touch b maps packets ts) (follow : FollowWithin (last_of l) (frames_in packets) late) (within : k ≤ length packets)
+        (long : wait_clocks (last_of l) (frames_in packets) late k + all_writing ts + reload_clocks (drive_on n st is packets left limit).trace * (b.plan.commit + 2) ≤ limit + beats_before (length (answers_given [] (trace n st is))) (frames_in packets)) where
+      ran_on : RunsOn laws.shows b n (ran b maps is) (stored_after n st is) left limit (length packets) (drive_on n st is packets left limit)
+      ran_on = runs_on laws.shows b n limit (ran b maps is) (stored_after n st is) left (length packets - length (answers_given [] (trace n st is))) (length packets) follows_on owes_on
+
+      given_there : (m : ℕ) → (drive_on n st is packets left limit).trace ≡ trace n (stored_after n st is) (driven b m (ran b maps is) left)
+          → length (answers_given [] (trace n st is ++ (drive_on n st is packets left limit).trace)) ≡ length (behind b m (ran b maps is) left).gave
+      given_there m traced =
+          let same = end_is is in_pattern packets amid.are left amid.beside amid.beats amid.frames m in
+          let whole = whole_trace is in_pattern packets amid.are left amid.beside amid.beats amid.frames m in
+          let told = (history is in_pattern packets amid.are left amid.beside amid.beats amid.frames m).gave in
+          ap length (ap (λ ms. answers_given [] (trace n st is ++ ms)) traced ∙ sym (told ∙ ap (answers_given []) whole)) ∙ ap (λ (t : Trace). length t.gave) same
+
+      all_clocks : k ≤ length (behind b limit (ran b maps is) left).gave
+      all_clocks = elim (sends laws.shows b n limit (ran b maps is) (stored_after n st is) left (length packets - length (answers_given [] (trace n st is))) (length packets) follows_on owes_on) [
+        | inl all ↦ omega (arith, all, within)
+        | inr shown ↦
+            let paid = mul-le-mul_left (b.plan.commit + 2) shown in
+            let before = ap (λ gave. beats_before (length gave) (frames_in packets)) in_pattern.history.gave in
+            gives_some laws.clocks b maps followed.pipelinable followed.sound slots packets amid.are is in_pattern.silent left (ap (λ bs. map filled_up bs ++ beats_offered left) (sym in_pattern.history.beats) ∙ amid.beats)
+            limit late ts touch follow packets_there k within (omega (arith, long, paid, before))
+      ]
+
+      some_given : k ≤ length (answers_given [] (trace n st is ++ (drive_on n st is packets left limit).trace))
+      some_given = elim ran_on.all [
+        | inl whole ↦ omega (arith, given_there ran_on.clocks ran_on.same, ap (λ m. length (behind b m (ran b maps is) left).gave) whole, all_clocks)
+        | inr all ↦ omega (arith, given_there ran_on.clocks ran_on.same, all, within)
+      ]
+
   pub meets : Meets n st wanted (Touch b maps) (DoNotConflict b maps) (last_of l) (record_count b.program.sites)
   meets = record {
     safe = λ is p. laws.safe b maps n st followed is p;
@@ -338,6 +368,7 @@ module _ (laws : AllLaws) (l : Layout) (maps : MapState) (n : Netlist) (st : Sto
       before = followed.pipelinable.rows.commit;
       goes_on = λ is packets left limit w amid stopped. goes_on is packets left limit amid w stopped;
       drives = λ is packets left limit late ts amid touched follow long. whole_sent is packets left limit amid late ts touched follow long;
+      waits = λ is packets left limit late k ts amid touched follow few long. some_given is packets left limit amid late k ts touched follow few long;
       follow = λ packets limit late ts are apart follow long. whole_at_line_rate packets are limit ts apart late follow long;
       equal = λ packets limit beats ts are apart equal long. whole_of_equal packets are limit ts apart beats equal long;
     };

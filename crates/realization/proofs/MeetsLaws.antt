@@ -57,6 +57,7 @@ meets_more d s wanted wider touch finer apart closer stages more_stages records 
         whole_more d s wanted wider wants [] (drive d s (all_offers packets) (length packets) limit) packets are (m.at_line_rate.follow packets limit late ts are (aparts packets ts close) follow enough);
     equal = λ packets limit beats ts are close same enough.
         whole_more d s wanted wider wants [] (drive d s (all_offers packets) (length packets) limit) packets are (m.at_line_rate.equal packets limit beats ts are (aparts packets ts close) same (omega (arith, enough, few_stages)));
+    waits = λ is packets left limit late k ts amid touched follow few enough. m.at_line_rate.waits is packets left limit late k ts amid (touches packets ts touched) follow few enough;
   };
   late = λ is packets left limit pattern are beside beats frames enough.
       whole_more d s wanted wider wants is (drive d (stored_after d s is) left (length packets - length (answers_given [] (trace d s is))) limit) packets are

@@ -56,6 +56,10 @@ FollowWithin s frames late = (i : ℕ) → i + s + 4 < length frames → beats_b
 abbrev pub line_clocks : ℕ → List (List ℕ) → ℕ → ℕ
 line_clocks s frames late = beats_before (length frames) frames + most_beats frames + s + 2 + late * ((length frames - 1) / (s + 4))
 
+-- The clocks until the first k answers are given: as long as line rate takes for the beats of their frames.
+abbrev pub wait_clocks : ℕ → List (List ℕ) → ℕ → ℕ → ℕ
+wait_clocks s frames late k = beats_before k frames + most_beats frames + s + 2 + late * ((k - 1) / (s + 4))
+
 -- how many operations of these runs write
 abbrev pub all_writing : List Touched → ℕ
 all_writing [] = 0

@@ -19,7 +19,7 @@ use Rattle.net_core.specs.Trace.{Cycle, trace, stored_after, NeverStops, IsInput
 use Rattle.beat_core.specs.declared.answer.Answer.{Answer}
 use Rattle.realization.specs.History.{beats_in, offers_in, Arrival, arrivals, answers_given, open_beats, reload_clocks, Drive, Answered, Stopped, drive}
 use Rattle.realization.specs.HostHistory.Host.{ShowsMaps}
-use Rattle.realization.specs.Bounds.{clock_bound, clock_bound_apart, most_beats, FollowWithin, line_clocks, all_writing}
+use Rattle.realization.specs.Bounds.{clock_bound, clock_bound_apart, most_beats, beats_before, FollowWithin, line_clocks, wait_clocks, all_writing}
 
 -- Clocks with the host silent and offers well formed: each beat that goes over has 8 bytes unless it is a last one with 1 to 8,
 -- and a frame has at least one beat and no more than the bound.
@@ -102,6 +102,10 @@ pub record AtLineRate (d : Netlist) (s : Stored) (wanted : List Arrival → List
   pub drives : (is : List Inputs) (packets : List Arrival) (left : List Offered) (limit late : ℕ) (ts : List Touched) → IsAmid d s is packets left → touch packets ts → FollowWithin last (frames_in packets) late →
       line_clocks last (frames_in packets) late + all_writing ts + reload_clocks (drive_on d s is packets left limit).trace * (commit + 2) ≤ limit →
       IsWhole d s is (drive_on d s is packets left limit) packets wanted
+  -- So long a packet waits at most: the first k answers are given, once these clocks have gone beside those of the beats whose answers were given before.
+  pub waits : (is : List Inputs) (packets : List Arrival) (left : List Offered) (limit late k : ℕ) (ts : List Touched) → IsAmid d s is packets left → touch packets ts → FollowWithin last (frames_in packets) late → k ≤ length packets →
+      wait_clocks last (frames_in packets) late k + all_writing ts + reload_clocks (drive_on d s is packets left limit).trace * (commit + 2) ≤ limit + beats_before (length (answers_given [] (trace d s is))) (frames_in packets) →
+      k ≤ length (answers_given [] (trace d s is ++ (drive_on d s is packets left limit).trace))
   -- from the first clock on, of packets that are apart
   pub follow : (packets : List Arrival) (limit late : ℕ) (ts : List Touched) → AllByRecursion IsPacket packets → apart packets ts →
       FollowWithin last (frames_in packets) late → line_clocks last (frames_in packets) late + all_writing ts ≤ limit →

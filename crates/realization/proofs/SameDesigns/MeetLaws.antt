@@ -10,7 +10,7 @@ use Rattle.net_core.specs.Nets.{Netlist}
 use Rattle.net_core.specs.Clock.{Stored}
 use Rattle.net_core.specs.Trace.{Cycle, stored_after, trace}
 use Rattle.realization.specs.History.{Arrival, Drive, drive, answers_given, beats_in, reload_clocks}
-use Rattle.realization.specs.Bounds.{line_clocks, all_writing}
+use Rattle.realization.specs.Bounds.{beats_before, line_clocks, wait_clocks, all_writing}
 use Rattle.realization.specs.HostHistory.Host.{ShowsMaps, dump}
 use Rattle.net_core.specs.SameClocks.Same.{reached, ShowTheSame}
 use Rattle.net_core.proofs.SameClocks.SameLaws.{never_from}
@@ -107,6 +107,14 @@ same_designs_meet a b same before wanted touch apart stages records m = record {
         let clocks = subst (λ (r : Drive). line_clocks m.at_line_rate.last (frames_in packets) late + all_writing ts + reload_clocks r.trace * (m.at_line_rate.commit + 2) ≤ limit) own enough in
         subst (λ (r : Drive). IsWhole b (reached b before) is r packets wanted) (sym own)
         (same_whole a b same before wanted is (drive_on a (reached a before) is packets left limit) packets (m.at_line_rate.drives is packets left limit late ts mine touched follow clocks));
+    waits = λ is packets left limit late k ts amid touched follow few enough.
+        let mine = same_amid a b same before is packets left amid in
+        let e = same_trace a b same before is in
+        let own = driven_on a b same before is packets left limit (λ v. m.at_line_rate.goes_on is packets left limit v mine) in
+        let clocks = subst (λ (r : Drive). wait_clocks m.at_line_rate.last (frames_in packets) late k + all_writing ts + reload_clocks r.trace * (m.at_line_rate.commit + 2) ≤ limit + beats_before (length (answers_given [] (trace a (reached a before) is))) (frames_in packets)) own
+        (subst (λ (ms : List Cycle). wait_clocks m.at_line_rate.last (frames_in packets) late k + all_writing ts + reload_clocks (drive_on b (reached b before) is packets left limit).trace * (m.at_line_rate.commit + 2) ≤ limit + beats_before (length (answers_given [] ms)) (frames_in packets)) e enough) in
+        subst (λ (ms : List Cycle). k ≤ length (answers_given [] (ms ++ (drive_on b (reached b before) is packets left limit).trace))) (sym e)
+        (subst (λ (r : Drive). k ≤ length (answers_given [] (trace a (reached a before) is ++ r.trace))) (sym own) (m.at_line_rate.waits is packets left limit late k ts mine touched follow few clocks));
     follow = λ packets limit late ts are close follow enough.
         same_driven a b same before wanted [] (all_offers packets) (length packets) limit packets (m.at_line_rate.follow packets limit late ts are close follow enough);
     equal = λ packets limit beats ts are close alike enough.

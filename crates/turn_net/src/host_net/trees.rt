@@ -4,6 +4,7 @@ ghost use Rattle.std.specs.Prelude.{◌≡◌, ◌++◌, [], ◌∷◌, IfOk, On
 ghost use Rattle.net_core.specs.Nets.{RPlain};
 ghost use Rattle.net_core.specs.View.{tree_of};
 ghost use Rattle.block_core.specs.View.{block_of, block_wire_of};
+ghost use Rattle.cell_nets.specs.OperandBlocks.Wiring as wiring;
 ghost use Rattle.turn_net.specs.HostNet.Trees as trees;
 
 use block_core::block::{Block, BlockWire};
@@ -47,7 +48,7 @@ pub(crate) fn of_wires<P: Copy>(
     alloc: Global,
     wires: Vec<BlockWire<Name<P>>>,
 ) -> Result<Block<Name<P>>, AllocError>
-    ensures { IfOk result (λ b. block_of b ≡ trees.of_wires (map block_wire_of wires.items)) }
+    ensures { IfOk result (λ b. block_of b ≡ wiring.wires_block (map block_wire_of wires.items)) }
 {
     let statement = block(alloc, Stmts::End)?;
     Ok(Block {

@@ -11,6 +11,7 @@ returns c = followers_meet (record {
     apart = c.ends_without_conflicts.ensures.ends;
     line = c.line_rate.ensures.full;
     sent = c.line_rate.ensures.late;
+    first = c.line_rate.ensures.late_first;
   };
   order = c.in_order.ensures.always;
   fit = c.loads_fit.ensures;
