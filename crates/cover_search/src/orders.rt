@@ -40,10 +40,10 @@ impl Tour {
     }
 
     fn push_some(&mut self, to: Option<u32>) -> Result<(), AllocError> {
-        match to {
-            Some(n) => self.turns.push(Turn::Enter(n)),
-            None => Ok(()),
+        if let Some(n) = to {
+            self.turns.push(Turn::Enter(n))?;
         }
+        Ok(())
     }
 
     // Enters a stop, if it is new: where its jump leads comes first.

@@ -22,13 +22,7 @@ fn legal(unit: Option<Insn>) -> Option<Insn>
     ensures { IfSome result IsInsn }
 {
     match unit {
-        Some(insn) => {
-            if insn.is_legal() {
-                Some(insn)
-            } else {
-                None
-            }
-        }
+        Some(insn) => { if insn.is_legal() { Some(insn) } else { None } }
         None => None,
     }
 }

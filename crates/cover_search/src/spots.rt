@@ -27,10 +27,7 @@ fn holds_both(l: Loop, p: u32, q: u32) -> bool {
 /// Whether a spot comes before another one: by their copies of the loops that hold both places, outermost first, and then by place.
 pub(crate) fn comes_before(loops: &[Loop], a: &Spot, b: &Spot) -> bool {
     for k in 0..MOST_LOOPS {
-        if k < loops.len()
-            && holds_both(loops[k], a.place, b.place)
-            && a.copies[k] != b.copies[k]
-        {
+        if k < loops.len() && holds_both(loops[k], a.place, b.place) && a.copies[k] != b.copies[k] {
             return a.copies[k] < b.copies[k];
         }
     }

@@ -179,7 +179,9 @@ fn demand_at(
     if seeds.is_none() {
         return false;
     }
-    wanted.fill(Locations::NONE);
+    for set in wanted.iter_mut() {
+        *set = Locations::NONE;
+    }
     trace_all(source, demands, stops, visited, wanted, seeds);
     demands.take_fresh()
 }
