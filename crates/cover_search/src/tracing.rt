@@ -5,7 +5,7 @@ ghost use Rattle.xdp_machine.specs.bpf_isa.Spelling.{IsInsn};
 use crate::agreeing::{is_open, kind_of};
 use crate::demands::Demands;
 use crate::flow::flow_of;
-use crate::graph::{Graph, Stop, stop_at};
+use crate::graph::{Graph, Stop};
 use crate::locations::Locations;
 use crate::source::{Source, insn_at, set_at};
 use cover_core::equal_side;
@@ -94,8 +94,8 @@ fn trace_all(
     let mut first = seeds;
     for back in 0..visited.len() {
         let n = visited[visited.len() - 1 - back];
-        if let Some(stop) = stop_at(stops, n) {
-            trace_stop(source, demands, &stop, wanted, n, first);
+        if (n as usize) < stops.len() {
+            trace_stop(source, demands, &stops[n as usize], wanted, n, first);
             first = Locations::NONE;
         }
     }
@@ -198,8 +198,8 @@ fn demand_all(
     for back in 0..visited.len() {
         let up_to = &visited[..visited.len() - back];
         let n = up_to[up_to.len() - 1];
-        if let Some(stop) = stop_at(stops, n) {
-            let seeds = seeds_of(source, &stop, leads, n, back == 0);
+        if (n as usize) < stops.len() {
+            let seeds = seeds_of(source, &stops[n as usize], leads, n, back == 0);
             if demand_at(source, demands, stops, up_to, wanted, seeds) {
                 return true;
             }

@@ -43,22 +43,22 @@ fn led_to(loops: &[Loop], from: &Spot, insn: &Insn, taken: bool) -> Option<Spot>
 }
 
 /// Where a run goes on from a spot without a test: to another one, not from here, or nowhere.
-enum Hop {
+enum Onward {
     To(Spot),
     Here,
     Nowhere,
 }
 
-fn hop(source: &Source<'_>, at: &Spot, kinds: &Kinds) -> Hop {
+fn hop(source: &Source<'_>, at: &Spot, kinds: &Kinds) -> Onward {
     let Some(insn) = insn_at(source.units, at.place) else {
-        return Hop::Nowhere;
+        return Onward::Nowhere;
     };
     let Some(taken) = sure_side(&insn, kinds) else {
-        return Hop::Here;
+        return Onward::Here;
     };
     match led_to(source.loops, at, &insn, taken) {
-        Some(spot) => Hop::To(spot),
-        None => Hop::Nowhere,
+        Some(spot) => Onward::To(spot),
+        None => Onward::Nowhere,
     }
 }
 
@@ -67,9 +67,9 @@ pub(crate) fn settled(source: &Source<'_>, from: &Spot, kinds: &Kinds) -> Option
     let mut at = *from;
     for _hop in 0..source.units.len() {
         match hop(source, &at, kinds) {
-            Hop::To(spot) => at = spot,
-            Hop::Here => return Some(at),
-            Hop::Nowhere => return None,
+            Onward::To(spot) => at = spot,
+            Onward::Here => return Some(at),
+            Onward::Nowhere => return None,
         }
     }
     None
@@ -182,8 +182,8 @@ fn leave(
     let Some(spot) = settled_behind(source, stop, insn, &kinds, taken) else {
         return Ok(false);
     };
-    let told = told(demands, stop, insn, taken);
-    match arrive_behind(source, demands, graph, &spot, &kinds, told)? {
+    let number = told(demands, stop, insn, taken);
+    match arrive_behind(source, demands, graph, &spot, &kinds, number)? {
         Some(to) => {
             link(&mut graph.stops, n, taken, to);
             Ok(true)
