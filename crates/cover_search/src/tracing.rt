@@ -196,8 +196,8 @@ fn demand_all(
     wanted: &mut [Locations],
 ) -> bool {
     for back in 0..visited.len() {
+        let n = visited[visited.len() - 1 - back];
         let up_to = &visited[..visited.len() - back];
-        let n = up_to[up_to.len() - 1];
         if (n as usize) < stops.len() {
             let seeds = seeds_of(source, &stops[n as usize], leads, n, back == 0);
             if demand_at(source, demands, stops, up_to, wanted, seeds) {
