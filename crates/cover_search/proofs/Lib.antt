@@ -1,0 +1,1 @@
+pub use Rattle.cover_core.proofs as cover_core_laws

@@ -1,0 +1,2 @@
+pub use Rattle.cover_core.specs as cover_core
+pub mod Made
