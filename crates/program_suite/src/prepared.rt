@@ -5,6 +5,7 @@ use crate::packets::{push_runs, push_stages};
 use anyhow::Result;
 use cover_core::covers;
 use cover_search::{Found, find};
+use kind_core::Offsets;
 use row_plan::cell_core::program::PacketIn;
 use row_plan::cell_core::xdp_state::xdp_maps::state::Maps;
 use std::alloc::Global;
@@ -34,7 +35,7 @@ fn of_found(
     packets: &[PacketIn],
     out: &mut String,
 ) -> Result<()> {
-    let graph = match unfold(alloc, &found.program) {
+    let graph = match unfold(alloc, &found.program, Offsets::Fixed) {
         Ok(graph) => graph,
         Err(e) => return push_refusal(out, e),
     };
