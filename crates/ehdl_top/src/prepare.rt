@@ -1,7 +1,9 @@
 // The command `prepare`.
 
 ghost use Rattle.std.specs.Prelude.{◌≡◌, IfErr, IfOk, IsTrue};
+ghost use Rattle.xdp_object.specs.xdp_machine.Program.{XdpProgram};
 ghost use Rattle.xdp_object.specs.Choice.{chosen_of};
+ghost use Rattle.xdp_object.specs.Object.{IsObject};
 ghost use Rattle.command_line.specs.Request.{AskPrepare};
 ghost use Rattle.capture_run.specs.States.{state_of};
 ghost use Rattle.ehdl_top.specs.Forms.{object_form};
@@ -59,6 +61,7 @@ impl Form for ReplyForm<'_> {
 // What is given for an object, or why it is declined.
 fn read_reply(alloc: Global, object: &[u8], choice: Choice) -> Result<Reply, CommandError>
     ensures reply { IfOk result (IsReplyTo (chosen_of choice.entry) object.now) }
+    ensures object { IfOk result (λ _. (program : XdpProgram) × IsObject (chosen_of choice.entry) object.now program) }
     ensures given_up { IfErr result (IsGivenUp (object_form (chosen_of choice.entry)) object.now) }
 {
     let program = match read_object(alloc, object, choice) {
