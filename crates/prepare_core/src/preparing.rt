@@ -94,13 +94,14 @@ fn checked_counts(
 fn found(alloc: Global, a: &Program, choice: Choice) -> Result<Option<Prepared>, AllocError>
     ensures { IfOk result (λ found. IfSome found (Prepares (chosen_of choice.entry) a.now)) }
 {
-    let Some(found) = find(alloc, a)? else {
+    let Some(cover) = find(alloc, a)? else {
         return Ok(None);
     };
-    let Some(object) = object_of_program(alloc, &found.program)? else {
+    let Some(object) = object_of_program(alloc, &cover.program)? else {
         return Ok(None);
     };
-    match checked_counts(alloc, a, &object, choice, &found.origin)? {
+    let checked = checked_counts(alloc, a, &object, choice, &cover.origin)?;
+    match checked {
         Some(counts) => Ok(Some(Prepared { object, counts })),
         None => Ok(None),
     }
