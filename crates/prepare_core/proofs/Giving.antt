@@ -3,7 +3,8 @@ use Rattle.std.proofs.Common.{◌≡◌, ℕ, List, length, refl, sym, ap, subst
 use Rattle.xdp_machine.specs.xdp_maps.State.{MapState}
 use Rattle.xdp_machine.specs.State.{PacketIn, start}
 use Rattle.xdp_machine.specs.Ranges.{IsInRange}
-use Rattle.xdp_machine.specs.Program.{XdpProgram, IsProgram}
+use Rattle.xdp_machine.specs.Touched.{touched}
+use Rattle.xdp_machine.specs.Program.{XdpProgram, IsProgram, program_code}
 use Rattle.xdp_state.specs.declared.refusal.Refusal.{Refusal}
 use Rattle.xdp_state.specs.declared.refusal.BuildError.{BuildError}
 use Rattle.xdp_state.specs.declared.refusal.BuildError.TheVariants.{Refused, NoMemory}
@@ -31,8 +32,9 @@ cover_of a b c is decls runs = record { accepted = accepted_of Fixed b c.graph c
 own_runs : RunsAreSound → (a : XdpProgram) (u : Unfolded) → IsProgram a → IsUnfolded a u → HaveSameRuns a a
 own_runs sound a u program unfolded packet maps declared range =
     let run = sound a u packet maps program unfolded declared range in
-    let ended = run.ended (length u.nodes.items) (omega arith) in
-    record { left = run.left; of_b = (length u.nodes.items, ended); of_a = (length u.nodes.items, ended) }
+    let steps = length u.nodes.items in
+    let ended = run.ended steps (omega arith) in
+    record { left = run.left; touched = touched (program_code a) steps (start packet maps); of_b = (steps, ended, refl); of_a = (steps, ended, refl) }
 
 -- an accepted program's own object
 pub itself_given : RunsAreSound → (choice : Chosen) (a : XdpProgram) (object : List ℕ) (c : Counted) (p : Prepared) → IsProgram a → IsObject choice object a → IsCounted Fixed a c → IsItself a object c.stages p → IsGivenFor choice a object p
