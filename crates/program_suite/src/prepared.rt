@@ -1,5 +1,7 @@
 //! Cases of programs that are found for refused ones.
 
+ghost use Rattle.unfold_core.specs.Unfolding.{IsUnfolded};
+
 use crate::cases::refusal::push_refusal;
 use crate::packets::{push_runs, push_stages};
 use anyhow::Result;
@@ -10,7 +12,7 @@ use row_plan::cell_core::program::PacketIn;
 use row_plan::cell_core::xdp_state::xdp_maps::state::Maps;
 use std::alloc::Global;
 use std::fmt::Write;
-use unfold_core::unfold;
+use unfold_core::{Unfolded, unfold};
 use xdp_object::Program;
 
 /// Adds the units, nodes, stages and records of a program that is found for another one and covers it, and what packets leave by the runs
@@ -42,9 +44,27 @@ fn of_found(
     if !covers(alloc, program, &found.program, &graph, &found.origin)? {
         return Ok(out.push_str("no cover")?);
     }
-    write!(out, "{} units, ", found.origin.len())?;
+    let free = free_places(alloc, program, found, &graph)?;
+    write!(out, "{} units, {free} free, ", found.origin.len())?;
     push_stages(alloc, &found.program, &graph, out)?;
     push_both(alloc, program, &found.program, packets, out)
+}
+
+// How many places may have another origin, the next one: those where no node stands.
+fn free_places(alloc: Global, program: &Program, found: &Found, graph: &Unfolded) -> Result<u32>
+    requires { IsUnfolded found.now.program graph.now }
+{
+    let mut free = 0u32;
+    for place in 0..found.origin.len() {
+        let mut origin = Vec::from_slice(alloc, &found.origin)?;
+        if place < origin.len() {
+            origin[place] = origin[place].wrapping_add(1);
+        }
+        if covers(alloc, program, &found.program, graph, &origin)? {
+            free = free.saturating_add(1);
+        }
+    }
+    Ok(free)
 }
 
 // Adds what packets leave by the runs of two programs, from empty maps, or that this is not the same.
