@@ -8,13 +8,33 @@ call_program() {
     fi
     if [ -z "$fault$asked" ]; then
         call_shown "$@"
-        exit $?
+        status=$?
+        [ $status != 4 ] || say_prepare "$@"
+        exit $status
     fi
     "$program" "$@"
     status=$?
     # The sentence stands only beside the program's own answer.
     [ $status != 2 ] || say_help
     exit $status
+}
+
+# After a refusal, on a terminal: that there is an object which is accepted, if `prepare` finds one.
+say_prepare() {
+    local made name
+    local -a words
+    local -A values=()
+    case $1 in compile | run | ref | report) ;; *) return ;; esac
+    read_values "${@:2}"
+    made=$(mktemp) || return
+    words=("--object=${values[object]}" "--output=$made")
+    for name in program hash-cap; do
+        [ -z "${values[$name]+x}" ] || words+=("--$name=${values[$name]}")
+    done
+    if "$program" prepare "${words[@]}" >/dev/null 2>&1; then
+        echo 'ehdl: `ehdl prepare` makes an object of this one that is accepted and does the same; `ehdl prepare --help` says how' >&2
+    fi
+    rm -f "$made"
 }
 
 # What helps after `usage`: the help that was asked for, or which word is wrong.
@@ -100,15 +120,9 @@ stop_call() {
 
 # What can be seen of a call: its command, how long it has taken, and of the files that it has begun to write how large they are.
 line_of_call() {
-    local seconds=$1 begun=$2 command=$3 file name at size spelled word of=''
+    local seconds=$1 begun=$2 command=$3 file name at size spelled
     local -A values=()
-    shift 3
-    for word in "$@"; do
-        case $word in
-        --*=*) word=${word#--} && values[${word%%=*}]=${word#*=} ;;
-        *) if [ -n "$of" ]; then values[$of]=$word of=; else of=${word#--}; fi ;;
-        esac
-    done
+    read_values "${@:4}"
     spell_seconds "$seconds"
     said="ehdl $command: $spelled"
     for name in ${_ehdl_written[$command]}; do
@@ -117,6 +131,17 @@ line_of_call() {
         if [ -f "$file" ] && read -r at size < <(stat -c '%Y %s' -- "$file" 2>/dev/null) && [ "$at" -ge "$begun" ]; then
             said+="; ${file##*/} $(spell_size "$size")"
         fi
+    done
+}
+
+# What options have in these words, which are right ones, into `values`.
+read_values() {
+    local word of=''
+    for word in "$@"; do
+        case $word in
+        --*=*) word=${word#--} && values[${word%%=*}]=${word#*=} ;;
+        *) if [ -n "$of" ]; then values[$of]=$word of=; else of=${word#--}; fi ;;
+        esac
     done
 }
 

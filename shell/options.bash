@@ -3,7 +3,7 @@
 # It says what COMMANDS of crates/command_line/src/parse.rt, and the ranges of src/read.rt and src/values.rt there, say to the program; checks/help
 # compares them. The completion is read by a shell that a person works in, so all names here begin with `_ehdl`.
 
-_ehdl_commands='compile run sim ref report demo'
+_ehdl_commands='compile run sim ref report prepare demo'
 
 # The options that a command requires, and those that it may have.
 declare -gA _ehdl_required=(
@@ -12,6 +12,7 @@ declare -gA _ehdl_required=(
     [sim]='clocks object capture verilog answer verdicts final'
     [ref]='object capture answer verdicts final'
     [report]='object'
+    [prepare]='object output'
     [demo]='seed packets'
 )
 declare -gA _ehdl_optional=(
@@ -20,6 +21,7 @@ declare -gA _ehdl_optional=(
     [sim]='events maps program hash-cap ifindex'
     [ref]='maps program hash-cap ifindex'
     [report]='program hash-cap'
+    [prepare]='program hash-cap'
     [demo]=''
 )
 
@@ -30,6 +32,7 @@ declare -gA _ehdl_written=(
     [sim]='answer verdicts final'
     [ref]='answer verdicts final'
     [report]=''
+    [prepare]='output'
     [demo]=''
 )
 
@@ -44,4 +47,4 @@ declare -gA _ehdl_range=(
 )
 
 # No two of the options that name files may have one value.
-_ehdl_files='object capture verilog answer verdicts final maps'
+_ehdl_files='object output capture verilog answer verdicts final maps'

@@ -8,7 +8,7 @@ use Rattle.clap.specs.declared.error.kind.ErrorKind.{ErrorKind}
 use Rattle.clap.specs.declared.error.kind.ErrorKind.TheVariants.{DisplayHelp, InvalidSubcommand}
 use Rattle.clap.proofs.OnLiterals.{clap_on_literals}
 use Rattle.command_line.specs.Request.{Request}
-use Rattle.command_line.specs.Commands.{CommandForm, app, commands, compile_form, run_form, sim_form, ref_form, report_form, demo_form}
+use Rattle.command_line.specs.Commands.{CommandForm, app, commands, compile_form, run_form, sim_form, ref_form, report_form, prepare_form, demo_form}
 use Rattle.command_line.specs.AsksFor.{AsksFor, AsksForHelp, IsCommandHelp, IsProgramHelp, help_flags}
 use Rattle.command_line.proofs.Options.{built_command}
 use Rattle.command_line.proofs.Taken.{listed, program_fault}
@@ -38,12 +38,13 @@ RefusesHelp form = All (RefusesBehind form) help_flags
 behind : All RefusesHelp commands
 unfolding clap_on_literals
 behind =
-    All-cons RefusesHelp compile_form (run_form ∷ sim_form ∷ ref_form ∷ report_form ∷ demo_form ∷ []) (behind_of compile_form (λ more. refl) (λ more. refl))
-    (All-cons RefusesHelp run_form (sim_form ∷ ref_form ∷ report_form ∷ demo_form ∷ []) (behind_of run_form (λ more. refl) (λ more. refl))
-    (All-cons RefusesHelp sim_form (ref_form ∷ report_form ∷ demo_form ∷ []) (behind_of sim_form (λ more. refl) (λ more. refl))
-    (All-cons RefusesHelp ref_form (report_form ∷ demo_form ∷ []) (behind_of ref_form (λ more. refl) (λ more. refl))
-    (All-cons RefusesHelp report_form (demo_form ∷ []) (behind_of report_form (λ more. refl) (λ more. refl))
-    (All-cons RefusesHelp demo_form [] (behind_of demo_form (λ more. refl) (λ more. refl)) (All-nil RefusesHelp))))))
+    All-cons RefusesHelp compile_form (run_form ∷ sim_form ∷ ref_form ∷ report_form ∷ prepare_form ∷ demo_form ∷ []) (behind_of compile_form (λ more. refl) (λ more. refl))
+    (All-cons RefusesHelp run_form (sim_form ∷ ref_form ∷ report_form ∷ prepare_form ∷ demo_form ∷ []) (behind_of run_form (λ more. refl) (λ more. refl))
+    (All-cons RefusesHelp sim_form (ref_form ∷ report_form ∷ prepare_form ∷ demo_form ∷ []) (behind_of sim_form (λ more. refl) (λ more. refl))
+    (All-cons RefusesHelp ref_form (report_form ∷ prepare_form ∷ demo_form ∷ []) (behind_of ref_form (λ more. refl) (λ more. refl))
+    (All-cons RefusesHelp report_form (prepare_form ∷ demo_form ∷ []) (behind_of report_form (λ more. refl) (λ more. refl))
+    (All-cons RefusesHelp prepare_form (demo_form ∷ []) (behind_of prepare_form (λ more. refl) (λ more. refl))
+    (All-cons RefusesHelp demo_form [] (behind_of demo_form (λ more. refl) (λ more. refl)) (All-nil RefusesHelp)))))))
 
 program_help : (words : List (List ℕ)) → IsProgramHelp words → fault_of app words ≢ []
 program_help words h none = All-contains RefusesAbove (codes "help" ∷ help_flags) h.word above h.asks h.program h.rest (ap (fault_of app) (sym h.are) ∙ none)

@@ -6,9 +6,9 @@ use Rattle.std.proofs.lemmas.Slice.Eq.{bytes_eq-Decides}
 use Rattle.clap.specs.Walk.{Row}
 use Rattle.clap.specs.Simple.{subcommand_of}
 use Rattle.xdp_object.specs.Choice.{Chosen}
-use Rattle.command_line.specs.Request.{Names, Request, AskCompile, AskRun, AskSim, AskRef, AskReport, AskDemo, files_of}
+use Rattle.command_line.specs.Request.{Names, Request, AskCompile, AskRun, AskSim, AskRef, AskReport, AskPrepare, AskDemo, files_of}
 use Rattle.command_line.specs.Commands.{app}
-use Rattle.command_line.specs.Means.{AreDistinct, GivesFiles, GivesNames, GivesText, GivesNumber, GivesRun, GivesChosen, MayGiveNumber, GivesNumberIfThere, Means, MeansCompile, MeansRun, MeansSim, MeansRef, MeansReport, MeansDemo, Values}
+use Rattle.command_line.specs.Means.{AreDistinct, GivesFiles, GivesNames, GivesText, GivesNumber, GivesRun, GivesChosen, MayGiveNumber, GivesNumberIfThere, Means, MeansCompile, MeansRun, MeansSim, MeansRef, MeansReport, MeansPrepare, MeansDemo, Values}
 use Rattle.command_line.specs.AsksFor.{AsksFor, values_in}
 
 -- ---- an option
@@ -83,6 +83,8 @@ one_meant command values (AskSim n v s i c e) (AskSim m w t j d f) g h =
 one_meant command values (AskRef n s i) (AskRef m t j) g h =
     λ k. AskRef (one_names values n m g.gives_run.gives_files.gives_names h.gives_run.gives_files.gives_names k) (one_selected values s t g.gives_run.gives_selected h.gives_run.gives_selected k) (one_ifindex values n m s t i j g.gives_run h.gives_run k)
 one_meant command values (AskReport o s) (AskReport p t) g h = λ i. AskReport (same_value _ o p g.gives_object h.gives_object i) (one_selected values s t g.gives_selected h.gives_selected i)
+one_meant command values (AskPrepare o v s) (AskPrepare p w t) g h =
+    λ i. AskPrepare (same_value _ o p g.gives_object h.gives_object i) (same_value _ v w g.gives_output h.gives_output i) (one_selected values s t g.gives_selected h.gives_selected i)
 one_meant command values (AskDemo s n) (AskDemo t m) g h =
     λ i. AskDemo (one_number values _ 0 4294967295 s t (omega arith) g.gives_seed h.gives_seed i) (one_number values _ 0 100000 n m (omega arith) g.gives_packets h.gives_packets i)
 one_meant command values a b g h = two_commands command _ _ g.called h.called refl
@@ -117,6 +119,10 @@ ref_alone command values is none other means = two_commands command _ _ is means
 pub report_alone : (command : List ℕ) (values : Values) → command ≡ codes "report" → ((o : List ℕ) (s : Chosen) → ¬ MeansReport command values o s) → (request : Request) → ¬ Means command values request
 report_alone command values is none (AskReport o s) means = none o s means
 report_alone command values is none other means = two_commands command _ _ is means.called refl
+
+pub prepare_alone : (command : List ℕ) (values : Values) → command ≡ codes "prepare" → ((o v : List ℕ) (s : Chosen) → ¬ MeansPrepare command values o v s) → (request : Request) → ¬ Means command values request
+prepare_alone command values is none (AskPrepare o v s) means = none o v s means
+prepare_alone command values is none other means = two_commands command _ _ is means.called refl
 
 pub demo_alone : (command : List ℕ) (values : Values) → command ≡ codes "demo" → ((s n : ℕ) → ¬ MeansDemo command values s n) → (request : Request) → ¬ Means command values request
 demo_alone command values is none (AskDemo s n) means = none s n means

@@ -14,7 +14,7 @@ use Rattle.clap.proofs.FaultLemmas.{past, stopped_fault}
 use Rattle.clap.proofs.SimpleLemmas.{is_nil}
 use Rattle.clap.proofs.WalkLemmas.{both}
 use Rattle.command_line.specs.Request.{Request}
-use Rattle.command_line.specs.Commands.{CommandForm, app, commands, compile_form, run_form, sim_form, ref_form, report_form, demo_form}
+use Rattle.command_line.specs.Commands.{CommandForm, app, commands, compile_form, run_form, sim_form, ref_form, report_form, prepare_form, demo_form}
 use Rattle.command_line.specs.Means.{Means, Values}
 use Rattle.command_line.specs.AsksFor.{AsksFor, Given, IsPlain, TakesPlain, values_in, values_of, words_of}
 use Rattle.command_line.proofs.Lists.{is_long}
@@ -98,12 +98,13 @@ pub record Listed (form : CommandForm) : Type 0 where
 
 all_listed : All Listed commands
 all_listed =
-    All-cons Listed compile_form (run_form ∷ sim_form ∷ ref_form ∷ report_form ∷ demo_form ∷ []) (record { met = refl; no_help = refl; found = refl; no_defaults = refl; named = refl })
-    (All-cons Listed run_form (sim_form ∷ ref_form ∷ report_form ∷ demo_form ∷ []) (record { met = refl; no_help = refl; found = refl; no_defaults = refl; named = refl })
-    (All-cons Listed sim_form (ref_form ∷ report_form ∷ demo_form ∷ []) (record { met = refl; no_help = refl; found = refl; no_defaults = refl; named = refl })
-    (All-cons Listed ref_form (report_form ∷ demo_form ∷ []) (record { met = refl; no_help = refl; found = refl; no_defaults = refl; named = refl })
-    (All-cons Listed report_form (demo_form ∷ []) (record { met = refl; no_help = refl; found = refl; no_defaults = refl; named = refl })
-    (All-cons Listed demo_form [] (record { met = refl; no_help = refl; found = refl; no_defaults = refl; named = refl }) (All-nil Listed))))))
+    All-cons Listed compile_form (run_form ∷ sim_form ∷ ref_form ∷ report_form ∷ prepare_form ∷ demo_form ∷ []) (record { met = refl; no_help = refl; found = refl; no_defaults = refl; named = refl })
+    (All-cons Listed run_form (sim_form ∷ ref_form ∷ report_form ∷ prepare_form ∷ demo_form ∷ []) (record { met = refl; no_help = refl; found = refl; no_defaults = refl; named = refl })
+    (All-cons Listed sim_form (ref_form ∷ report_form ∷ prepare_form ∷ demo_form ∷ []) (record { met = refl; no_help = refl; found = refl; no_defaults = refl; named = refl })
+    (All-cons Listed ref_form (report_form ∷ prepare_form ∷ demo_form ∷ []) (record { met = refl; no_help = refl; found = refl; no_defaults = refl; named = refl })
+    (All-cons Listed report_form (prepare_form ∷ demo_form ∷ []) (record { met = refl; no_help = refl; found = refl; no_defaults = refl; named = refl })
+    (All-cons Listed prepare_form (demo_form ∷ []) (record { met = refl; no_help = refl; found = refl; no_defaults = refl; named = refl })
+    (All-cons Listed demo_form [] (record { met = refl; no_help = refl; found = refl; no_defaults = refl; named = refl }) (All-nil Listed)))))))
 
 pub listed : (form : CommandForm) → Contains commands form → Listed form
 listed form there = All-contains Listed commands form all_listed there

@@ -44,6 +44,13 @@ report_form = record {
   optional = codes "program" ∷ codes "hash-cap" ∷ [];
 }
 
+abbrev pub prepare_form : CommandForm
+prepare_form = record {
+  name = codes "prepare";
+  required = codes "object" ∷ codes "output" ∷ [];
+  optional = codes "program" ∷ codes "hash-cap" ∷ [];
+}
+
 abbrev pub demo_form : CommandForm
 demo_form = record {
   name = codes "demo";
@@ -52,7 +59,7 @@ demo_form = record {
 }
 
 abbrev pub commands : List CommandForm
-commands = compile_form ∷ run_form ∷ sim_form ∷ ref_form ∷ report_form ∷ demo_form ∷ []
+commands = compile_form ∷ run_form ∷ sim_form ∷ ref_form ∷ report_form ∷ prepare_form ∷ demo_form ∷ []
 
 -- the option `--NAME`
 abbrev pub option_rule : Bool → List ℕ → Rule

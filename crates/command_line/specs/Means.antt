@@ -1,7 +1,7 @@
 -- What a command with its values asks for.
 use Rattle.std.specs.Prelude.{◌≡◌, ◌≢◌, ◌⊎◌, ℕ, ◌≤◌, List, ◌∷◌, Option, Some, None, codes, decimal, AllPairs}
 use Rattle.xdp_object.specs.Choice.{Chosen}
-use Rattle.command_line.specs.Request.{Names, Request, AskCompile, AskRun, AskSim, AskRef, AskReport, AskDemo, files_of}
+use Rattle.command_line.specs.Request.{Names, Request, AskCompile, AskRun, AskSim, AskRef, AskReport, AskPrepare, AskDemo, files_of}
 
 -- the value of each option that is there, by the option's name
 abbrev pub Values : Type 0
@@ -82,6 +82,13 @@ pub record MeansReport (command : List ℕ) (values : Values) (object : List ℕ
   pub gives_object : values (codes "object") ≡ Some object
   pub gives_selected : GivesChosen values selected
 
+pub record MeansPrepare (command : List ℕ) (values : Values) (object output : List ℕ) (selected : Chosen) : Type 0 where
+  pub called : command ≡ codes "prepare"
+  pub gives_object : values (codes "object") ≡ Some object
+  pub gives_output : values (codes "output") ≡ Some output
+  pub apart : object ≢ output
+  pub gives_selected : GivesChosen values selected
+
 pub record MeansDemo (command : List ℕ) (values : Values) (seed packets : ℕ) : Type 0 where
   pub called : command ≡ codes "demo"
   pub gives_seed : GivesNumber values (codes "seed") 0 4294967295 seed
@@ -94,4 +101,5 @@ Means command values (AskRun names verilog selected ifindex) = MeansRun command 
 Means command values (AskSim names verilog selected ifindex clocks events) = MeansSim command values names verilog selected ifindex clocks events
 Means command values (AskRef names selected ifindex) = MeansRef command values names selected ifindex
 Means command values (AskReport object selected) = MeansReport command values object selected
+Means command values (AskPrepare object output selected) = MeansPrepare command values object output selected
 Means command values (AskDemo seed packets) = MeansDemo command values seed packets

@@ -19,13 +19,14 @@ pub record Names : Type 0 where
 -- most so many clocks; to run the object's program over a capture; to say what a pipeline for it has to hold. The text's name stands
 -- after those of the other files, the number after `Chosen` is that of the interface that packets come in by, the next one the clocks, and
 -- the last one, if it is there, the seed of the order in which events settle.
--- And to run a program that is at hand over packets that are drawn from a seed, so many of them
+-- And to prepare an object, under a name that is to hold what is written; and to run a program that is at hand over packets that are drawn from a seed, so many of them
 pub data Request : Type 0 where
   AskCompile : List ℕ → List ℕ → Chosen → Request
   AskRun : Names → List ℕ → Chosen → ℕ → Request
   AskSim : Names → List ℕ → Chosen → ℕ → ℕ → Option ℕ → Request
   AskRef : Names → Chosen → ℕ → Request
   AskReport : List ℕ → Chosen → Request
+  AskPrepare : List ℕ → List ℕ → Chosen → Request
   AskDemo : ℕ → ℕ → Request
 
 abbrev pub names_of : Files → Names
@@ -44,6 +45,7 @@ request_of (command.Run files verilog choice ifindex) = AskRun (names_of files) 
 request_of (command.Sim files verilog choice ifindex clocks events) = AskSim (names_of files) verilog.now (chosen_of choice) ifindex clocks events
 request_of (command.Ref files choice ifindex) = AskRef (names_of files) (chosen_of choice) ifindex
 request_of (command.Report object choice) = AskReport object.now (chosen_of choice)
+request_of (command.Prepare object output choice) = AskPrepare object.now output.now (chosen_of choice)
 request_of (command.Demo seed packets) = AskDemo seed packets
 
 -- a file that is named or not

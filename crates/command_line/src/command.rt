@@ -55,6 +55,12 @@ pub enum Command<'a> {
         object: &'a str,
         choice: Choice<'a>,
     },
+    /// To prepare an object whose program is refused: to write one of a program that does the same and is accepted.
+    Prepare {
+        object: &'a str,
+        output: &'a str,
+        choice: Choice<'a>,
+    },
     /// To run a program that is at hand over packets that are drawn from a seed.
     Demo {
         seed: u32,

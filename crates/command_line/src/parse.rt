@@ -19,7 +19,7 @@ struct CommandRow {
     optional: &'static [&'static str],
 }
 
-const COMMANDS: [CommandRow; 6] = [
+const COMMANDS: [CommandRow; 7] = [
     CommandRow {
         name: "compile",
         required: &["object", "verilog"],
@@ -47,6 +47,11 @@ const COMMANDS: [CommandRow; 6] = [
     CommandRow {
         name: "report",
         required: &["object"],
+        optional: &["program", "hash-cap"],
+    },
+    CommandRow {
+        name: "prepare",
+        required: &["object", "output"],
         optional: &["program", "hash-cap"],
     },
     CommandRow {

@@ -27,6 +27,7 @@ const PACKET_LIMIT: u32 = 100_000;
 /// - `sim`, as `run`, and `--clocks N`, at most 500,000,000; it may have `--events N`, at most 4,294,967,295
 /// - `ref`, as `run` without `--verilog`
 /// - `report --object A`
+/// - `prepare --object A --output B`
 /// - `demo --seed N --packets N`, at most 4,294,967,295 and at most 100,000
 ///
 /// Each but `demo` may have `--program NAME` and `--hash-cap N`, 1 to 1,024 and without it 256; `run`, `sim` and `ref` may have `--maps B`, and
@@ -81,6 +82,9 @@ fn read_command<'a>(name: &str, matches: &ArgMatches<'a>) -> Option<Command<'a>>
     }
     if name == "report" {
         return read_report(name, matches);
+    }
+    if name == "prepare" {
+        return read_prepare(name, matches);
     }
     if name == "demo" {
         return read_demo(name, matches);
@@ -167,6 +171,24 @@ fn read_report<'a>(name: &str, matches: &ArgMatches<'a>) -> Option<Command<'a>>
     let object = required(matches, "object")?;
     let choice = read_choice(matches)?;
     Some(Command::Report { object, choice })
+}
+
+fn read_prepare<'a>(name: &str, matches: &ArgMatches<'a>) -> Option<Command<'a>>
+    requires { name.now ≡ codes "prepare" }
+    ensures some { IfSome result (λ command. Means name.now (values_from matches.now) (request_of command)) }
+    ensures none { IfNone result ((request : Request) → ¬ Means name.now (values_from matches.now) request) }
+{
+    let object = required(matches, "object")?;
+    let output = required(matches, "output")?;
+    if object == output {
+        return None;
+    }
+    let choice = read_choice(matches)?;
+    Some(Command::Prepare {
+        object,
+        output,
+        choice,
+    })
 }
 
 fn read_demo<'a>(name: &str, matches: &ArgMatches<'a>) -> Option<Command<'a>>

@@ -16,6 +16,7 @@ use Rattle.xdp_machine.specs.State as machine
 use Rattle.xdp_machine.specs.Step.{Goes, Ends, step}
 use Rattle.xdp_machine.specs.Program.{XdpProgram, program_code, IsProgram}
 use Rattle.xdp_machine.specs.Runs.{Leaves, leaves, run, then_on}
+use Rattle.xdp_machine.specs.Touched.{Touched, nothing, both, touched, touched_at, and_then, operation_as}
 use Rattle.xdp_machine.specs.MachineLaws.{StepsChangeOnly, StepsKeepRanges}
 use Rattle.xdp_machine.specs.Ranges.{IsInRange}
 use Rattle.kind_core.specs.declared.kind.Kinds.{Kinds}
@@ -34,10 +35,11 @@ use Rattle.unfold_core.specs.RunLaws.{StandsAt, edge, Follows, ends as comes_to_
 use Rattle.cover_core.specs.Settling.{side, settled}
 use Rattle.cover_core.specs.Cover.{node_at, place_of, origin_of, undirected, is_plain_jump, is_constant_move, no_point, TellsBy, IsTold, Idles, Waits, Settles, Steps, StepsBy, IsCoveredBy, IsCover}
 use Rattle.cover_core.specs.Laws.{CoversKeepRuns}
-use Rattle.cover_core.proofs.Silent.{at_place, RunsTo, one_more, step_is, settled_begins, settles_silently}
+use Rattle.cover_core.proofs.Silent.{at_place, RunsTo, one_more, one_silent, untouched, step_is, settled_begins, settles_silently}
 use Rattle.cover_core.proofs.Twins.{same_op}
 use Rattle.cover_core.proofs.Moving.{Moves, step_moves, jump_stays, exit_ends}
 use Rattle.cover_core.proofs.Told.{told_by, move_stays}
+use Rattle.cover_core.proofs.Touching.{jump_silent, move_silent, touched_alike}
 
 -- what holds of steps, of kinds and of graphs
 pub record Laws : Type 0 where
@@ -101,13 +103,18 @@ idles_on : (a b : XdpProgram) (u : Unfolded) (origin : List ℕ) (w : World) (m 
 idles_on a b u origin w m n at as_told goes (inl jumps) = jump_stays (program_code b) m n at.links.insn at.links.insn.op at.begins refl jumps goes
 idles_on a b u origin w m n at as_told goes (inr told) = move_stays (program_code b) m n at.links.insn at.links.insn.op at.begins refl at.legal told.move (as_told at.links.insn told) goes
 
-waits_on : (a b : XdpProgram) (u : Unfolded) (origin : List ℕ) (w v : World) (m n : Machine) (e : Leaves) (taken : Bool) → Contains u.edges.items (edge w.node taken v.node) → (to : ℕ) × (n ≡ at_place to m) → Waits u origin w.node
-    → RunsTo (program_code a) (at_place (origin_of u origin v.node) n) e → RunsTo (program_code a) (at_place (origin_of u origin w.node) m) e
-waits_on a b u origin w v m n e taken along stays waits r =
+-- it touches nothing
+idles_untouched : (b : XdpProgram) (u : Unfolded) (k : ℕ) (m : Machine) (i : Insn) → insn_at b.insns m.place ≡ Some i → Idles b u k i → touched_at (program_code b) m ≡ nothing
+idles_untouched b u k m i begins (inl jumps) = untouched (program_code b) m i i.op begins refl (jump_silent m i i.op jumps)
+idles_untouched b u k m i begins (inr told) = untouched (program_code b) m i i.op begins refl (move_silent m i i.op told.move)
+
+waits_on : (a b : XdpProgram) (u : Unfolded) (origin : List ℕ) (w v : World) (m n : Machine) (e : Leaves) (t : Touched) (taken : Bool) → Contains u.edges.items (edge w.node taken v.node) → (to : ℕ) × (n ≡ at_place to m) → Waits u origin w.node
+    → RunsTo (program_code a) (at_place (origin_of u origin v.node) n) e t → RunsTo (program_code a) (at_place (origin_of u origin w.node) m) e t
+waits_on a b u origin w v m n e t taken along stays waits r =
     let same : origin_of u origin v.node ≡ origin_of u origin w.node =
     All-contains (λ x. x.from ≡ w.node → origin_of u origin x.to ≡ origin_of u origin w.node) u.edges.items (edge w.node taken v.node) waits along refl in
-    subst (λ (x : Machine). RunsTo (program_code a) (at_place (origin_of u origin w.node) x) e) stays.1
-    (subst (λ o. RunsTo (program_code a) (at_place o n) e) same r)
+    subst (λ (x : Machine). RunsTo (program_code a) (at_place (origin_of u origin w.node) x) e t) stays.1
+    (subst (λ o. RunsTo (program_code a) (at_place o n) e t) same r)
 
 -- ---- both step
 
@@ -146,34 +153,39 @@ told_there a b u origin w v m n at moves leads range i told =
     told_by n i j moves.taken range at.legal (subst (λ (o : Option Insn). TellsBy i moves.taken o) at.links.insn_is by) moves.compares
 
 -- a's step, and what leads on silently behind it
-steps_by : (a b : XdpProgram) (u : Unfolded) (origin : List ℕ) (w : World) (m n : Machine) (to : ℕ) (e : Leaves) (i j : Insn) → insn_at a.insns (origin_of u origin w.node) ≡ Some j
+steps_by : (a b : XdpProgram) (u : Unfolded) (origin : List ℕ) (w : World) (m n : Machine) (to : ℕ) (e : Leaves) (t : Touched) (i j : Insn) → insn_at a.insns (origin_of u origin w.node) ≡ Some j → insn_at b.insns m.place ≡ Some i
     → Steps a b u origin w.node i j → (moves : Moves b w (node_at u w.node).kinds m n i) → m.place ≡ place_of u w.node → (s : Option ℕ) → side (origin_of u origin w.node) j moves.taken ≡ s
     → (s >>= settled a.insns (transferred b.decls (node_at u w.node).kinds i w.node (is_reference b m.place) moves.taken)) ≡ Some to
-    → RunsTo (program_code a) (at_place to n) e → RunsTo (program_code a) (at_place (origin_of u origin w.node) m) e
-steps_by a b u origin w m n to e i j begins st moves place None is h r = absurd (cc)
-steps_by a b u origin w m n to e i j begins st moves place (Some s) is h r =
+    → RunsTo (program_code a) (at_place to n) e t → RunsTo (program_code a) (at_place (origin_of u origin w.node) m) e (both (touched_at (program_code b) m) t)
+steps_by a b u origin w m n to e t i j begins here st moves place None is h r = absurd (cc)
+steps_by a b u origin w m n to e t i j begins here st moves place (Some s) is h r =
     let k : Kinds = transferred b.decls (node_at u w.node).kinds i w.node (is_reference b m.place) moves.taken in
     let starts = settled_begins a.insns k (unit_count a.insns) s to h in
     let refers : is_reference a (origin_of u origin w.node) ≡ is_reference b m.place = st.refers ∙ ap (is_reference b) (sym place) in
     let goes : step (program_code a) (at_place (origin_of u origin w.node) m) ≡ Goes (at_place s n) = moves.twin a (origin_of u origin w.node) s j begins st.same refers is starts in
     let described : DescribesMachine moves.world k (at_place s n) =
     let d = moves.described in record { registers = d.registers; slots = d.slots; checked = d.checked; frame = d.frame } in
-    one_more (program_code a) (at_place (origin_of u origin w.node) m) (at_place s n) e goes
-    (settles_silently (program_code a) moves.world k (unit_count a.insns) (at_place s n) to e described h r)
+    subst (λ (x : Touched). RunsTo (program_code a) (at_place (origin_of u origin w.node) m) e (both x t)) (touched_alike a b (origin_of u origin w.node) m i j begins here st.same)
+    (one_more (program_code a) (at_place (origin_of u origin w.node) m) (at_place s n) e t goes
+    (settles_silently (program_code a) moves.world k (unit_count a.insns) (at_place s n) to e t described h r))
 
-both_step : (a b : XdpProgram) (u : Unfolded) (origin : List ℕ) (w v : World) (m n : Machine) (e : Leaves) (i : Insn) → (moves : Moves b w (node_at u w.node).kinds m n i) → Leads b u w v moves.taken
-    → m.place ≡ place_of u w.node → (o : Option Insn) → insn_at a.insns (origin_of u origin w.node) ≡ o → StepsBy a b u origin w.node i o
-    → RunsTo (program_code a) (at_place (origin_of u origin v.node) n) e → RunsTo (program_code a) (at_place (origin_of u origin w.node) m) e
-both_step a b u origin w v m n e i moves leads place None begins st r = absurd st
-both_step a b u origin w v m n e i moves leads place (Some j) begins st r =
+both_step : (a b : XdpProgram) (u : Unfolded) (origin : List ℕ) (w v : World) (m n : Machine) (e : Leaves) (t : Touched) (i : Insn) → (moves : Moves b w (node_at u w.node).kinds m n i) → Leads b u w v moves.taken
+    → m.place ≡ place_of u w.node → insn_at b.insns m.place ≡ Some i → (o : Option Insn) → insn_at a.insns (origin_of u origin w.node) ≡ o → StepsBy a b u origin w.node i o
+    → RunsTo (program_code a) (at_place (origin_of u origin v.node) n) e t → RunsTo (program_code a) (at_place (origin_of u origin w.node) m) e (both (touched_at (program_code b) m) t)
+both_step a b u origin w v m n e t i moves leads place here None begins st r = absurd st
+both_step a b u origin w v m n e t i moves leads place here (Some j) begins st r =
     let x : Edge = edge w.node moves.taken leads.to in
     let settles : Settles a b u origin i j x = All-contains (λ y. y.from ≡ w.node → Settles a b u origin i j y) u.edges.items x st.settles leads.along refl in
     let known : (side (origin_of u origin w.node) j moves.taken >>= settled a.insns (transferred b.decls (node_at u w.node).kinds i w.node (is_reference b m.place) moves.taken)) ≡ Some (origin_of u origin leads.to) =
     ap (λ p. side (origin_of u origin w.node) j moves.taken >>= settled a.insns (transferred b.decls (node_at u w.node).kinds i w.node (is_reference b p) moves.taken)) place ∙ settles in
-    steps_by a b u origin w m n (origin_of u origin leads.to) e i j begins st moves place (side (origin_of u origin w.node) j moves.taken) refl known
-    (subst (λ t. RunsTo (program_code a) (at_place (origin_of u origin t) n) e) (sym leads.is) r)
+    steps_by a b u origin w m n (origin_of u origin leads.to) e t i j begins here st moves place (side (origin_of u origin w.node) j moves.taken) refl known
+    (subst (λ y. RunsTo (program_code a) (at_place (origin_of u origin y) n) e t) (sym leads.is) r)
 
 -- ---- a step of b, and what a does meanwhile
+
+-- the machine, at a place of a, and at its own in b, comes to one end, and touches the same
+abbrev RunsAlike : XdpProgram → XdpProgram → ℕ → Machine → Leaves → Type 0
+RunsAlike a b p m e = (t : Touched) × RunsTo (program_code a) (at_place p m) e t × RunsTo (program_code b) m e t
 
 -- b's step from a node, and the edge that it takes
 record Stepped (a b : XdpProgram) (u : Unfolded) (origin : List ℕ) (w v : World) (m n : Machine) : Type 0 where
@@ -198,23 +210,35 @@ stepped a b u origin w v m n taken c fits stands goes along there =
 
 goes_with : (a b : XdpProgram) (u : Unfolded) (origin : List ℕ) (w v : World) (m n : Machine) (e : Leaves) (taken : Bool) → Stepped a b u origin w v m n → IsAsTold b u w m
     → step (program_code b) m ≡ Goes n → Contains u.edges.items (edge w.node taken v.node)
-    → RunsTo (program_code a) (at_place (origin_of u origin v.node) n) e → RunsTo (program_code a) (at_place (origin_of u origin w.node) m) e
+    → RunsAlike a b (origin_of u origin v.node) n e → RunsAlike a b (origin_of u origin w.node) m e
 goes_with a b u origin w v m n e taken s as_told goes along r = by_rule s.at.covered
   where
     by_rule : (Idles b u w.node s.at.links.insn × Waits u origin w.node) ⊎ StepsBy a b u origin w.node s.at.links.insn (insn_at a.insns (origin_of u origin w.node))
-        → RunsTo (program_code a) (at_place (origin_of u origin w.node) m) e
-    by_rule (inl x) = waits_on a b u origin w v m n e taken along (idles_on a b u origin w m n s.at as_told goes x.0) x.1 r
-    by_rule (inr st) = both_step a b u origin w v m n e s.at.links.insn s.moves s.leads s.at.place (insn_at a.insns (origin_of u origin w.node)) refl st r
+        → RunsAlike a b (origin_of u origin w.node) m e
+    by_rule (inl x) = (
+      r.0,
+      waits_on a b u origin w v m n e r.0 taken along (idles_on a b u origin w m n s.at as_told goes x.0) x.1 r.1,
+      one_silent (program_code b) m n e r.0 goes (idles_untouched b u w.node m s.at.links.insn s.at.begins x.0) r.2,
+    )
+    by_rule (inr st) = (
+      both (touched_at (program_code b) m) r.0,
+      both_step a b u origin w v m n e r.0 s.at.links.insn s.moves s.leads s.at.place s.at.begins (insn_at a.insns (origin_of u origin w.node)) refl st r.1,
+      one_more (program_code b) m n e r.0 goes r.2,
+    )
 
 -- ---- the end
 
+-- a run that ends at once
+ends_here : (code : Code) (m : Machine) (verdict : ℕ) → step code m ≡ Ends verdict → RunsTo code m (leaves verdict m) nothing
+unfolding run touched
+ends_here code m verdict s = (1, ap (then_on (run code 0) m) s, ap (and_then (touched_at code m) (touched code 0)) s)
+
 ends_by : (a b : XdpProgram) (m : Machine) (p verdict : ℕ) (i : Insn) → step (program_code b) m ≡ Ends verdict → insn_at b.insns m.place ≡ Some i → (j : Insn) → insn_at a.insns p ≡ Some j
-    → undirected j ≡ undirected i → RunsTo (program_code a) (at_place p m) (leaves verdict m)
-unfolding run
+    → undirected j ≡ undirected i → RunsTo (program_code a) (at_place p m) (leaves verdict m) nothing
 ends_by a b m p verdict i stepped here j there same =
     let ended = exit_ends (program_code b) m i i.op verdict refl (sym (step_is (program_code b) m i i.op here refl) ∙ stepped) in
     let twin : step (program_code a) (at_place p m) ≡ Ends verdict = step_is (program_code a) (at_place p m) j Exit there (same_op i j same ∙ ended.0) ∙ ended.1 in
-    (1, ap (then_on (run (program_code a) 0) (at_place p m)) twin)
+    ends_here (program_code a) (at_place p m) verdict twin
 
 -- an exit does not idle
 clash : {P : Type 0} (b : XdpProgram) (u : Unfolded) (n : ℕ) (i : Insn) → i.op ≡ Exit → Idles b u n i → P
@@ -222,27 +246,27 @@ clash b u n i e (inl h) = let never : IsTrue (is_plain_jump Exit) = subst (λ o.
 clash b u n i e (inr h) = let never : IsTrue (is_constant_move Exit) = subst (λ o. IsTrue (is_constant_move o)) e h.move in absurd (cc)
 
 ends_with : (a b : XdpProgram) (u : Unfolded) (origin : List ℕ) (w : World) (m : Machine) (verdict : ℕ) → Covering a b u origin → Fits b m → StandsAt u.nodes.items w m
-    → step (program_code b) m ≡ Ends verdict → RunsTo (program_code a) (at_place (origin_of u origin w.node) m) (leaves verdict m)
+    → step (program_code b) m ≡ Ends verdict → RunsTo (program_code a) (at_place (origin_of u origin w.node) m) (leaves verdict m) nothing
 ends_with a b u origin w m verdict c fits stands stepped = by_rule at.covered
   where
     at : AtNode a b u origin w m
     at = at_node a b u origin w m c fits stands
 
-    by_insn : (o : Option Insn) → insn_at a.insns (origin_of u origin w.node) ≡ o → StepsBy a b u origin w.node at.links.insn o → RunsTo (program_code a) (at_place (origin_of u origin w.node) m) (leaves verdict m)
+    by_insn : (o : Option Insn) → insn_at a.insns (origin_of u origin w.node) ≡ o → StepsBy a b u origin w.node at.links.insn o → RunsTo (program_code a) (at_place (origin_of u origin w.node) m) (leaves verdict m) nothing
     by_insn None is st = absurd st
     by_insn (Some j) is st = ends_by a b m (origin_of u origin w.node) verdict at.links.insn stepped at.begins j is st.same
 
     by_rule : (Idles b u w.node at.links.insn × Waits u origin w.node) ⊎ StepsBy a b u origin w.node at.links.insn (insn_at a.insns (origin_of u origin w.node))
-        → RunsTo (program_code a) (at_place (origin_of u origin w.node) m) (leaves verdict m)
+        → RunsTo (program_code a) (at_place (origin_of u origin w.node) m) (leaves verdict m) nothing
     by_rule (inl x) = clash b u w.node at.links.insn (exit_ends (program_code b) m at.links.insn at.links.insn.op verdict refl (sym (step_is (program_code b) m at.links.insn at.links.insn.op at.begins refl) ∙ stepped)).0 x.0
     by_rule (inr st) = by_insn (insn_at a.insns (origin_of u origin w.node)) refl st
 
 -- ---- whole runs
 
--- a's run from the origin of a node comes to the end of b's
+-- a's run from the origin of a node comes to the end of b's, and touches what this touches
 keeps : (a b : XdpProgram) (u : Unfolded) (origin : List ℕ) → Covering a b u origin → {w : World} {m : Machine} {e : Leaves} → Follows (program_code b) u w m e → Fits b m → IsAsTold b u w m
-    → RunsTo (program_code a) (at_place (origin_of u origin w.node) m) e
-keeps a b u origin c (comes_to_end {w = w} {m = m} {verdict = verdict} stands ended) fits as_told = ends_with a b u origin w m verdict c fits stands ended
+    → RunsAlike a b (origin_of u origin w.node) m e
+keeps a b u origin c (comes_to_end {w = w} {m = m} {verdict = verdict} stands ended) fits as_told = (nothing, ends_with a b u origin w m verdict c fits stands ended, ends_here (program_code b) m verdict ended)
 keeps a b u origin c (goes_on {w = w} {v = v} {m = m} {n = n} {e = e} {taken = taken} stands goes along later rest) fits as_told =
     let change = c.laws.changes (program_code b) m n fits.registers goes in
     let range : IsInRange n = c.laws.ranges (program_code b) m n c.program.legal fits.range goes in
@@ -265,12 +289,13 @@ covers_keep_runs laws a b u origin program unfolded cover packet maps declared r
     let decls : maps.decls ≡ b.decls = declared ∙ sym cover.decls in
     let sound = laws.runs b u packet maps program unfolded decls range in
     let fits : Fits b m = record { registers = refl; range = range; decls = decls } in
-    let from_first : RunsTo (program_code a) (at_place (origin_of u origin 0) m) sound.left =
-    subst (λ n. RunsTo (program_code a) (at_place (origin_of u origin n) m) sound.left) sound.first (keeps a b u origin c sound.path fits (nothing_told b u sound.world m sound.first)) in
+    let from_first : RunsAlike a b (origin_of u origin 0) m sound.left =
+    subst (λ n. RunsAlike a b (origin_of u origin n) m sound.left) sound.first (keeps a b u origin c sound.path fits (nothing_told b u sound.world m sound.first)) in
     let begun : World = record { frame = length packet.frame; node = 0; gave = nothing_yet } in
     let described : DescribesMachine begun (kinds.start u.offsets) m = laws.start u.offsets nothing_yet m refl refl in
     record {
       left = sound.left;
-      of_b = (length u.nodes.items, sound.ended (length u.nodes.items) (omega arith));
-      of_a = settles_silently (program_code a) begun (kinds.start u.offsets) (unit_count a.insns) m (origin_of u origin 0) sound.left described cover.start from_first;
+      touched = from_first.0;
+      of_b = from_first.2;
+      of_a = settles_silently (program_code a) begun (kinds.start u.offsets) (unit_count a.insns) m (origin_of u origin 0) sound.left from_first.0 described cover.start from_first.1;
     }

@@ -4,6 +4,7 @@ pub mod Within
 pub mod Silent
 pub mod Twins
 pub mod SameInsn
+pub mod Touching
 pub mod Moving
 pub mod Told
 pub mod Covered

@@ -11,6 +11,7 @@ use Rattle.xdp_machine.specs.Values.{◌>>=◌}
 use Rattle.xdp_machine.specs.State.{Code, Machine, begins}
 use Rattle.xdp_machine.specs.Step.{Goes, NoCase, step, goes_to, jumps, outcome, outcome_at}
 use Rattle.xdp_machine.specs.Runs.{Leaves, run, then_on, Ended}
+use Rattle.xdp_machine.specs.Touched.{Touched, nothing, both, touched_by, touched_at, and_then, touched, operation_as}
 use Rattle.kind_core.specs.declared.kind.Kinds.{Kinds}
 use Rattle.kind_core.specs.Describes.{World, DescribesMachine}
 use Rattle.unfold_core.specs.Jumps.{distance, natural, led_to}
@@ -23,13 +24,26 @@ at_place place m = record m { place = place }
 pub moved : (w : World) (k : Kinds) (m : Machine) (place : ℕ) → DescribesMachine w k m → DescribesMachine w k (at_place place m)
 moved w k m place h = record { registers = h.registers; slots = h.slots; checked = h.checked; frame = h.frame }
 
--- the run of a machine comes to this end
-abbrev pub RunsTo : Code → Machine → Leaves → Type 0
-RunsTo code m e = (n : ℕ) × (run code n m ≡ Ended e)
+-- the run of a machine comes to this end, and touches this
+abbrev pub RunsTo : Code → Machine → Leaves → Touched → Type 0
+RunsTo code m e t = (n : ℕ) × (run code n m ≡ Ended e) × (touched code n m ≡ t)
 
-pub one_more : (code : Code) (m next : Machine) (e : Leaves) → step code m ≡ Goes next → RunsTo code next e → RunsTo code m e
-unfolding run
-one_more code m next e s r = (suc r.0, ap (then_on (run code r.0) m) s ∙ r.1)
+pub one_more : (code : Code) (m next : Machine) (e : Leaves) (t : Touched) → step code m ≡ Goes next → RunsTo code next e t → RunsTo code m e (both (touched_at code m) t)
+unfolding run touched
+one_more code m next e t s r = (suc r.0, ap (then_on (run code r.0) m) s ∙ r.1, ap (and_then (touched_at code m) (touched code r.0)) s ∙ ap (both (touched_at code m)) r.2)
+
+-- the same of a step that touches nothing
+pub one_silent : (code : Code) (m next : Machine) (e : Leaves) (t : Touched) → step code m ≡ Goes next → touched_at code m ≡ nothing → RunsTo code next e t → RunsTo code m e t
+one_silent code m next e t s none r = subst (RunsTo code m e) (ap (λ (x : Touched). both x t) none) (one_more code m next e t s r)
+
+-- an instruction that is no operation on a map
+pub untouched : (code : Code) (m : Machine) (i : Insn) (op : Op) → insn_at code.insns m.place ≡ Some i → i.op ≡ op → operation_as m i op ≡ None → touched_at code m ≡ nothing
+untouched code m i op h e none = ap (touched_by m.maps) (ap (λ (o : Option Insn). o >>= (λ j. operation_as m j j.op)) h ∙ ap (operation_as m i) e ∙ none)
+
+sure_silent : (k : Kinds) (m : Machine) (i : Insn) (op : Op) (taken : Bool) → sure_side k i op ≡ Some taken → operation_as m i op ≡ None
+sure_silent k m i (Ja w) taken h = refl
+sure_silent k m i (Jump w c s) taken h = refl
+sure_silent k m i op taken h = absurd (cc)
 
 -- ---- one step
 
@@ -80,31 +94,31 @@ settled_begins insns k zero place to h = absurd (cc)
 settled_begins insns k (suc n) place to h = begins_by (settled_within insns k n) k place (insn_at insns place) to h
 
 -- the machine, from a place where f leads to the end
-abbrev Onward : Code → Machine → Leaves → (ℕ → Option ℕ) → ℕ → Type 0
-Onward code m e f to = (q : ℕ) → f q ≡ Some to → (begins code.insns q ≡ true) × RunsTo code (at_place q m) e
+abbrev Onward : Code → Machine → Leaves → Touched → (ℕ → Option ℕ) → ℕ → Type 0
+Onward code m e t f to = (q : ℕ) → f q ≡ Some to → (begins code.insns q ≡ true) × RunsTo code (at_place q m) e t
 
-over_place : (code : Code) (w : World) (k : Kinds) (m : Machine) (i : Insn) (taken : Bool) (f : ℕ → Option ℕ) (to : ℕ) (e : Leaves) → DescribesMachine w k m → insn_at code.insns m.place ≡ Some i
-    → sure_side k i i.op ≡ Some taken → Onward code m e f to → (p : Option ℕ) → side m.place i taken ≡ p → (p >>= f) ≡ Some to → RunsTo code m e
-over_place code w k m i taken f to e d h sure on None led x = absurd (cc)
-over_place code w k m i taken f to e d h sure on (Some q) led x =
+over_place : (code : Code) (w : World) (k : Kinds) (m : Machine) (i : Insn) (taken : Bool) (f : ℕ → Option ℕ) (to : ℕ) (e : Leaves) (t : Touched) → DescribesMachine w k m → insn_at code.insns m.place ≡ Some i
+    → sure_side k i i.op ≡ Some taken → Onward code m e t f to → (p : Option ℕ) → side m.place i taken ≡ p → (p >>= f) ≡ Some to → RunsTo code m e t
+over_place code w k m i taken f to e t d h sure on None led x = absurd (cc)
+over_place code w k m i taken f to e t d h sure on (Some q) led x =
     let there = on q x in
-    one_more code m (at_place q m) e (sure_step code w k m i i.op taken q d h refl sure led there.0) there.1
+    one_silent code m (at_place q m) e t (sure_step code w k m i i.op taken q d h refl sure led there.0) (untouched code m i i.op h refl (sure_silent k m i i.op taken sure)) there.1
 
-over_side : (code : Code) (w : World) (k : Kinds) (m : Machine) (i : Insn) (f : ℕ → Option ℕ) (to : ℕ) (e : Leaves) → DescribesMachine w k m → insn_at code.insns m.place ≡ Some i
-    → Onward code m e f to → RunsTo code (at_place to m) e → (s : Option Bool) → sure_side k i i.op ≡ s → settled_by f m.place i s ≡ Some to → RunsTo code m e
-over_side code w k m i f to e d h on r None is g = let same : to ≡ m.place = cc in subst (λ x. RunsTo code (at_place x m) e) same r
-over_side code w k m i f to e d h on r (Some taken) is g = over_place code w k m i taken f to e d h is on (side m.place i taken) refl g
+over_side : (code : Code) (w : World) (k : Kinds) (m : Machine) (i : Insn) (f : ℕ → Option ℕ) (to : ℕ) (e : Leaves) (t : Touched) → DescribesMachine w k m → insn_at code.insns m.place ≡ Some i
+    → Onward code m e t f to → RunsTo code (at_place to m) e t → (s : Option Bool) → sure_side k i i.op ≡ s → settled_by f m.place i s ≡ Some to → RunsTo code m e t
+over_side code w k m i f to e t d h on r None is g = let same : to ≡ m.place = cc in subst (λ x. RunsTo code (at_place x m) e t) same r
+over_side code w k m i f to e t d h on r (Some taken) is g = over_place code w k m i taken f to e t d h is on (side m.place i taken) refl g
 
-over_insn : (code : Code) (w : World) (k : Kinds) (m : Machine) (f : ℕ → Option ℕ) (to : ℕ) (e : Leaves) → DescribesMachine w k m
-    → Onward code m e f to → RunsTo code (at_place to m) e → (o : Option Insn) → insn_at code.insns m.place ≡ o → settled_at f k m.place o ≡ Some to → RunsTo code m e
-over_insn code w k m f to e d on r None is g = absurd (cc)
-over_insn code w k m f to e d on r (Some i) is g = over_side code w k m i f to e d is on r (sure_side k i i.op) refl g
+over_insn : (code : Code) (w : World) (k : Kinds) (m : Machine) (f : ℕ → Option ℕ) (to : ℕ) (e : Leaves) (t : Touched) → DescribesMachine w k m
+    → Onward code m e t f to → RunsTo code (at_place to m) e t → (o : Option Insn) → insn_at code.insns m.place ≡ o → settled_at f k m.place o ≡ Some to → RunsTo code m e t
+over_insn code w k m f to e t d on r None is g = absurd (cc)
+over_insn code w k m f to e t d on r (Some i) is g = over_side code w k m i f to e t d is on r (sure_side k i i.op) refl g
 
-pub settles_silently : (code : Code) (w : World) (k : Kinds) (n : ℕ) (m : Machine) (to : ℕ) (e : Leaves) → DescribesMachine w k m → settled_within code.insns k n m.place ≡ Some to
-    → RunsTo code (at_place to m) e → RunsTo code m e
+pub settles_silently : (code : Code) (w : World) (k : Kinds) (n : ℕ) (m : Machine) (to : ℕ) (e : Leaves) (t : Touched) → DescribesMachine w k m → settled_within code.insns k n m.place ≡ Some to
+    → RunsTo code (at_place to m) e t → RunsTo code m e t
 unfolding settled_within
-settles_silently code w k zero m to e d h r = absurd (cc)
-settles_silently code w k (suc n) m to e d h r =
-    over_insn code w k m (settled_within code.insns k n) to e d
-    (λ q x. (settled_begins code.insns k n q to x, settles_silently code w k n (at_place q m) to e (moved w k m q d) x r))
+settles_silently code w k zero m to e t d h r = absurd (cc)
+settles_silently code w k (suc n) m to e t d h r =
+    over_insn code w k m (settled_within code.insns k n) to e t d
+    (λ q x. (settled_begins code.insns k n q to x, settles_silently code w k n (at_place q m) to e t (moved w k m q d) x r))
     r (insn_at code.insns m.place) refl h

@@ -1,8 +1,8 @@
 -- What is known of a command that has ended, by the status that is reported.
 use Rattle.std.proofs.Common.{false, ◌≡◌, ◌≢◌, ◌⊎◌, IsTrue, [], Option, Some, None, Result, Ok, Err, OnOk, OnErr, IfErr, refl, ◌∙◌, ap, sym, subst, inl, inr}
-use Rattle.shelf_core.specs.Shelf.{Rose, SameHeld}
+use Rattle.shelf_core.specs.Shelf.{Holding, Rose, SameHeld}
 use Rattle.maps_text.specs.Laws.{HasOneMeaning}
-use Rattle.command_line.specs.Request.{Request, AskCompile, AskRun, AskSim, AskRef, AskReport, AskDemo}
+use Rattle.command_line.specs.Request.{Request, AskCompile, AskRun, AskSim, AskRef, AskReport, AskPrepare, AskDemo}
 use Rattle.ehdl_top.specs.declared.status.Status.{Status}
 use Rattle.ehdl_top.specs.declared.status.Status.TheVariants as status
 use Rattle.ehdl_top.specs.declared.error.CommandError.{CommandError}
@@ -11,21 +11,22 @@ use Rattle.ehdl_top.specs.Status.{ended, status_of}
 use Rattle.capture_run.specs.States.{ShelfState, SinkState, Changes, OneRose}
 use Rattle.ehdl_top.specs.Inputs.{AreReady, FirstStop, OneUnread, EndsAtInput, names_in}
 use Rattle.capture_run.specs.Writes.{Outputs}
-use Rattle.ehdl_top.specs.Requests.{inputs_of, IsOutcome, EndsItself, PutsLines, OneUnwritten, IsFault, CanEnd, IsCause}
+use Rattle.ehdl_top.specs.Requests.{inputs_of, IsOutcome, Declines, EndsDeclined, EndsItself, PutsLines, OneUnwritten, IsFault, CanEnd, IsCause, HasDeclined}
 use Rattle.ehdl_top.specs.Ends.{EndsAs, HasStopped, LeftUnread, LeftOut, Loses, AllWritten, ByInputs, IsEarly, SaysWhy}
-use Rattle.ehdl_top.specs.Steps.{FailsWrite, WritesAll, StopsBy, Unread, OutOfMemory, AtInput, Unwritten, UnreadLate, OutLate, AtOther, AtEnd, EndsIn, EndsBy, IsFixed}
+use Rattle.ehdl_top.specs.Steps.{FailsWrite, WritesAll, StopsBy, Unread, OutOfMemory, AtInput, Declined, Unwritten, UnreadLate, OutLate, AtOther, AtEnd, EndsIn, EndsBy, IsFixed}
 use Rattle.capture_run.proofs.StateLaws.{same_held}
 use Rattle.ehdl_top.proofs.InputLemmas.{IsInputStatus, ready_stops, one_stop, ends_input, unread_rose}
 use Rattle.ehdl_top.proofs.FormLemmas.{inputs_sound}
-use Rattle.ehdl_top.proofs.OutcomeLemmas.{outcome_ready, ends_one}
+use Rattle.ehdl_top.proofs.OutcomeLemmas.{outcome_ready, declined_ready, ends_one}
 
--- A command has ended with this status: a read failed; memory ran out, and nothing was written; an input is not in its form; a write
+-- A command has ended with this status: a read failed; memory ran out, and nothing was written; an input is not in its form, or is declined; a write
 -- failed; a read failed, or memory ran out, between two writes; a shelf that does not tell its content held another capture when it was read
 -- again; all was written; all was written, and memory ran out after it; all was written, and a put of the command's lines failed.
 pub data Ended (request : Request) (old new : ShelfState) (before after : SinkState) (result : Status) : Type 0 where
   AtRead : result ≡ status.ReadFault → OneUnread (inputs_of request old.held) old new → Changes [] old new → Ended request old new before after result
   Out : result ≡ status.NoMemory → Changes [] old new → Ended request old new before after result
   NotReady : (e : CommandError) → result ≡ status_of e → EndsAtInput (inputs_of request old.held) (status_of e) → (IsTrue old.tells → FirstStop (inputs_of request old.held) old.held e) → Changes [] old new → Ended request old new before after result
+  AtDecline : (e : CommandError) → result ≡ status_of e → EndsDeclined request (status_of e) → (IsTrue old.tells → Declines request old.held e) → Changes [] old new → Ended request old new before after result
   AtWrite : result ≡ status.WriteFault → FailsWrite request old new → Ended request old new before after result
   AtLateRead : result ≡ status.ReadFault → OneUnread (inputs_of request old.held) old new → (IsTrue old.tells → HasStopped request (LeftUnread request) old new) → Ended request old new before after result
   LateOut : result ≡ status.NoMemory → (IsTrue old.tells → Changes [] old new ⊎ HasStopped request (LeftOut request) old new) → Ended request old new before after result
@@ -50,6 +51,8 @@ stop_ended request old new before after e result (OutOfMemory is same) (inl r) f
 stop_ended request old new before after e result (OutOfMemory is same) (inr r) fixed = Out r same
 stop_ended request old new before after e result (AtInput ends first same) (inl r) fixed = NotReady e r ends first same
 stop_ended request old new before after e result (AtInput ends first same) (inr r) fixed = Out r same
+stop_ended request old new before after e result (Declined ends declines same) (inl r) fixed = AtDecline e r ends declines same
+stop_ended request old new before after e result (Declined ends declines same) (inr r) fixed = Out r same
 stop_ended request old new before after e result (Unwritten is f) reported fixed = AtWrite (fixed (fixed_as e error.WriteFault is tt) ∙ ap status_of is) f
 stop_ended request old new before after e result (UnreadLate is u stopped) reported fixed = AtLateRead (fixed (fixed_as e error.ReadFault is tt) ∙ ap status_of is) u stopped
 stop_ended request old new before after e result (OutLate is stopped) (inl r) fixed = LateOut (r ∙ ap status_of is) stopped
@@ -69,10 +72,20 @@ itself_written (AskCompile object verilog chosen) s e = as_status AllWritten sta
 itself_written (AskRun names verilog chosen ifindex) s e = as_status AllWritten status.Done s (sym e) tt
 itself_written (AskRef names chosen ifindex) s e = as_status AllWritten status.Done s (sym e) tt
 itself_written (AskReport object chosen) s e = as_status AllWritten status.Done s (sym e) tt
+itself_written (AskPrepare object output chosen) s e = as_status AllWritten status.Done s (sym e) tt
 itself_written (AskDemo seed packets) s e = as_status AllWritten status.Done s (sym e) tt
 itself_written (AskSim names verilog chosen ifindex clocks events) s (inl e) = as_status AllWritten status.Done s (sym e) tt
 itself_written (AskSim names verilog chosen ifindex clocks events) s (inr (inl e)) = as_status AllWritten status.XValue s (sym e) tt
 itself_written (AskSim names verilog chosen ifindex clocks events) s (inr (inr e)) = as_status AllWritten status.Late s (sym e) tt
+
+declined_refused : (request : Request) (s : Status) → EndsDeclined request s → s ≡ status.Refused
+declined_refused (AskPrepare object output chosen) s ends = ends
+declined_refused request s ends = absurd ends
+
+-- a command that declines an object comes to no end of its own
+declined_alone : (request : Request) (held : Holding) (e f : CommandError) (outputs : Outputs) → Declines request held e → ¬ IsOutcome request held (Some f) outputs
+declined_alone (AskPrepare object output chosen) held e f outputs declines o = let never : Some f ≡ None = o.0 in absurd cc
+declined_alone request held e f outputs declines o = absurd declines
 
 input_unwritten : (s : Status) → IsInputStatus s → ¬ AllWritten s
 input_unwritten status.Object i w = w
@@ -107,6 +120,9 @@ module _ (request : Request) (old new : ShelfState) (before after : SinkState) (
   at_end : (end : Option CommandError) → result ≡ ended end → WritesAll request end old new → AllWritten result
   at_end end r w = as_status AllWritten (ended end) result (sym r) (itself_written request (ended end) w.can)
 
+  at_decline : (e : CommandError) → result ≡ status_of e → EndsDeclined request (status_of e) → result ≡ status.Refused
+  at_decline e r ends = r ∙ declined_refused request (status_of e) ends
+
   outcome_stops : (end : Option CommandError) (outputs : Outputs) (e : CommandError) → IsOutcome request old.held end outputs → ¬ FirstStop (inputs_of request old.held) old.held e
   outcome_stops end outputs e o = ready_stops (inputs_of request old.held) old.held e (inputs_sound request old.held) (outcome_ready request old.held end outputs o)
 
@@ -114,6 +130,7 @@ module _ (request : Request) (old new : ShelfState) (before after : SinkState) (
   ended_outcome (AtRead r u same) all told = absurd (as_status AllWritten result status.ReadFault r all)
   ended_outcome (Out r same) all told = absurd (as_status AllWritten result status.NoMemory r all)
   ended_outcome (NotReady e r ends first same) all told = absurd (input_unwritten result (at_input e r ends) all)
+  ended_outcome (AtDecline e r ends declines same) all told = absurd (as_status AllWritten result status.Refused (at_decline e r ends) all)
   ended_outcome (AtWrite r f) all told = absurd (as_status AllWritten result status.WriteFault r all)
   ended_outcome (AtLateRead r u stopped) all told = absurd (as_status AllWritten result status.ReadFault r all)
   ended_outcome (LateOut r stopped) all told = absurd (as_status AllWritten result status.NoMemory r all)
@@ -123,23 +140,25 @@ module _ (request : Request) (old new : ShelfState) (before after : SinkState) (
   ended_outcome (AtPut r puts rose w) all told = absurd (as_status AllWritten result status.WriteFault r all)
 
   pub ended_complete : Ended request old new before after result → IsTrue old.tells → AreReady (inputs_of request old.held) old.held → ¬ OneRose (names_in (inputs_of request old.held)) old.read_faults new.read_faults → ¬ OneUnwritten request old new before after
-      → AllWritten result ⊎ (result ≡ status.NoMemory)
+      → AllWritten result ⊎ ((result ≡ status.NoMemory) ⊎ HasDeclined request old.held result)
   ended_complete (AtRead r u same) told ready quiet calm = absurd (quiet (unread_rose (inputs_of request old.held) old new u))
-  ended_complete (Out r same) told ready quiet calm = inr r
+  ended_complete (Out r same) told ready quiet calm = inr (inl r)
   ended_complete (NotReady e r ends first same) told ready quiet calm =
       absurd (ready_stops (inputs_of request old.held) old.held e (inputs_sound request old.held) ready (first told))
+  ended_complete (AtDecline e r ends declines same) told ready quiet calm = inr (inr (e, declines told, r))
   ended_complete (AtWrite r f) told ready quiet calm = absurd (calm (inl f.rose))
   ended_complete (AtLateRead r u stopped) told ready quiet calm = absurd (quiet (unread_rose (inputs_of request old.held) old new u))
-  ended_complete (LateOut r stopped) told ready quiet calm = inr r
+  ended_complete (LateOut r stopped) told ready quiet calm = inr (inl r)
   ended_complete (NotSame r ends untold) told ready quiet calm = absurd (untold told)
   ended_complete (Whole end r w) told ready quiet calm = inl (at_end end r w)
-  ended_complete (WholeOut end r w) told ready quiet calm = inr r
+  ended_complete (WholeOut end r w) told ready quiet calm = inr (inl r)
   ended_complete (AtPut r puts rose w) told ready quiet calm = absurd (calm (inr (puts, rose)))
 
   pub ended_usage : Ended request old new before after result → result ≢ status.Usage
   ended_usage (AtRead r u same) e = let f : status.ReadFault ≡ status.Usage = sym r ∙ e in absurd cc
   ended_usage (Out r same) e = let f : status.NoMemory ≡ status.Usage = sym r ∙ e in absurd cc
   ended_usage (NotReady e' r ends first same) e = as_status IsInputStatus result status.Usage e (at_input e' r ends)
+  ended_usage (AtDecline e' r ends declines same) e = let f : status.Refused ≡ status.Usage = sym (at_decline e' r ends) ∙ e in absurd cc
   ended_usage (AtWrite r f) e = let f' : status.WriteFault ≡ status.Usage = sym r ∙ e in absurd cc
   ended_usage (AtLateRead r u stopped) e = let f : status.ReadFault ≡ status.Usage = sym r ∙ e in absurd cc
   ended_usage (LateOut r stopped) e = let f : status.NoMemory ≡ status.Usage = sym r ∙ e in absurd cc
@@ -152,6 +171,7 @@ module _ (request : Request) (old new : ShelfState) (before after : SinkState) (
   ended_read (AtRead r u same) e = u
   ended_read (Out r same) e = let f : status.NoMemory ≡ status.ReadFault = sym r ∙ e in absurd cc
   ended_read (NotReady e' r ends first same) e = absurd (as_status IsInputStatus result status.ReadFault e (at_input e' r ends))
+  ended_read (AtDecline e' r ends declines same) e = let f : status.Refused ≡ status.ReadFault = sym (at_decline e' r ends) ∙ e in absurd cc
   ended_read (AtWrite r f) e = let f' : status.WriteFault ≡ status.ReadFault = sym r ∙ e in absurd cc
   ended_read (AtLateRead r u stopped) e = u
   ended_read (LateOut r stopped) e = let f : status.NoMemory ≡ status.ReadFault = sym r ∙ e in absurd cc
@@ -164,6 +184,7 @@ module _ (request : Request) (old new : ShelfState) (before after : SinkState) (
   ended_write (AtRead r u same) e = let f : status.ReadFault ≡ status.WriteFault = sym r ∙ e in absurd cc
   ended_write (Out r same) e = let f : status.NoMemory ≡ status.WriteFault = sym r ∙ e in absurd cc
   ended_write (NotReady e' r ends first same) e = absurd (as_status IsInputStatus result status.WriteFault e (at_input e' r ends))
+  ended_write (AtDecline e' r ends declines same) e = let f : status.Refused ≡ status.WriteFault = sym (at_decline e' r ends) ∙ e in absurd cc
   ended_write (AtWrite r f) e = inl f.rose
   ended_write (AtLateRead r u stopped) e = let f : status.ReadFault ≡ status.WriteFault = sym r ∙ e in absurd cc
   ended_write (LateOut r stopped) e = let f : status.NoMemory ≡ status.WriteFault = sym r ∙ e in absurd cc
@@ -173,22 +194,24 @@ module _ (request : Request) (old new : ShelfState) (before after : SinkState) (
   ended_write (AtPut r puts rose w) e = inr (puts, rose)
 
   pub ended_can : Ended request old new before after result → CanEnd request old.held result
-  ended_can (AtRead r u same) = inr (inr (as_status IsFault status.ReadFault result (sym r) tt))
-  ended_can (Out r same) = inr (inr (as_status IsFault status.NoMemory result (sym r) tt))
+  ended_can (AtRead r u same) = inr (inr (inr (as_status IsFault status.ReadFault result (sym r) tt)))
+  ended_can (Out r same) = inr (inr (inr (as_status IsFault status.NoMemory result (sym r) tt)))
   ended_can (NotReady e' r ends first same) = inl (as_status (EndsAtInput (inputs_of request old.held)) (status_of e') result (sym r) ends)
-  ended_can (AtWrite r f) = inr (inr (as_status IsFault status.WriteFault result (sym r) tt))
-  ended_can (AtLateRead r u stopped) = inr (inr (as_status IsFault status.ReadFault result (sym r) tt))
-  ended_can (LateOut r stopped) = inr (inr (as_status IsFault status.NoMemory result (sym r) tt))
+  ended_can (AtDecline e' r ends declines same) = inr (inr (inl (as_status (EndsDeclined request) (status_of e') result (sym r) ends)))
+  ended_can (AtWrite r f) = inr (inr (inr (as_status IsFault status.WriteFault result (sym r) tt)))
+  ended_can (AtLateRead r u stopped) = inr (inr (inr (as_status IsFault status.ReadFault result (sym r) tt)))
+  ended_can (LateOut r stopped) = inr (inr (inr (as_status IsFault status.NoMemory result (sym r) tt)))
   ended_can (NotSame r ends untold) = inl (as_status (EndsAtInput (inputs_of request old.held)) status.Input result (sym r) ends)
   ended_can (Whole end r w) = inr (inl (as_status (EndsItself request) (ended end) result (sym r) w.can))
-  ended_can (WholeOut end r w) = inr (inr (as_status IsFault status.NoMemory result (sym r) tt))
-  ended_can (AtPut r puts rose w) = inr (inr (as_status IsFault status.WriteFault result (sym r) tt))
+  ended_can (WholeOut end r w) = inr (inr (inr (as_status IsFault status.NoMemory result (sym r) tt)))
+  ended_can (AtPut r puts rose w) = inr (inr (inr (as_status IsFault status.WriteFault result (sym r) tt)))
 
   pub ended_inputs : Ended request old new before after result → IsTrue old.tells → (e : CommandError) → FirstStop (inputs_of request old.held) old.held e → (result ≡ status_of e) ⊎ ((result ≡ status.ReadFault) ⊎ (result ≡ status.NoMemory))
   ended_inputs (AtRead r u same) told e stop = inr (inl r)
   ended_inputs (Out r same) told e stop = inr (inr r)
   ended_inputs (NotReady e' r ends first same) told e stop =
       inl (r ∙ one_stop (inputs_of request old.held) old.held e' e (inputs_sound request old.held) (first told) stop)
+  ended_inputs (AtDecline e' r ends declines same) told e stop = absurd (ready_stops (inputs_of request old.held) old.held e (inputs_sound request old.held) (declined_ready request old.held e' (declines told)) stop)
   ended_inputs (AtWrite r f) told e stop = let b = f.broken told in absurd (outcome_stops b.end b.outputs e b.outcome stop)
   ended_inputs (AtLateRead r u stopped) told e stop = inr (inl r)
   ended_inputs (LateOut r stopped) told e stop = inr (inr r)
@@ -201,6 +224,7 @@ module _ (request : Request) (old new : ShelfState) (before after : SinkState) (
   ended_driven one (AtRead r u same) told e outputs o = inr (as_status IsFault status.ReadFault result (sym r) tt)
   ended_driven one (Out r same) told e outputs o = inr (as_status IsFault status.NoMemory result (sym r) tt)
   ended_driven one (NotReady e' r ends first same) told e outputs o = absurd (outcome_stops (Some e) outputs e' o (first told))
+  ended_driven one (AtDecline e' r ends declines same) told e outputs o = absurd (declined_alone request old.held e' e outputs (declines told) o)
   ended_driven one (AtWrite r f) told e outputs o = inr (as_status IsFault status.WriteFault result (sym r) tt)
   ended_driven one (AtLateRead r u stopped) told e outputs o = inr (as_status IsFault status.ReadFault result (sym r) tt)
   ended_driven one (LateOut r stopped) told e outputs o = inr (as_status IsFault status.NoMemory result (sym r) tt)
@@ -213,6 +237,7 @@ module _ (request : Request) (old new : ShelfState) (before after : SinkState) (
   ended_loses (AtRead r u same) told = as_status (λ s. Loses s request old new) status.ReadFault result (sym r) (inl same)
   ended_loses (Out r same) told = as_status (λ s. Loses s request old new) status.NoMemory result (sym r) (inl same)
   ended_loses (NotReady e r ends first same) told = loses_input request old new result (at_input e r ends) same
+  ended_loses (AtDecline e r ends declines same) told = as_status (λ s. Loses s request old new) status.Refused result (sym (at_decline e r ends)) tt
   ended_loses (AtWrite r f) told = as_status (λ s. Loses s request old new) status.WriteFault result (sym r) (inl (f.broken told))
   ended_loses (AtLateRead r u stopped) told = as_status (λ s. Loses s request old new) status.ReadFault result (sym r) (inr (stopped told))
   ended_loses (LateOut r stopped) told = as_status (λ s. Loses s request old new) status.NoMemory result (sym r) (elim (stopped told) [ inl same ↦ inl same | inr part ↦ inr (inl part) ])
@@ -229,11 +254,12 @@ pub stops_cause : (request : Request) (old new : ShelfState) (e : CommandError) 
 stops_cause request old new e (Unread is u same) by told = absurd (by_as e error.ReadFault is by)
 stops_cause request old new e (OutOfMemory is same) by told = absurd (by_as e error.NoMemory is by)
 stops_cause request old new e (AtInput ends first same) by told = inl (first told)
+stops_cause request old new e (Declined ends declines same) by told = inr (inr (declines told))
 stops_cause request old new e (Unwritten is f) by told = absurd (by_as e error.WriteFault is by)
 stops_cause request old new e (UnreadLate is u stopped) by told = absurd (by_as e error.ReadFault is by)
 stops_cause request old new e (OutLate is stopped) by told = absurd (by_as e error.NoMemory is by)
 stops_cause request old new e (AtOther is ends untold) by told = absurd (untold told)
-stops_cause request old new e (AtEnd w) by told = let h = w.has told in inr (h.outputs, h.outcome)
+stops_cause request old new e (AtEnd w) by told = let h = w.has told in inr (inl (h.outputs, h.outcome))
 
 pub no_inputs : (result : Status) → result ≡ status.NoMemory → ¬ ByInputs result
 no_inputs result r by = as_status ByInputs result status.NoMemory r by
@@ -267,6 +293,7 @@ stops_early : (request : Request) (old new : ShelfState) (e : CommandError) → 
 stops_early request old new e (Unread is u same) early = same_held old new same
 stops_early request old new e (OutOfMemory is same) early = same_held old new same
 stops_early request old new e (AtInput ends first same) early = same_held old new same
+stops_early request old new e (Declined ends declines same) early = same_held old new same
 stops_early request old new e (Unwritten is f) early = absurd (early_as e error.WriteFault is early)
 stops_early request old new e (UnreadLate is u stopped) early = absurd (early_as e error.ReadFault is early)
 stops_early request old new e (OutLate is stopped) early = absurd (early_as e error.NoMemory is early)

@@ -11,9 +11,9 @@ use Rattle.capture_run.specs.States.{ShelfState, Changes, OneRose}
 use Rattle.capture_run.specs.Writes.{Write, AreDone, OneFailed}
 use Rattle.ehdl_top.specs.Forms.{InputForm, IsReady, IsFaulty, maps_form, capture_form}
 use Rattle.ehdl_top.specs.Inputs.{Input, input, may_input, AreReady, FirstStop, OneUnread, EndsAtInput}
-use Rattle.ehdl_top.specs.Requests.{inputs_of, outputs_of, EndsItself}
+use Rattle.ehdl_top.specs.Requests.{inputs_of, outputs_of, Declines, EndsDeclined, EndsItself}
 use Rattle.ehdl_top.specs.Ends.{HasStopped, LeftUnread, LeftOut}
-use Rattle.ehdl_top.specs.Steps.{IsRead, IsUnread, AreUnread, FailsWrite, WritesAll, GoesOut, EndsOver, IsOver, StopsBy, Unread, AtInput, OutOfMemory, Unwritten, UnreadLate, OutLate, AtOther, AtEnd, EndsIn, AreOneEnd}
+use Rattle.ehdl_top.specs.Steps.{IsRead, IsUnread, AreUnread, FailsWrite, WritesAll, GoesOut, EndsOver, IsOver, StopsBy, Unread, AtInput, OutOfMemory, Declined, Unwritten, UnreadLate, OutLate, AtOther, AtEnd, EndsIn, AreOneEnd}
 use Rattle.capture_run.proofs.StateLaws.{changes_none, changes_then, changes_within, rose_from, one_rose_from, tells_later}
 use Rattle.ehdl_top.proofs.InputLemmas.{unread_behind, stop_behind, ends_behind}
 use Rattle.capture_run.proofs.WriteLaws.{AreOf, done_changes, failed_changes}
@@ -22,6 +22,10 @@ use Rattle.ehdl_top.proofs.OutcomeLemmas.{Makes, was_held, writes_all, fails_wri
 -- memory ran out before anything was read
 pub out_of_memory : {T : Type 0} (request : Request) (s : ShelfState) → EndsIn {T = T} request s s (Err error.NoMemory)
 out_of_memory request s = record { by = OutOfMemory refl (changes_none s); kept = changes_within (outputs_of request) s s (changes_none s) }
+
+-- an object that was read is declined, and nothing was written
+pub ends_declined : {T : Type 0} (request : Request) (old new : ShelfState) (e : CommandError) → EndsDeclined request (status_of e) → (IsTrue old.tells → Declines request old.held e) → Changes [] old new → EndsIn {T = T} request old new (Err e)
+ends_declined request old new e ends declines same = record { by = Declined ends declines same; kept = changes_within (outputs_of request) old new same }
 
 -- ---- an input that was not read
 -- what was read from a later state, in which nothing has changed, is in its form

@@ -4,7 +4,7 @@ use Rattle.std.specs.declared.vec.Vec.{Vec}
 use Rattle.std.specs.declared.alloc.Global.{Global}
 use Rattle.shelf_core.specs.Shelf.{SameHeld}
 use Rattle.shelf_core.proofs.PrefixLaws.{rose_within}
-use Rattle.command_line.specs.Request.{Request, AskReport, AskDemo}
+use Rattle.command_line.specs.Request.{Request, AskReport, AskPrepare, AskDemo}
 use Rattle.command_line.specs.AsksFor.{AsksFor}
 use Rattle.ehdl_top.specs.declared.status.Status.{Status}
 use Rattle.ehdl_top.specs.declared.status.Status.TheVariants as status
@@ -21,22 +21,23 @@ abbrev End : Type 0
 End = Result (Vec (List ℕ) Global) CommandError
 
 -- a command that puts none has none
-puts_lines : (request : Request) (old : ShelfState) (lines : List (List ℕ)) → AreLines request old lines → lines ≢ [] → PutsLines request
-puts_lines request old lines are some = go request are
+puts_lines : (request : Request) (old new : ShelfState) (lines : List (List ℕ)) → AreLines request old new lines → lines ≢ [] → PutsLines request
+puts_lines request old new lines are some = go request are
   where
-    go : (request : Request) → AreLines request old lines → PutsLines request
+    go : (request : Request) → AreLines request old new lines → PutsLines request
     go (AskReport object chosen) are = tt
+    go (AskPrepare object output chosen) are = tt
     go (AskDemo seed packets) are = tt
     go request are = absurd (some are)
 
 -- those of the words are those of what they ask for
-pub lines_of : (words : List (List ℕ)) (old : ShelfState) (r : End) (request : Request) → AsksFor words request → IfOk r (λ lines. AreLinesOf words old lines.items) → IfOk r (λ lines. AreLines request old lines.items)
-lines_of words old (Ok lines) request asks are = are request asks
-lines_of words old (Err e) request asks are = tt
+pub lines_of : (words : List (List ℕ)) (old new : ShelfState) (r : End) (request : Request) → AsksFor words request → IfOk r (λ lines. AreLinesOf words old new lines.items) → IfOk r (λ lines. AreLines request old new lines.items)
+lines_of words old new (Ok lines) request asks are = are request asks
+lines_of words old new (Err e) request asks are = tt
 
-pub lines_asked : (words : List (List ℕ)) (old : ShelfState) (asked : Request) (r : End) → ((request : Request) → AsksFor words request → asked ≡ request) → IfOk r (λ lines. AreLines asked old lines.items) → IfOk r (λ lines. AreLinesOf words old lines.items)
-lines_asked words old asked (Ok lines) same are = λ request asks. subst (λ (a : Request). AreLines a old lines.items) (same request asks) are
-lines_asked words old asked (Err e) same are = tt
+pub lines_asked : (words : List (List ℕ)) (old new : ShelfState) (asked : Request) (r : End) → ((request : Request) → AsksFor words request → asked ≡ request) → IfOk r (λ lines. AreLines asked old new lines.items) → IfOk r (λ lines. AreLinesOf words old new lines.items)
+lines_asked words old new asked (Ok lines) same are = λ request asks. subst (λ (a : Request). AreLines a old new lines.items) (same request asks) are
+lines_asked words old new asked (Err e) same are = tt
 
 -- ---- statuses
 abbrev IsStopped : Status → Type 0
@@ -68,32 +69,33 @@ no_error : {P : Type 0} (lines : Vec (List ℕ) Global) (e : CommandError) (r : 
 no_error lines e r is err = absurd cc
 
 -- ---- how the command has ended
-pub finished_ended : (request : Request) (old new : ShelfState) (before after : SinkState) (result : Status) (r : End) → EndsIn request old new r → IfOk r (λ lines. AreLines request old lines.items) → IsFinished r result before after → Ended request old new before after result
+pub finished_ended : (request : Request) (old new : ShelfState) (before after : SinkState) (result : Status) (r : End) → EndsIn request old new r → IfOk r (λ lines. AreLines request old new lines.items) → IsFinished r result before after → Ended request old new before after result
 finished_ended request old new before after result (Ok lines) ends are (inl done) = Whole None done.0 ends.by
 finished_ended request old new before after result (Ok lines) ends are (inr cut) =
-    AtPut cut.status (puts_lines request old lines.items are cut.cut.some) (rose_within before.faults before.faults cut.mid.faults after.faults (omega arith) cut.cut.rose cut.later.faults) ends.by
+    AtPut cut.status (puts_lines request old new lines.items are cut.cut.some) (rose_within before.faults before.faults cut.mid.faults after.faults (omega arith) cut.cut.rose cut.later.faults) ends.by
 finished_ended request old new before after result (Err e) ends are said = stop_ended request old new before after e result ends.by (reported e result before after said.0) said.1
 
 module _ (words : List (List ℕ)) (old new : ShelfState) (before after : SinkState) (result : Status) where
   -- the lines were put
-  pub finished_put : (r : End) → IfOk r (λ lines. AreLinesOf words old lines.items) → IsFinished r result before after → result ≡ status.Done → (lines : List (List ℕ)) × AreLinesOf words old lines × ArePut lines before after
+  pub finished_put : (r : End) → IfOk r (λ lines. AreLinesOf words old new lines.items) → IsFinished r result before after → result ≡ status.Done → (lines : List (List ℕ)) × AreLinesOf words old new lines × ArePut lines before after
   finished_put (Ok lines) are (inl done) e = (lines.items, are, done.1)
   finished_put (Ok lines) are (inr cut) e = let f : status.WriteFault ≡ status.Done = sym cut.status ∙ e in absurd cc
   finished_put (Err e') are said e = absurd (never_done e' result (reported e' result before after said.0) e)
 
   -- and of most commands there are none
-  pub finished_silent : (r : End) (request : Request) (P : Type 0) → IfOk r (λ lines. AreLinesOf words old lines.items) → IsFinished r result before after → IfOk r (λ lines. lines.items ≡ [] → P) → result ≡ status.Done → AsksFor words request → ¬ PutsLines request → P
+  pub finished_silent : (r : End) (request : Request) (P : Type 0) → IfOk r (λ lines. AreLinesOf words old new lines.items) → IsFinished r result before after → IfOk r (λ lines. lines.items ≡ [] → P) → result ≡ status.Done → AsksFor words request → ¬ PutsLines request → P
   finished_silent (Ok lines) request P are said silent e asks none = silent (no_lines request (are request asks) none)
     where
-      no_lines : (request : Request) → AreLines request old lines.items → ¬ PutsLines request → lines.items ≡ []
+      no_lines : (request : Request) → AreLines request old new lines.items → ¬ PutsLines request → lines.items ≡ []
       no_lines (AskReport object chosen) are none = absurd (none tt)
+      no_lines (AskPrepare object output chosen) are none = absurd (none tt)
       no_lines (AskDemo seed packets) are none = absurd (none tt)
       no_lines request are none = are
   finished_silent (Err e') request P are said silent e asks none = absurd (never_done e' result (reported e' result before after said.0) e)
 
   -- else a line says why
-  pub finished_why : (r : End) → IfOk r (λ lines. AreLinesOf words old lines.items) → ((request : Request) → AsksFor words request → EndsIn request old new r) → IsFinished r result before after → result ≢ status.Done
-      → (e : CommandError) × SaysLast words old e result before after × (ByInputs result → IsTrue old.tells → (request : Request) → AsksFor words request → IsCause request old.held e)
+  pub finished_why : (r : End) → IfOk r (λ lines. AreLinesOf words old new lines.items) → ((request : Request) → AsksFor words request → EndsIn request old new r) → IsFinished r result before after → result ≢ status.Done
+      → (e : CommandError) × SaysLast words old new e result before after × (ByInputs result → IsTrue old.tells → (request : Request) → AsksFor words request → IsCause request old.held e)
   finished_why (Ok lines) are ends (inl done) not = absurd (not done.0)
   finished_why (Ok lines) are ends (inr cut) not = (
     error.WriteFault,
@@ -103,7 +105,7 @@ module _ (words : List (List ℕ)) (old new : ShelfState) (before after : SinkSt
   finished_why (Err e) are ends said not = why_said said.0
     where
       why_said : SaysWhy e result before after ⊎ SaysWhy error.NoMemory result before after
-          → (f : CommandError) × SaysLast words old f result before after × (ByInputs result → IsTrue old.tells → (request : Request) → AsksFor words request → IsCause request old.held f)
+          → (f : CommandError) × SaysLast words old new f result before after × (ByInputs result → IsTrue old.tells → (request : Request) → AsksFor words request → IsCause request old.held f)
       why_said (inl w) = (
         e,
         record { before = before; behind = inl refl; why = w },

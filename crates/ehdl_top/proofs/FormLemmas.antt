@@ -20,7 +20,7 @@ use Rattle.xdp_state.specs.declared.refusal.Refusal.{Refusal}
 use Rattle.kind_core.specs.declared.kind.Offsets.TheVariants.{Varying}
 use Rattle.row_rules.proofs.NodeRows.OneOutcomeLaws.{has_one_outcome}
 use Rattle.shelf_core.specs.Shelf.{Holding}
-use Rattle.command_line.specs.Request.{Request, AskCompile, AskRun, AskSim, AskRef, AskReport, AskDemo}
+use Rattle.command_line.specs.Request.{Request, AskCompile, AskRun, AskSim, AskRef, AskReport, AskPrepare, AskDemo}
 use Rattle.ehdl_top.specs.declared.status.Status.{Status}
 use Rattle.ehdl_top.specs.declared.status.Status.TheVariants as status
 use Rattle.ehdl_top.specs.declared.error.CommandError.{CommandError}
@@ -180,6 +180,7 @@ inputs_sound (AskSim names verilog chosen ifindex clocks events) held =
 inputs_sound (AskRef names chosen ifindex) held =
     (program_sound chosen accepted accepted_apart, may_sound names.maps _ _ (maps_sound (held_decls chosen (held names.object))) (capture_sound, tt))
 inputs_sound (AskReport object chosen) held = (program_sound chosen accepted accepted_apart, tt)
+inputs_sound (AskPrepare object output chosen) held = (object_sound chosen, tt)
 inputs_sound (AskDemo seed packets) held = tt
 
 -- ---- what bytes are given up for

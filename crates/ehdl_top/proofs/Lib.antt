@@ -2,7 +2,6 @@ pub mod ErrorLemmas
 pub mod InputLemmas
 pub mod FormLemmas
 pub mod ObjectLemmas
-pub mod ProgramLemmas
 pub mod CaptureLemmas
 pub mod DriveLemmas
 pub mod SimulationLemmas
@@ -19,3 +18,5 @@ pub mod FinishLemmas
 pub mod NameLemmas
 pub mod ReferenceLemmas
 pub mod DemoLemmas
+pub mod PrepareLemmas
+pub mod PreparedLemmas

@@ -1,6 +1,6 @@
 -- No two of the files that a command may write have one name.
 use Rattle.std.proofs.Common.{ℕ, List, [], ◌∷◌, arith}
-use Rattle.command_line.specs.Request.{Request, AskCompile, AskRun, AskSim, AskRef, AskReport, AskDemo, Names, files_of}
+use Rattle.command_line.specs.Request.{Request, AskCompile, AskRun, AskSim, AskRef, AskReport, AskPrepare, AskDemo, Names, files_of}
 use Rattle.command_line.specs.Means as words
 use Rattle.command_line.specs.AsksFor.{AsksFor}
 use Rattle.ehdl_top.specs.Steps.{AreDistinct, IsTextApart, NamesApart}
@@ -28,4 +28,5 @@ names_apart words (AskRun names verilog chosen ifindex) asks = (files_apart name
 names_apart words (AskSim names verilog chosen ifindex clocks events) asks = files_apart names asks.meant.gives_run.gives_files.apart
 names_apart words (AskRef names chosen ifindex) asks = files_apart names asks.meant.gives_run.gives_files.apart
 names_apart words (AskReport object chosen) asks = tt
+names_apart words (AskPrepare object output chosen) asks = tt
 names_apart words (AskDemo seed packets) asks = tt

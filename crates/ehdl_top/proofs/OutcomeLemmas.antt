@@ -17,13 +17,14 @@ use Rattle.ehdl_build.specs.declared.built.Built.{Built}
 use Rattle.ehdl_build.specs.Compiled.{size_of, code_of, packets_in, answer_of, IsSequential}
 use Rattle.xdp_object.specs.Choice.{Chosen}
 use Rattle.xdp_object.specs.Object.{IsObject}
-use Rattle.command_line.specs.Request.{Request, AskCompile, AskRun, AskSim, AskRef, AskReport, AskDemo, Names}
+use Rattle.command_line.specs.Request.{Request, AskCompile, AskRun, AskSim, AskRef, AskReport, AskPrepare, AskDemo, Names}
 use Rattle.maps_text.specs.Text.{IsMapsText}
 use Rattle.maps_text.specs.Writing.{text_of}
 use Rattle.maps_text.specs.Laws.{HasOneMeaning}
 use Rattle.capture_run.specs.declared.records.TheConstants.{CAPTURE_LIMIT}
 use Rattle.ehdl_top.specs.declared.limits.TheConstants.{OBJECT_LIMIT, VERILOG_LIMIT, MAPS_LIMIT}
 use Rattle.ehdl_top.specs.declared.error.CommandError.{CommandError}
+use Rattle.ehdl_top.specs.declared.error.CommandError.TheVariants as error
 use Rattle.ehdl_top.specs.declared.object.Accepted.{Accepted}
 use Rattle.ehdl_top.specs.Status.{ended}
 use Rattle.capture_run.specs.States.{ShelfState, Changes}
@@ -36,11 +37,13 @@ use Rattle.ehdl_top.specs.Results.{compile_outputs, result_outputs, run_outputs,
 use Rattle.ehdl_top.specs.Simulation.{Simulation, simulation, final_text, given_up}
 use Rattle.ehdl_top.specs.Report.{report_lines}
 use Rattle.ehdl_top.specs.Outcome.{IsSimulated, IsReported, IsDemo}
+use Rattle.ehdl_top.specs.Preparing.{MayDecline}
 use Rattle.ehdl_top.specs.Ends.{HasBroken, HasStopped}
-use Rattle.ehdl_top.specs.Requests.{inputs_of, outputs_of, IsOutcome, EndsItself}
+use Rattle.ehdl_top.specs.Requests.{inputs_of, outputs_of, IsOutcome, Declines, EndsItself}
 use Rattle.ehdl_top.specs.Steps.{IsRead, AreRead, IsBuiltOf, IsAcceptedBy, AreDistinct, IsTextApart, FailsWrite, WritesAll}
 use Rattle.capture_run.proofs.StateLaws.{tells_later}
-use Rattle.ehdl_top.proofs.ProgramLemmas.{accepted_of}
+use Rattle.prepare_core.proofs.CountingLaws.{accepted_of}
+use Rattle.kind_core.specs.declared.kind.Offsets.TheVariants.{Varying}
 use Rattle.ehdl_top.proofs.InputLemmas.{holds_both, ready_both}
 use Rattle.ehdl_top.proofs.FormLemmas.{one_captured, decls_held}
 use Rattle.capture_run.proofs.WriteLaws.{AreOf, AreBuilt, of_front, some_prefixes, done_from, failed_from, done_changes, failed_changes, failed_rose, done_whole, failed_prefixes}
@@ -91,7 +94,17 @@ outcome_ready (AskRef names chosen ifindex) held end outputs o = (
 )
 outcome_ready (AskReport object chosen) held end outputs o =
     (holds_as OBJECT_LIMIT (held object) _ (program_form chosen accepted).Fits (λ bytes is. (o.3.program, record { object = is; takes = o.3.accepted })) o.3.held_object, tt)
+outcome_ready (AskPrepare object output chosen) held end outputs o =
+    (holds_as OBJECT_LIMIT (held object) _ (object_form chosen).Fits (λ bytes is. (o.1.program, is)) o.1.held_object, tt)
 outcome_ready (AskDemo seed packets) held end outputs o = tt
+
+object_ready : (object : List ℕ) (chosen : Chosen) (held : Holding) (e : CommandError) → MayDecline object chosen held e → IsReady (object_form chosen) (held object)
+object_ready object chosen held (error.Refused r) declines = holds_as OBJECT_LIMIT (held object) _ (object_form chosen).Fits (λ bytes is. (is.program, is.object)) declines
+object_ready object chosen held e declines = absurd declines
+
+pub declined_ready : (request : Request) (held : Holding) (e : CommandError) → Declines request held e → AreReady (inputs_of request held) held
+declined_ready (AskPrepare object output chosen) held e declines = (object_ready object chosen held e declines, tt)
+declined_ready request held e declines = absurd declines
 
 -- ---- one end of a simulation
 same_packets : (held : Option (List ℕ)) (m n : ℕ) (ps qs : List Packet) → Holds CAPTURE_LIMIT held (λ bytes. IsCaptured bytes m ps) → Holds CAPTURE_LIMIT held (λ bytes. IsCaptured bytes n qs) → (n ≡ m) × (qs ≡ ps)
@@ -128,6 +141,7 @@ ends_one (AskRun names verilog chosen ifindex) held end end' outputs outputs' on
 ends_one (AskSim names verilog chosen ifindex clocks events) held end end' outputs outputs' one a b = one_end names verilog chosen ifindex clocks held end end' outputs outputs' one a b
 ends_one (AskRef names chosen ifindex) held end end' outputs outputs' one a b = a.0 ∙ sym b.0
 ends_one (AskReport object chosen) held end end' outputs outputs' one a b = a.0 ∙ sym b.0
+ends_one (AskPrepare object output chosen) held end end' outputs outputs' one a b = a.0 ∙ sym b.0
 ends_one (AskDemo seed packets) held end end' outputs outputs' one a b = a.0 ∙ sym b.0
 
 -- ---- from what was read to what is written
@@ -335,7 +349,7 @@ pub reported_of : (object : List ℕ) (chosen : Chosen) (old : ShelfState) (byte
 reported_of object chosen old bytes a lines read is are told = record {
   program = a.program;
   held_object = record { bytes = bytes; there = read.there told; within = read.within; is = is.taken.object };
-  accepted = accepted_of a.program is.counts.graph a.counts.stages is.counts.unfolded is.counts.varying is.counts.has_stages;
+  accepted = accepted_of Varying a.program is.counts.graph a.counts.stages is.counts.unfolded is.counts.varying is.counts.has_stages;
   lines_are = are ∙ ap (λ n. report_lines a.program n a.counts.stages) is.counts.nodes;
 }
 

@@ -67,7 +67,7 @@ LeftOut (AskSim names verilog chosen ifindex clocks events) rest = Unit {0}
 LeftOut (AskRef names chosen ifindex) rest = (text : List ℕ) × (rest ≡ file_writes names.final_maps text)
 LeftOut request rest = ⊥
 
--- What is lost where an input is not in its form: nothing. Where a read fails: nothing, or what was left to be written. Where a write fails, or
+-- What is lost where an input is not in its form, or is declined: nothing. Where a read fails: nothing, or what was left to be written. Where a write fails, or
 -- a put of the command's lines after all writes. Where memory runs out: nothing, or what was left to be written, or nothing again, for all was.
 abbrev pub Loses : Status → Request → ShelfState → ShelfState → Type 0
 Loses status.WriteFault request old new = HasBroken request old new ⊎ (PutsLines request × HasWritten request None old new)
@@ -112,8 +112,8 @@ pub record SaysWhy (e : CommandError) (result : Status) (old new : SinkState) : 
 
 -- ---- the lines of a command
 -- the lines that these words ask for
-abbrev pub AreLinesOf : List (List ℕ) → ShelfState → List (List ℕ) → Type 0
-AreLinesOf words old lines = (request : Request) → AsksFor words request → AreLines request old lines
+abbrev pub AreLinesOf : List (List ℕ) → ShelfState → ShelfState → List (List ℕ) → Type 0
+AreLinesOf words old new lines = (request : Request) → AsksFor words request → AreLines request old new lines
 
 -- Lines were put, one after the other: the sink has taken them and no more, where it tells.
 abbrev pub ArePut : List (List ℕ) → SinkState → SinkState → Type 0
@@ -128,7 +128,7 @@ pub record AreCutOff (lines : List (List ℕ)) (old new : SinkState) : Type 0 wh
 
 -- The line that says why is the last that was put, and the only one, but where a put of the command's lines failed: it then comes after
 -- a prefix of them.
-pub record SaysLast (words : List (List ℕ)) (shelf : ShelfState) (e : CommandError) (result : Status) (old new : SinkState) : Type 0 where
+pub record SaysLast (words : List (List ℕ)) (shelf left : ShelfState) (e : CommandError) (result : Status) (old new : SinkState) : Type 0 where
   pub before : SinkState
-  pub behind : (before ≡ old) ⊎ ((e ≡ error.WriteFault) × (lines : List (List ℕ)) × AreLinesOf words shelf lines × AreCutOff lines old before)
+  pub behind : (before ≡ old) ⊎ ((e ≡ error.WriteFault) × (lines : List (List ℕ)) × AreLinesOf words shelf left lines × AreCutOff lines old before)
   pub why : SaysWhy e result before new

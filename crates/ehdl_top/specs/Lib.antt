@@ -7,6 +7,8 @@ pub mod Results
 pub mod Report
 pub mod Demo
 pub mod Outcome
+pub mod Preparing
 pub mod Requests
 pub mod Ends
 pub mod Steps
+pub mod PreparedLaws

@@ -20,6 +20,7 @@ use Rattle.port_drive.specs.declared.report.DriveError.{DriveError}
 use Rattle.port_drive.specs.declared.report.DriveError.TheVariants as drive
 use Rattle.xdp_object.specs.xdp_machine.Program.{XdpProgram}
 use Rattle.xdp_object.specs.Choice.{Chosen}
+use Rattle.xdp_object.specs.Object.{IsObject}
 use Rattle.xdp_maps.specs.declared.decl.MapDecl.{MapDecl}
 use Rattle.xdp_maps.specs.Contents.{IsWithinLimits}
 use Rattle.xdp_maps.specs.State.{MapState, opened_state}
@@ -31,11 +32,10 @@ use Rattle.xdp_object.specs.xdp_machine.Program.{IsProgram}
 use Rattle.kind_core.specs.declared.kind.Offsets.TheVariants as offsets
 use Rattle.unfold_core.specs.declared.unfolding.Unfolded.{Unfolded}
 use Rattle.unfold_core.specs.Unfolding.{IsUnfolded}
-use Rattle.xdp_state.specs.declared.refusal.BuildError.{BuildError}
-use Rattle.xdp_state.specs.declared.refusal.BuildError.TheVariants as build
 use Rattle.row_rules.specs.NodeRows.Rows.{HasStages}
-use Rattle.row_rules.specs.NodeRows.Acceptance.{IsFirstRefusal}
-use Rattle.command_line.specs.Request.{Request, AskCompile, AskRun, AskSim, AskRef, AskReport, AskDemo, Names}
+use Rattle.prepare_core.specs.declared.preparing.Prepared.{Prepared}
+use Rattle.prepare_core.specs.Prepared.{IsGivenFor}
+use Rattle.command_line.specs.Request.{Request, AskCompile, AskRun, AskSim, AskRef, AskReport, AskPrepare, AskDemo, Names}
 use Rattle.capture_run.specs.States.{ShelfState, SinkState, Changes, OneRose, IsLaterSink}
 use Rattle.capture_run.specs.Captures.{IsCaptured, HoldsCapture}
 use Rattle.capture_run.specs.Runs.{SomeDone, IsLegal}
@@ -44,18 +44,20 @@ use Rattle.capture_run.specs.declared.records.CaptureError.{CaptureError}
 use Rattle.capture_run.specs.declared.records.CaptureError.TheVariants as capture
 use Rattle.capture_run.specs.declared.error.RunError.{RunError}
 use Rattle.capture_run.specs.declared.error.RunError.TheVariants as runs
-use Rattle.ehdl_top.specs.Forms.{InputForm, IsFaulty, IsTaken, built, accepted, IsTextFault, maps_form}
+use Rattle.ehdl_top.specs.Forms.{InputForm, IsFaulty, IsTaken, IsRefusedBy, built, accepted, IsTextFault, maps_form}
 use Rattle.ehdl_top.specs.Inputs.{FirstStop, OneUnread, EndsAtInput}
 use Rattle.capture_run.specs.Writes.{Write, AreDone, OneFailed, file_writes}
 use Rattle.capture_run.specs.Results.{timed_packets, came_by, streamed_writes, result_writes}
 use Rattle.ehdl_top.specs.Results.{sim_outputs}
 use Rattle.ehdl_top.specs.Simulation.{Simulation, simulation, drive_error, dumped, given_up}
-use Rattle.ehdl_top.specs.Requests.{inputs_of, outputs_of, EndsItself}
+use Rattle.ehdl_top.specs.Requests.{inputs_of, outputs_of, Declines, EndsDeclined, EndsItself}
 use Rattle.ehdl_top.specs.Ends.{HasWritten, HasBroken, HasStopped, LeftUnread, LeftOut, SaysWhy, ArePut, AreCutOff}
 use Rattle.ehdl_top.specs.Status.{ended, status_of}
 use Rattle.ehdl_top.specs.declared.object.Accepted.{Accepted}
 use Rattle.ehdl_top.specs.declared.object.Counts.{Counts}
 use Rattle.ehdl_top.specs.declared.packets.Captured.{Captured}
+use Rattle.ehdl_top.specs.declared.prepare.Reply.{Reply}
+use Rattle.ehdl_top.specs.declared.prepare.Reply.TheVariants as reply
 use Rattle.ehdl_top.specs.declared.status.Status.{Status}
 use Rattle.ehdl_top.specs.declared.status.Status.TheVariants as status
 use Rattle.ehdl_top.specs.declared.error.Line.{Line}
@@ -168,15 +170,22 @@ pub record AreCounts (program : XdpProgram) (counts : Counts) : Type 0 where
   pub nodes : counts.nodes ≡ length graph.nodes.items
   pub has_stages : HasStages program graph.nodes.items graph.edges.items counts.stages
 
--- why nothing is counted: its first refusal, unless memory ran out
-abbrev pub FailsProgram : XdpProgram → BuildError → Type 0
-FailsProgram program (build.Refused r) = IsFirstRefusal offsets.Varying program r
-FailsProgram program build.NoMemory = Unit {0}
-
 -- an object's program that was accepted
 pub record IsAcceptedBy (choice : Chosen) (bytes : List ℕ) (a : Accepted) : Type 0 where
   pub taken : IsTaken choice accepted bytes a.program
   pub counts : AreCounts a.program a.counts
+
+-- ---- what is prepared
+-- an object of a program, and what is given for it
+pub record IsGivenOf (choice : Chosen) (bytes : List ℕ) (prepared : Prepared) : Type 0 where
+  pub program : XdpProgram
+  pub object : IsObject choice bytes program
+  pub given : IsGivenFor choice program bytes prepared
+
+-- the same, or one of a program with this first refusal, for which it is declined
+abbrev pub IsReplyTo : Chosen → List ℕ → Reply → Type 0
+IsReplyTo choice bytes (reply.Given prepared) = IsGivenOf choice bytes prepared
+IsReplyTo choice bytes (reply.Declined r) = IsRefusedBy choice built bytes r
 
 -- ---- outputs
 -- the ends of a drive that is given up
@@ -343,6 +352,7 @@ NamesApart (AskRun names verilog chosen ifindex) = AreDistinct names × IsTextAp
 NamesApart (AskSim names verilog chosen ifindex clocks events) = AreDistinct names
 NamesApart (AskRef names chosen ifindex) = AreDistinct names
 NamesApart (AskReport object chosen) = Unit {0}
+NamesApart (AskPrepare object output chosen) = Unit {0}
 NamesApart (AskDemo seed packets) = Unit {0}
 
 -- a write failed
@@ -355,13 +365,14 @@ pub record WritesAll (request : Request) (end : Option CommandError) (old new : 
   pub can : EndsItself request (ended end)
   pub has : IsTrue old.tells → HasWritten request end old new
 
--- Why a command was given up: a read failed, memory ran out, or an input is not in its form, and nothing was written; a write failed; a read
--- failed, or memory ran out, between two writes; on a shelf that does not tell its content, a capture was another one when it was read
+-- Why a command was given up: a read failed, memory ran out, or an input is not in its form or is declined, and nothing was written; a write
+-- failed; a read failed, or memory ran out, between two writes; on a shelf that does not tell its content, a capture was another one when it was read
 -- again; or all was written, and the drive was given up.
 pub data StopsBy (request : Request) (old new : ShelfState) (e : CommandError) : Type 0 where
   Unread : e ≡ error.ReadFault → OneUnread (inputs_of request old.held) old new → Changes [] old new → StopsBy request old new e
   OutOfMemory : e ≡ error.NoMemory → Changes [] old new → StopsBy request old new e
   AtInput : EndsAtInput (inputs_of request old.held) (status_of e) → (IsTrue old.tells → FirstStop (inputs_of request old.held) old.held e) → Changes [] old new → StopsBy request old new e
+  Declined : EndsDeclined request (status_of e) → (IsTrue old.tells → Declines request old.held e) → Changes [] old new → StopsBy request old new e
   Unwritten : e ≡ error.WriteFault → FailsWrite request old new → StopsBy request old new e
   UnreadLate : e ≡ error.ReadFault → OneUnread (inputs_of request old.held) old new → (IsTrue old.tells → HasStopped request (LeftUnread request) old new) → StopsBy request old new e
   OutLate : e ≡ error.NoMemory → (IsTrue old.tells → Changes [] old new ⊎ HasStopped request (LeftOut request) old new) → StopsBy request old new e

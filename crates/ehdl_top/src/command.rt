@@ -8,7 +8,7 @@ ghost use Rattle.capture_run.specs.States.{state_of, sink_of, Changes, IsLater, 
 ghost use Rattle.ehdl_top.specs.Inputs.{AreReady, FirstStop, OneUnread, names_in};
 ghost use Rattle.capture_run.specs.Writes.{Outputs};
 ghost use Rattle.ehdl_top.specs.Status.{status_of};
-ghost use Rattle.ehdl_top.specs.Requests.{inputs_of, outputs_of, IsOutcome, PutsLines, AreLines, OneUnwritten, IsCause, CanEnd, IsFault};
+ghost use Rattle.ehdl_top.specs.Requests.{inputs_of, outputs_of, IsOutcome, PutsLines, AreLines, OneUnwritten, IsCause, HasDeclined, CanEnd, IsFault};
 ghost use Rattle.ehdl_top.specs.Ends.{AllWritten, ByInputs, EndsAs, IsEarly, Loses, SaysWhy, AreLinesOf, ArePut, AreCutOff, SaysLast};
 ghost use Rattle.ehdl_top.specs.Steps.{EndsIn, AreOneEnd, NamesApart, IsFinished, IsFixed};
 ghost use Rattle.ehdl_top.specs.declared.error.CommandError.{CommandError};
@@ -16,6 +16,7 @@ ghost use Rattle.ehdl_top.specs.declared.error.CommandError.{CommandError};
 use crate::compile::compile_file;
 use crate::demo::run_demo;
 use crate::error::CommandError;
+use crate::prepare::prepare_file;
 use crate::reference::ref_files;
 use crate::report::report_object;
 use crate::run::run_files;
@@ -46,7 +47,7 @@ fn run_command<S: Shelf>(
 ) -> Result<Vec<Bytes>, CommandError>
     requires { NamesApart (request_of command.now) }
     ensures ends { EndsIn (request_of command.now) (state_of S.Shelf shelf.old) (state_of S.Shelf shelf.new) result }
-    ensures lines { IfOk result (λ lines. AreLines (request_of command.now) (state_of S.Shelf shelf.old) lines.items) }
+    ensures lines { IfOk result (λ lines. AreLines (request_of command.now) (state_of S.Shelf shelf.old) (state_of S.Shelf shelf.new) lines.items) }
 {
     match command {
         Command::Compile {
@@ -82,6 +83,11 @@ fn run_command<S: Shelf>(
             ifindex,
         } => without_lines(alloc, ref_files(alloc, shelf, files, *choice, *ifindex)),
         Command::Report { object, choice } => report_object(alloc, shelf, object, *choice),
+        Command::Prepare {
+            object,
+            output,
+            choice,
+        } => prepare_file(alloc, shelf, object, output, *choice),
         Command::Demo { seed, packets } => run_demo(alloc, *seed, *packets),
     }
 }
@@ -93,7 +99,7 @@ fn run_words<S: Shelf>(
     shelf: &mut S,
 ) -> Result<Vec<Bytes>, CommandError>
     ensures ends { (request : Request) → AsksFor words.now request → EndsIn request (state_of S.Shelf shelf.old) (state_of S.Shelf shelf.new) result }
-    ensures lines { IfOk result (λ lines. AreLinesOf words.now (state_of S.Shelf shelf.old) lines.items) }
+    ensures lines { IfOk result (λ lines. AreLinesOf words.now (state_of S.Shelf shelf.old) (state_of S.Shelf shelf.new) lines.items) }
     ensures usage { IsErrOf result CommandError.Usage → (request : Request) → ¬ AsksFor words.now request }
     ensures unread { ((request : Request) → ¬ AsksFor words.now request) → IsErrOf result CommandError.Usage ⊎ IsErrOf result CommandError.NoMemory }
     ensures untouched { IsErrOf result CommandError.Usage → shelf.new ≡ shelf.old }
@@ -159,14 +165,15 @@ fn finish<O: Sink>(alloc: Global, end: Result<Vec<Bytes>, CommandError>, out: &m
 /// the same text, simulates its bytes clock by clock over a capture, and writes what its ports gave. `sim` simulates a Verilog
 /// text that is there, in at most so many clocks of the drive. `ref` runs the object's program over a capture, one instruction after
 /// another. These three start from the maps of a text, if one is named. `report` puts to the sink, line by line, what is counted of the
-/// object's program. `demo` does the same of a run of the program of `flow_demo` over packets that are drawn from a seed, and touches no
+/// object's program. `prepare` writes an object whose program is accepted and has the runs of the object's program, and puts what is counted
+/// of both, or declines it. `demo` does the same of a run of the program of `flow_demo` over packets that are drawn from a seed, and touches no
 /// file. Of every way to end but [`Status::Done`] one line says why, put to the sink.
 pub fn top<S: Shelf, O: Sink>(alloc: Global, words: &Words, shelf: &mut S, out: &mut O) -> Status
     // What is written: a text that realizes the object's program, and what sequential execution on the capture gives; of a text
     // that is given, what the load, its full drive and the dump give. It is written in the command's order.
     ensures outcome { AllWritten result → IsTrue (S.tells shelf.old) → (request : Request) → AsksFor words.now request → EndsAs request result (state_of S.Shelf shelf.old) (state_of S.Shelf shelf.new) }
-    // Where the inputs are there in their forms and no fault comes, all is written, want of memory aside.
-    ensures complete { (request : Request) → AsksFor words.now request → IsTrue (S.tells shelf.old) → AreReady (inputs_of request (S.held shelf.old)) (S.held shelf.old) → ¬ OneRose (names_in (inputs_of request (S.held shelf.old))) (S.read_faults shelf.old) (S.read_faults shelf.new) → ¬ OneUnwritten request (state_of S.Shelf shelf.old) (state_of S.Shelf shelf.new) (sink_of O.Sink out.old) (sink_of O.Sink out.new) → AllWritten result ⊎ (result ≡ Status.NoMemory) }
+    // Where the inputs are there in their forms and no fault comes, all is written, want of memory and an object that is declined aside.
+    ensures complete { (request : Request) → AsksFor words.now request → IsTrue (S.tells shelf.old) → AreReady (inputs_of request (S.held shelf.old)) (S.held shelf.old) → ¬ OneRose (names_in (inputs_of request (S.held shelf.old))) (S.read_faults shelf.old) (S.read_faults shelf.new) → ¬ OneUnwritten request (state_of S.Shelf shelf.old) (state_of S.Shelf shelf.new) (sink_of O.Sink out.old) (sink_of O.Sink out.new) → AllWritten result ⊎ ((result ≡ Status.NoMemory) ⊎ HasDeclined request (S.held shelf.old) result) }
 
     // The causes: exactly where the words ask for nothing, want of memory aside, and then the shelf is as it was, whatever is answered;
     ensures usage { result ≡ Status.Usage → (request : Request) → ¬ AsksFor words.now request }
@@ -189,10 +196,10 @@ pub fn top<S: Shelf, O: Sink>(alloc: Global, words: &Words, shelf: &mut S, out: 
     ensures later { IsLater (state_of S.Shelf shelf.old) (state_of S.Shelf shelf.new) }
 
     // Where all was done the sink has taken the command's lines and no more, of most commands none.
-    ensures put { result ≡ Status.Done → (lines : List (List ℕ)) × AreLinesOf words.now (state_of S.Shelf shelf.old) lines × ArePut lines (sink_of O.Sink out.old) (sink_of O.Sink out.new) }
+    ensures put { result ≡ Status.Done → (lines : List (List ℕ)) × AreLinesOf words.now (state_of S.Shelf shelf.old) (state_of S.Shelf shelf.new) lines × ArePut lines (sink_of O.Sink out.old) (sink_of O.Sink out.new) }
     ensures silent { result ≡ Status.Done → (request : Request) → AsksFor words.now request → ¬ PutsLines request → out.new ≡ out.old }
     // Else a line says why, once, whatever becomes of it: where the inputs are why, it says how.
-    ensures why { result ≢ Status.Done → (e : CommandError) × SaysLast words.now (state_of S.Shelf shelf.old) e result (sink_of O.Sink out.old) (sink_of O.Sink out.new) × (ByInputs result → IsTrue (S.tells shelf.old) → (request : Request) → AsksFor words.now request → IsCause request (S.held shelf.old) e) }
+    ensures why { result ≢ Status.Done → (e : CommandError) × SaysLast words.now (state_of S.Shelf shelf.old) (state_of S.Shelf shelf.new) e result (sink_of O.Sink out.old) (sink_of O.Sink out.new) × (ByInputs result → IsTrue (S.tells shelf.old) → (request : Request) → AsksFor words.now request → IsCause request (S.held shelf.old) e) }
     ensures sink { IsLaterSink (sink_of O.Sink out.old) (sink_of O.Sink out.new) }
 {
     // One text of maps says what a simulation starts from.

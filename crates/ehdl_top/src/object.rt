@@ -5,16 +5,17 @@ ghost use Rattle.xdp_object.specs.Object.{IsObject};
 ghost use Rattle.xdp_object.specs.xdp_machine.Program.{XdpProgram};
 ghost use Rattle.xdp_object.specs.Choice.{chosen_of};
 ghost use Rattle.ehdl_top.specs.Forms.{program_form, built, accepted, object_form};
-ghost use Rattle.ehdl_top.specs.Steps.{IsBuiltOf, IsAcceptedBy, AreCounts, FailsProgram, IsGivenUp};
+ghost use Rattle.prepare_core.specs.Counted.{FailsCounting};
+ghost use Rattle.kind_core.specs.declared.kind.Offsets.TheVariants.{Varying};
+ghost use Rattle.ehdl_top.specs.Steps.{IsBuiltOf, IsAcceptedBy, AreCounts, IsGivenUp};
 
 use crate::error::CommandError;
 use crate::form::Form;
 use crate::limits::OBJECT_LIMIT;
 use ehdl_build::{Built, CompileError, compile};
 use kind_core::Offsets;
-use row_rules::node_rows::{Stages, count_stages};
+use row_rules::node_rows::Stages;
 use std::alloc::Global;
-use unfold_core::unfold;
 use xdp_object::{Choice, ObjectError, Program, read_object};
 use xdp_state::BuildError;
 
@@ -143,13 +144,12 @@ fn accepted_program(alloc: Global, object: &[u8], choice: Choice) -> Result<Acce
 // The nodes of a program's graph and its stages, where offsets into the packet may vary, or its first refusal.
 fn count(alloc: Global, program: &Program) -> Result<Counts, BuildError>
     ensures counts { IfOk result (AreCounts program.now) }
-    ensures refuses { IfErr result (FailsProgram program.now) }
+    ensures refuses { IfErr result (FailsCounting Varying program.now) }
 {
-    let graph = unfold(alloc, program, Offsets::Varying)?;
-    let stages = count_stages(alloc, program, &graph)?;
+    let counted = prepare_core::count(alloc, program, Offsets::Varying)?;
     Ok(Counts {
-        nodes: graph.nodes.len() as u64,
-        stages,
+        nodes: counted.graph.nodes.len() as u64,
+        stages: counted.stages,
     })
 }
 
@@ -164,8 +164,8 @@ fn read_alone(alloc: Global, object: &[u8], choice: Choice) -> Result<Program, C
     }
 }
 
-// The same error, with want of memory apart.
-fn error_of(error: ObjectError) -> CommandError
+/// The same error, with want of memory apart.
+pub(crate) fn error_of(error: ObjectError) -> CommandError
     ensures { ((error ≡ ObjectError.NoMemory) × (result ≡ CommandError.NoMemory)) ⊎ ((error ≢ ObjectError.NoMemory) × (result ≡ CommandError.Object error)) }
 {
     match error {

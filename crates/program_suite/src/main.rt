@@ -54,6 +54,9 @@
 //!     packets [BYTES]                 nodes, stages and records by its graph (`node_rows`), or the first refusal; what the packets leave,
 //!                                     a line `INDEX VERDICT TARGET LENGTH` each, with the bytes that change after their places; and the
 //!                                     text of the final maps
+//!     prepare [BYTES]                 of a program that is found for it and covers it (`cover_search`, `cover_core`): its units, at how many of
+//!                                     them the next place would do as well for an origin, and the same, where its packets leave what
+//!                                     those of the program do from empty maps; or `none`
 //!     pipe NUMBER|- [BYTES]           the same from empty maps; then for each of three ways to drive a pipe of its cells (`pipe_core`)
 //!                                     whether it gives the same: a beat is offered and taken in every clock, offered in every third, or
 //!                                     taken in every second. In the first way it is to be done in so many clocks, and then it says whether
@@ -65,6 +68,7 @@ mod graph;
 mod objects;
 mod packets;
 mod pipes;
+mod prepared;
 mod runs;
 mod suite;
 mod units;

@@ -4,7 +4,7 @@ use crate::cases::bytes::Named;
 use crate::cases::code::Code;
 use crate::cases::numbers::{front, number, number_32};
 use crate::cases::tables::{Tables, push_maps};
-use crate::{graph, objects, packets, pipes, runs, units};
+use crate::{graph, objects, packets, pipes, prepared, runs, units};
 use anyhow::{Result, bail, ensure};
 use row_plan::cell_core::program::PacketIn;
 use row_plan::cell_core::xdp_state::beat_core::{FRAME_LIMIT, Frame, Meta};
@@ -137,6 +137,7 @@ impl Suite {
             "packets" => {
                 packets::answer(alloc, &program, &mut self.tables.maps, &self.packets, out)
             }
+            "prepare" => prepared::answer(alloc, &program, &self.packets, out),
             "pipe" if most == "-" => pipes::answer(alloc, &program, &self.packets, None, out),
             "pipe" => {
                 let most = Some(number(most)?);

@@ -18,7 +18,7 @@ returns-in-Ok-clause-ends g c = λ request asks.
     subst P (c.read_words.ensures.once _ request c.in-Ok.ensures.ok asks) c.run_command.ensures.ends
 
 pub returns-in-Ok-clause-lines : goal.returns-in-Ok-clause-lines
-returns-in-Ok-clause-lines g c = lines_asked c.args.words.now (state_of g.S.Shelf c.args.shelf.now) (request_of c.in-Ok.command) c.run_command.result
+returns-in-Ok-clause-lines g c = lines_asked c.args.words.now (state_of g.S.Shelf c.args.shelf.now) (state_of g.S.Shelf c.run_command.new.shelf) (request_of c.in-Ok.command) c.run_command.result
     (λ request asks. c.read_words.ensures.once _ request c.in-Ok.ensures.ok asks) c.run_command.ensures.lines
 
 pub returns-in-Ok-clause-usage : goal.returns-in-Ok-clause-usage

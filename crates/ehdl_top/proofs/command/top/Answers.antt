@@ -6,42 +6,42 @@ use Rattle.ehdl_top.proofs.command.top.Goals as goal
 pub returns-clause-outcome : goal.returns-clause-outcome
 returns-clause-outcome g c = λ all told request asks.
     ended_outcome request (state_of g.S.Shelf c.args.shelf.now) (state_of g.S.Shelf c.run_words-end.new.shelf) (sink_of g.O.Sink c.args.out.now) (sink_of g.O.Sink c.finish.new.out) c.finish.result
-    (finished_ended request (state_of g.S.Shelf c.args.shelf.now) (state_of g.S.Shelf c.run_words-end.new.shelf) (sink_of g.O.Sink c.args.out.now) (sink_of g.O.Sink c.finish.new.out) c.finish.result c.run_words-end.result (c.run_words-end.ensures.ends request asks) (lines_of c.args.words.now (state_of g.S.Shelf c.args.shelf.now) c.run_words-end.result request asks c.run_words-end.ensures.lines) c.finish.ensures.finished) all told
+    (finished_ended request (state_of g.S.Shelf c.args.shelf.now) (state_of g.S.Shelf c.run_words-end.new.shelf) (sink_of g.O.Sink c.args.out.now) (sink_of g.O.Sink c.finish.new.out) c.finish.result c.run_words-end.result (c.run_words-end.ensures.ends request asks) (lines_of c.args.words.now (state_of g.S.Shelf c.args.shelf.now) (state_of g.S.Shelf c.run_words-end.new.shelf) c.run_words-end.result request asks c.run_words-end.ensures.lines) c.finish.ensures.finished) all told
 
 pub returns-clause-complete : goal.returns-clause-complete
 returns-clause-complete g c = λ request asks told ready quiet calm.
     ended_complete request (state_of g.S.Shelf c.args.shelf.now) (state_of g.S.Shelf c.run_words-end.new.shelf) (sink_of g.O.Sink c.args.out.now) (sink_of g.O.Sink c.finish.new.out) c.finish.result
-    (finished_ended request (state_of g.S.Shelf c.args.shelf.now) (state_of g.S.Shelf c.run_words-end.new.shelf) (sink_of g.O.Sink c.args.out.now) (sink_of g.O.Sink c.finish.new.out) c.finish.result c.run_words-end.result (c.run_words-end.ensures.ends request asks) (lines_of c.args.words.now (state_of g.S.Shelf c.args.shelf.now) c.run_words-end.result request asks c.run_words-end.ensures.lines) c.finish.ensures.finished) told ready quiet calm
+    (finished_ended request (state_of g.S.Shelf c.args.shelf.now) (state_of g.S.Shelf c.run_words-end.new.shelf) (sink_of g.O.Sink c.args.out.now) (sink_of g.O.Sink c.finish.new.out) c.finish.result c.run_words-end.result (c.run_words-end.ensures.ends request asks) (lines_of c.args.words.now (state_of g.S.Shelf c.args.shelf.now) (state_of g.S.Shelf c.run_words-end.new.shelf) c.run_words-end.result request asks c.run_words-end.ensures.lines) c.finish.ensures.finished) told ready quiet calm
 
 pub returns-clause-inputs : goal.returns-clause-inputs
 returns-clause-inputs g c = λ request asks told e stop.
     ended_inputs request (state_of g.S.Shelf c.args.shelf.now) (state_of g.S.Shelf c.run_words-end.new.shelf) (sink_of g.O.Sink c.args.out.now) (sink_of g.O.Sink c.finish.new.out) c.finish.result
-    (finished_ended request (state_of g.S.Shelf c.args.shelf.now) (state_of g.S.Shelf c.run_words-end.new.shelf) (sink_of g.O.Sink c.args.out.now) (sink_of g.O.Sink c.finish.new.out) c.finish.result c.run_words-end.result (c.run_words-end.ensures.ends request asks) (lines_of c.args.words.now (state_of g.S.Shelf c.args.shelf.now) c.run_words-end.result request asks c.run_words-end.ensures.lines) c.finish.ensures.finished) told e stop
+    (finished_ended request (state_of g.S.Shelf c.args.shelf.now) (state_of g.S.Shelf c.run_words-end.new.shelf) (sink_of g.O.Sink c.args.out.now) (sink_of g.O.Sink c.finish.new.out) c.finish.result c.run_words-end.result (c.run_words-end.ensures.ends request asks) (lines_of c.args.words.now (state_of g.S.Shelf c.args.shelf.now) (state_of g.S.Shelf c.run_words-end.new.shelf) c.run_words-end.result request asks c.run_words-end.ensures.lines) c.finish.ensures.finished) told e stop
 
 pub returns-clause-driven : goal.returns-clause-driven
 returns-clause-driven g c = λ request asks told e outputs outcome.
     ended_driven request (state_of g.S.Shelf c.args.shelf.now) (state_of g.S.Shelf c.run_words-end.new.shelf) (sink_of g.O.Sink c.args.out.now) (sink_of g.O.Sink c.finish.new.out) c.finish.result c.has_one_meaning.ensures
-    (finished_ended request (state_of g.S.Shelf c.args.shelf.now) (state_of g.S.Shelf c.run_words-end.new.shelf) (sink_of g.O.Sink c.args.out.now) (sink_of g.O.Sink c.finish.new.out) c.finish.result c.run_words-end.result (c.run_words-end.ensures.ends request asks) (lines_of c.args.words.now (state_of g.S.Shelf c.args.shelf.now) c.run_words-end.result request asks c.run_words-end.ensures.lines) c.finish.ensures.finished) told e outputs outcome
+    (finished_ended request (state_of g.S.Shelf c.args.shelf.now) (state_of g.S.Shelf c.run_words-end.new.shelf) (sink_of g.O.Sink c.args.out.now) (sink_of g.O.Sink c.finish.new.out) c.finish.result c.run_words-end.result (c.run_words-end.ensures.ends request asks) (lines_of c.args.words.now (state_of g.S.Shelf c.args.shelf.now) (state_of g.S.Shelf c.run_words-end.new.shelf) c.run_words-end.result request asks c.run_words-end.ensures.lines) c.finish.ensures.finished) told e outputs outcome
 
 pub returns-clause-read_fault : goal.returns-clause-read_fault
 returns-clause-read_fault g c = λ is request asks.
     ended_read request (state_of g.S.Shelf c.args.shelf.now) (state_of g.S.Shelf c.run_words-end.new.shelf) (sink_of g.O.Sink c.args.out.now) (sink_of g.O.Sink c.finish.new.out) c.finish.result
-    (finished_ended request (state_of g.S.Shelf c.args.shelf.now) (state_of g.S.Shelf c.run_words-end.new.shelf) (sink_of g.O.Sink c.args.out.now) (sink_of g.O.Sink c.finish.new.out) c.finish.result c.run_words-end.result (c.run_words-end.ensures.ends request asks) (lines_of c.args.words.now (state_of g.S.Shelf c.args.shelf.now) c.run_words-end.result request asks c.run_words-end.ensures.lines) c.finish.ensures.finished) is
+    (finished_ended request (state_of g.S.Shelf c.args.shelf.now) (state_of g.S.Shelf c.run_words-end.new.shelf) (sink_of g.O.Sink c.args.out.now) (sink_of g.O.Sink c.finish.new.out) c.finish.result c.run_words-end.result (c.run_words-end.ensures.ends request asks) (lines_of c.args.words.now (state_of g.S.Shelf c.args.shelf.now) (state_of g.S.Shelf c.run_words-end.new.shelf) c.run_words-end.result request asks c.run_words-end.ensures.lines) c.finish.ensures.finished) is
 
 pub returns-clause-write_fault : goal.returns-clause-write_fault
 returns-clause-write_fault g c = λ is request asks.
     ended_write request (state_of g.S.Shelf c.args.shelf.now) (state_of g.S.Shelf c.run_words-end.new.shelf) (sink_of g.O.Sink c.args.out.now) (sink_of g.O.Sink c.finish.new.out) c.finish.result
-    (finished_ended request (state_of g.S.Shelf c.args.shelf.now) (state_of g.S.Shelf c.run_words-end.new.shelf) (sink_of g.O.Sink c.args.out.now) (sink_of g.O.Sink c.finish.new.out) c.finish.result c.run_words-end.result (c.run_words-end.ensures.ends request asks) (lines_of c.args.words.now (state_of g.S.Shelf c.args.shelf.now) c.run_words-end.result request asks c.run_words-end.ensures.lines) c.finish.ensures.finished) is
+    (finished_ended request (state_of g.S.Shelf c.args.shelf.now) (state_of g.S.Shelf c.run_words-end.new.shelf) (sink_of g.O.Sink c.args.out.now) (sink_of g.O.Sink c.finish.new.out) c.finish.result c.run_words-end.result (c.run_words-end.ensures.ends request asks) (lines_of c.args.words.now (state_of g.S.Shelf c.args.shelf.now) (state_of g.S.Shelf c.run_words-end.new.shelf) c.run_words-end.result request asks c.run_words-end.ensures.lines) c.finish.ensures.finished) is
 
 pub returns-clause-never : goal.returns-clause-never
 returns-clause-never g c = λ request asks.
     ended_can request (state_of g.S.Shelf c.args.shelf.now) (state_of g.S.Shelf c.run_words-end.new.shelf) (sink_of g.O.Sink c.args.out.now) (sink_of g.O.Sink c.finish.new.out) c.finish.result
-    (finished_ended request (state_of g.S.Shelf c.args.shelf.now) (state_of g.S.Shelf c.run_words-end.new.shelf) (sink_of g.O.Sink c.args.out.now) (sink_of g.O.Sink c.finish.new.out) c.finish.result c.run_words-end.result (c.run_words-end.ensures.ends request asks) (lines_of c.args.words.now (state_of g.S.Shelf c.args.shelf.now) c.run_words-end.result request asks c.run_words-end.ensures.lines) c.finish.ensures.finished)
+    (finished_ended request (state_of g.S.Shelf c.args.shelf.now) (state_of g.S.Shelf c.run_words-end.new.shelf) (sink_of g.O.Sink c.args.out.now) (sink_of g.O.Sink c.finish.new.out) c.finish.result c.run_words-end.result (c.run_words-end.ensures.ends request asks) (lines_of c.args.words.now (state_of g.S.Shelf c.args.shelf.now) (state_of g.S.Shelf c.run_words-end.new.shelf) c.run_words-end.result request asks c.run_words-end.ensures.lines) c.finish.ensures.finished)
 
 pub returns-clause-broken : goal.returns-clause-broken
 returns-clause-broken g c = λ told request asks.
     ended_loses request (state_of g.S.Shelf c.args.shelf.now) (state_of g.S.Shelf c.run_words-end.new.shelf) (sink_of g.O.Sink c.args.out.now) (sink_of g.O.Sink c.finish.new.out) c.finish.result
-    (finished_ended request (state_of g.S.Shelf c.args.shelf.now) (state_of g.S.Shelf c.run_words-end.new.shelf) (sink_of g.O.Sink c.args.out.now) (sink_of g.O.Sink c.finish.new.out) c.finish.result c.run_words-end.result (c.run_words-end.ensures.ends request asks) (lines_of c.args.words.now (state_of g.S.Shelf c.args.shelf.now) c.run_words-end.result request asks c.run_words-end.ensures.lines) c.finish.ensures.finished) told
+    (finished_ended request (state_of g.S.Shelf c.args.shelf.now) (state_of g.S.Shelf c.run_words-end.new.shelf) (sink_of g.O.Sink c.args.out.now) (sink_of g.O.Sink c.finish.new.out) c.finish.result c.run_words-end.result (c.run_words-end.ensures.ends request asks) (lines_of c.args.words.now (state_of g.S.Shelf c.args.shelf.now) (state_of g.S.Shelf c.run_words-end.new.shelf) c.run_words-end.result request asks c.run_words-end.ensures.lines) c.finish.ensures.finished) told
 
 pub returns-clause-usage : goal.returns-clause-usage
 returns-clause-usage g c = finished_usage c.args.words.now (state_of g.S.Shelf c.args.shelf.now) (state_of g.S.Shelf c.run_words-end.new.shelf) (sink_of g.O.Sink c.args.out.now) (sink_of g.O.Sink c.finish.new.out) c.finish.result c.run_words-end.result _ c.run_words-end.ensures.usage c.finish.ensures.finished
