@@ -24,7 +24,7 @@ use Rattle.net_core.specs.Trace.{stored_after}
 use Rattle.realization.specs.HostHistory.Host.{load}
 use Rattle.realization.specs.Realizes.{IsPacket, Meets}
 use Rattle.realization.proofs.MeetsLaws.{meets_more}
-use Rattle.ehdl_build.specs.Compiled.{PipelineSize, IsSequential, DoNotConflict, AreMapsOf, Realizes, code_of, packets_in, size_of}
+use Rattle.ehdl_build.specs.Compiled.{PipelineSize, IsSequential, Touch, DoNotConflict, AreMapsOf, Realizes, code_of, packets_in, size_of}
 use Rattle.prepare_core.specs.cover_core.Laws.{HasSameRun, HaveSameRuns}
 use Rattle.ehdl_top.specs.PreparedLaws.{PreparedObjectsCompile}
 
@@ -90,14 +90,33 @@ module _ (a b : XdpProgram) (program : IsProgram b) (decls : b.decls ≡ a.decls
   same_apart : (maps : MapState) (stages : ℕ) → AreMapsOf a maps → (packets : List Arrival) (ts : List Touched) → AreApart maps stages packets ts → DoNotConflict b maps stages packets ts
   same_apart maps stages are packets ts h = record { touch = same_touches maps packets ts are.sound are.declared h.0 h.1.touch; apart = h.1.apart }
 
-  met : (d : Netlist) (s : Stored) (maps : MapState) (z : PipelineSize) → AreMapsOf a maps → Meets d s (IsSequential b maps) (DoNotConflict b maps z.stages) z.stages z.records → Meets d s (IsSequential a maps) (DoNotConflict a maps z.stages) z.stages z.records
+  -- what packets touch by a
+  abbrev AreTouched : MapState → List Arrival → List Touched → Type 0
+  AreTouched maps packets ts = AllByRecursion IsPacket packets × Touch a maps packets ts
+
+  same_touched : (maps : MapState) → AreMapsOf a maps → (packets : List Arrival) (ts : List Touched) → AreTouched maps packets ts → Touch b maps packets ts
+  same_touched maps are packets ts h = same_touches maps packets ts are.sound are.declared h.0 h.1
+
+  met : (d : Netlist) (s : Stored) (maps : MapState) (z : PipelineSize) → AreMapsOf a maps → Meets d s (IsSequential b maps) (Touch b maps) (DoNotConflict b maps z.stages) z.stages z.records → Meets d s (IsSequential a maps) (Touch a maps) (DoNotConflict a maps z.stages) z.stages z.records
   met d s maps z are m =
-      let more = meets_more d s (IsSequential b maps) (IsSequential a maps) (DoNotConflict b maps z.stages) (AreApart maps z.stages) z.stages z.stages z.records z.records
-          (same_sequence maps are) (same_apart maps z.stages are) (omega arith) (omega arith) m in
+      let more = meets_more d s (IsSequential b maps) (IsSequential a maps) (Touch b maps) (AreTouched maps) (DoNotConflict b maps z.stages) (AreApart maps z.stages) z.stages z.stages z.records z.records
+          (same_sequence maps are) (same_touched maps are) (same_apart maps z.stages are) (omega arith) (omega arith) m in
+      let line = more.at_line_rate in
       record {
         safe = more.safe;
         complete = more.complete;
         complete_apart = λ packets limit ts come apart enough. more.complete_apart packets limit ts come (come, apart) enough;
+        at_line_rate = record {
+          last = line.last;
+          within = line.within;
+          commit = line.commit;
+          before = line.before;
+          goes_on = line.goes_on;
+          drives = λ is packets left limit late ts amid touch follow enough. line.drives is packets left limit late ts amid (amid.are, touch) follow enough;
+          waits = λ is packets left limit late k ts amid touch follow few enough. line.waits is packets left limit late k ts amid (amid.are, touch) follow few enough;
+          follow = λ packets limit late ts come apart follow enough. line.follow packets limit late ts come (come, apart) follow enough;
+          equal = λ packets limit beats ts come apart alike enough. line.equal packets limit beats ts come (come, apart) alike enough;
+        };
         late = more.late;
       }
 
