@@ -1,5 +1,5 @@
 -- A machine that kinds describe comes from a place to where it settles, unchanged but for its place.
-use Rattle.std.proofs.Common.{◌≡◌, ℕ, zero, suc, ℤ, pos, negsuc, ◌+◌, ◌+ℤ◌, Bool, true, false, List, Option, Some, None, refl, sym, ◌∙◌, ap, subst}
+use Rattle.std.proofs.Common.{◌≡◌, ℕ, zero, suc, ℤ, pos, negsuc, ◌+◌, ◌+ℤ◌, Bool, true, false, List, Option, Some, None, refl, sym, ◌∙◌, ap, subst, arith}
 use Rattle.std.specs.Prelude.{is_some, if◌then◌else◌}
 use Rattle.xdp_machine.specs.bpf_isa.declared.operation.Width.TheVariants.{Bits32, Bits64}
 use Rattle.xdp_machine.specs.bpf_isa.declared.operation.Op.{Op}
@@ -32,9 +32,12 @@ pub one_more : (code : Code) (m next : Machine) (e : Leaves) (t : Touched) → s
 unfolding run touched
 one_more code m next e t s r = (suc r.0, ap (then_on (run code r.0) m) s ∙ r.1, ap (and_then (touched_at code m) (touched code r.0)) s ∙ ap (both (touched_at code m)) r.2)
 
+nothing_more : (t : Touched) → both nothing t ≡ t
+nothing_more t = let none : 0 + t.writing ≡ t.writing = omega arith in ap (λ (n : ℕ). record { reads = t.reads; writes = t.writes; writing = n }) none
+
 -- the same of a step that touches nothing
 pub one_silent : (code : Code) (m next : Machine) (e : Leaves) (t : Touched) → step code m ≡ Goes next → touched_at code m ≡ nothing → RunsTo code next e t → RunsTo code m e t
-one_silent code m next e t s none r = subst (RunsTo code m e) (ap (λ (x : Touched). both x t) none) (one_more code m next e t s r)
+one_silent code m next e t s none r = subst (RunsTo code m e) (ap (λ (x : Touched). both x t) none ∙ nothing_more t) (one_more code m next e t s r)
 
 -- an instruction that is no operation on a map
 pub untouched : (code : Code) (m : Machine) (i : Insn) (op : Op) → insn_at code.insns m.place ≡ Some i → i.op ≡ op → operation_as m i op ≡ None → touched_at code m ≡ nothing

@@ -24,12 +24,12 @@ use Rattle.cover_core.proofs.Twins.{same_op, same_insn}
 -- ---- what idles
 
 pub jump_silent : (m : Machine) (i : Insn) (op : Op) → IsTrue (is_plain_jump op) → operation_as m i op ≡ None
-jump_silent m i (Ja w) yes = refl
-jump_silent m i op yes = absurd (yes)
+jump_silent m i (Ja w) is = refl
+jump_silent m i op is = absurd (cc)
 
 pub move_silent : (m : Machine) (i : Insn) (op : Op) → IsTrue (is_constant_move op) → operation_as m i op ≡ None
-move_silent m i (Alu w c s) yes = refl
-move_silent m i op yes = absurd (yes)
+move_silent m i (Alu w c s) is = refl
+move_silent m i op is = absurd (cc)
 
 -- ---- the same instruction
 
