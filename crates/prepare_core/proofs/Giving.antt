@@ -1,5 +1,7 @@
 -- What is given for an object: itself, or what is found.
-use Rattle.std.proofs.Common.{◌≡◌, ℕ, List, length, refl, sym, ap, subst, ◌∙◌, arith, inl, inr, ◌⊎◌}
+use Rattle.std.specs.declared.vec.Vec.{Vec}
+use Rattle.std.specs.declared.alloc.Global.{Global}
+use Rattle.std.proofs.Common.{◌≡◌, ℕ, List, length, Option, Some, IfSome, refl, sym, ap, subst, ◌∙◌, arith, inl, inr, ◌⊎◌}
 use Rattle.xdp_machine.specs.xdp_maps.State.{MapState}
 use Rattle.xdp_machine.specs.State.{PacketIn, start}
 use Rattle.xdp_machine.specs.Ranges.{IsInRange}
@@ -19,14 +21,33 @@ use Rattle.row_rules.specs.NodeRows.Acceptance.{IsAccepted, IsFirstRefusal}
 use Rattle.row_rules.proofs.NodeRows.OneOutcomeLaws.{has_one_outcome}
 use Rattle.cover_core.specs.Laws.{HasSameRun, HaveSameRuns}
 use Rattle.prepare_core.specs.declared.counting.Counted.{Counted}
+use Rattle.prepare_core.specs.declared.preparing.Counts.{Counts}
 use Rattle.prepare_core.specs.declared.preparing.Prepared.{Prepared}
 use Rattle.prepare_core.specs.Counted.{IsCounted, FailsCounting}
-use Rattle.prepare_core.specs.Prepared.{IsPrepared, Prepares, IsGivenFor}
-use Rattle.prepare_core.specs.Steps.{IsAcceptedCover, IsItself}
+use Rattle.prepare_core.specs.Prepared.{Prepares, IsGivenFor, counts_of}
+use Rattle.prepare_core.specs.Steps.{IsAcceptedCover, ArePrepared, IsItself}
 use Rattle.prepare_core.proofs.CountingLaws.{accepted_of}
 
 pub cover_of : (a b : XdpProgram) (c : Counted) → IsCounted Fixed b c → b.decls ≡ a.decls → HaveSameRuns a b → IsAcceptedCover a b c.stages
 cover_of a b c is decls runs = record { accepted = accepted_of Fixed b c.graph c.stages is.unfolded is.same is.stages; stages_are = refl; decls = decls; runs = runs }
+
+-- what is so of what is there, if anything is
+pub in_some : {A : Type 0} (P : A → Type 0) (o : Option A) (x : A) → o ≡ Some x → IfSome o P → P x
+in_some {A} P o x is h = let Q : Option A → Type 0 = λ p. IfSome p P in subst Q is h
+
+-- an object of b, with what is counted of it
+pub prepared_of : (choice : Chosen) (a b : XdpProgram) (bytes : List ℕ) (s : Stages) (c : Counts) → IsObject choice bytes b → IsProgram b → IsAcceptedCover a b s → c ≡ counts_of a b s → ArePrepared choice a bytes c
+prepared_of choice a b bytes s c object program cover are = record {
+  program = b;
+  is = record { object = object; is_program = program; accepted = cover.accepted; decls = cover.decls; runs = cover.runs };
+  counts_are = are ∙ ap (counts_of a b) cover.stages_are;
+}
+
+pub prepares_of : (choice : Chosen) (a : XdpProgram) (object : Vec ℕ Global) (c : Counts) (bytes : List ℕ) → bytes ≡ object.items → ArePrepared choice a bytes c → Prepares choice a (record { object = object; counts = c })
+prepares_of choice a object c bytes same are =
+    let P : List ℕ → Type 0 = λ bs. ArePrepared choice a bs c in
+    let is = subst P same are in
+    record { program = is.program; is = is.is; counts = is.counts_are }
 
 -- each packet has a run of a program that unfolds
 own_runs : RunsAreSound → (a : XdpProgram) (u : Unfolded) → IsProgram a → IsUnfolded a u → HaveSameRuns a a

@@ -2,6 +2,7 @@
 
 ghost use Rattle.std.specs.Prelude.{◌≡◌, ◌⊎◌, IfErr, IfOk, IfSome};
 ghost use Rattle.xdp_machine.specs.bpf_isa.Text.{unit_count};
+ghost use Rattle.xdp_machine.specs.Program.{IsProgram};
 ghost use Rattle.xdp_object.specs.Choice.{chosen_of};
 ghost use Rattle.xdp_object.specs.Object.{IsObject};
 ghost use Rattle.prepare_core.specs.Counted.{IsCounted, FailsCounting};
@@ -37,8 +38,11 @@ pub struct Prepared {
 
 // The units of a program.
 fn slots(alloc: Global, program: &Program) -> Result<u64, AllocError>
-    ensures { IfOk result (λ slots. slots ≡ unit_count program.now.insns) }
+    ensures slots { IfOk result (λ slots. slots ≡ unit_count program.now.insns) }
+    // It is one, as its instructions say.
+    ensures program { IsProgram program.now }
 {
+    let _insns = program.insns();
     Ok(places(alloc, program)?.len() as u64)
 }
 
@@ -109,7 +113,8 @@ fn found(alloc: Global, a: &Program, choice: Choice) -> Result<Option<Prepared>,
 
 // The object of an accepted program itself.
 fn itself(alloc: Global, a: &Program, object: &[u8], stages: Stages) -> Result<Prepared, AllocError>
-    ensures { IfOk result (IsItself a.now object.now stages) }
+    ensures itself { IfOk result (IsItself a.now object.now stages) }
+    ensures program { IsProgram a.now }
 {
     let slots = slots(alloc, a)?;
     let object = Vec::from_slice(alloc, object)?;
@@ -149,7 +154,7 @@ pub fn prepare(
     object: &[u8],
     choice: Choice,
 ) -> Result<Prepared, BuildError>
-    requires { IsObject (chosen_of choice.entry) object.now a.now }
+    requires { IsObject (chosen_of choice) object.now a.now }
     ensures given { IfOk result (IsGivenFor (chosen_of choice.entry) a.now object.now) }
     ensures fails { IfErr result (FailsCounting Offsets.Fixed a.now) }
 {
