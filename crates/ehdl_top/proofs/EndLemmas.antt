@@ -81,7 +81,7 @@ module _ (request : Request) (old mid new : ShelfState) (e : CommandError) (kept
 
 -- ---- what is written
 -- a write failed
-pub ends_unwritten : (request : Request) (end : Option CommandError) (old mid new : ShelfState) (ws : List Write) (r : Result (Unit {0}) CommandError) → IsErrAnd r (λ e. e ≡ error.WriteFault) → AreOf (outputs_of request) ws → Changes [] old mid
+pub ends_unwritten : {T : Type 0} (request : Request) (end : Option CommandError) (old mid new : ShelfState) (ws : List Write) (r : Result T CommandError) → IsErrAnd r (λ e. e ≡ error.WriteFault) → AreOf (outputs_of request) ws → Changes [] old mid
     → (IsTrue old.tells → Makes request old.held end ws) → OneFailed ws mid new → EndsIn request old new r
 ends_unwritten request end old mid new ws (Ok u) is of same makes failed = absurd is
 ends_unwritten request end old mid new ws (Err e) is of same makes failed = record {

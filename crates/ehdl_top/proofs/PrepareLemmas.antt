@@ -1,5 +1,5 @@
 -- What is prepared of an object that was read: what it makes, the lines that are put, and the refusal for which it is declined.
-use Rattle.std.proofs.Common.{◌≡◌, ℕ, IsTrue, List, ◌∷◌, Some, None, refl, sym, ap, ◌∙◌, inl}
+use Rattle.std.proofs.Common.{◌≡◌, ℕ, IsTrue, List, [], ◌∷◌, Some, None, refl, sym, ap, ◌∙◌, inl}
 use Rattle.xdp_object.specs.Choice.{Chosen}
 use Rattle.xdp_state.specs.declared.refusal.Refusal.{Refusal}
 use Rattle.command_line.specs.Request.{AskPrepare}

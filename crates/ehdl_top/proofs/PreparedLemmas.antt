@@ -100,7 +100,7 @@ module _ (a b : XdpProgram) (program : IsProgram b) (decls : b.decls ≡ a.decls
   met : (d : Netlist) (s : Stored) (maps : MapState) (z : PipelineSize) → AreMapsOf a maps → Meets d s (IsSequential b maps) (Touch b maps) (DoNotConflict b maps z.stages) z.stages z.records → Meets d s (IsSequential a maps) (Touch a maps) (DoNotConflict a maps z.stages) z.stages z.records
   met d s maps z are m =
       let more = meets_more d s (IsSequential b maps) (IsSequential a maps) (Touch b maps) (AreTouched maps) (DoNotConflict b maps z.stages) (AreApart maps z.stages) z.stages z.stages z.records z.records
-          (same_sequence maps are) (same_touched maps are) (same_apart maps z.stages are) (omega arith) (omega arith) m in
+      (same_sequence maps are) (same_touched maps are) (same_apart maps z.stages are) (omega arith) (omega arith) m in
       let line = more.at_line_rate in
       record {
         safe = more.safe;

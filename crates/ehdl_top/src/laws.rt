@@ -3,7 +3,6 @@
 ghost use Rattle.ehdl_top.specs.PreparedLaws.{PreparedObjectsCompile};
 
 /// What `prepare` writes compiles, and the text realizes the program that it was prepared from, though that is refused.
-#[tactic(auto, using(crate::proofs::PreparedLemmas::prepared_objects_compile))]
 pub fn prepared_objects_compile()
     ensures { PreparedObjectsCompile }
 {}
